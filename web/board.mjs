@@ -7,11 +7,14 @@ const REFUSED = 1, NO_MEMORY = 4, NO_LAB = 5;
 const ROOM = 1 << 16;
 const PIECE = 100000; // the most steps of the first call
 
-export const decode = (bytes) => new TextDecoder().decode(bytes);
+export const decode = (/** @type {Uint8Array} */ bytes) => new TextDecoder().decode(bytes);
+
+/** @typedef {(handle: bigint, from: bigint, room: bigint, count: bigint) => bigint} Reader */
 
 export class Board {
+    /** @param {WebAssembly.Module} module */
     constructor(module) {
-        this.exports = new WebAssembly.Instance(module).exports;
+        this.exports = /** @type {Record<string, any>} */ (new WebAssembly.Instance(module).exports);
         this.piece = PIECE; // the most steps of a call of a command
         this.handle = this.exports.page_room(16n);
         this.room = this.exports.page_room(BigInt(ROOM));
@@ -19,12 +22,20 @@ export class Board {
         if (!this.exports.page_new(this.handle)) throw new Error("out of memory");
     }
 
-    // The memory of the instance, which moves when it grows.
+    /**
+     * The memory of the instance, which moves when it grows.
+     * @param {bigint} place
+     * @param {number} count
+     */
     bytes(place, count) {
         return new Uint8Array(this.exports.memory.buffer, Number(place), count);
     }
 
-    // Calls with the place and the length of each text, which lies in the memory meanwhile.
+    /**
+     * Calls with the place and the length of each text, which lies in the memory meanwhile.
+     * @param {Uint8Array[]} texts
+     * @param {(...words: bigint[]) => number} call
+     */
     withTexts(texts, call) {
         const places = texts.map((text) => {
             const place = this.exports.page_room(BigInt(text.length));
@@ -36,7 +47,10 @@ export class Board {
         return code;
     }
 
-    // All that a reader has from a place on.
+    /**
+     * All that a reader has from a place on.
+     * @param {Reader} reader
+     */
     read(reader, from = 0) {
         const pieces = [];
         let count;
@@ -48,12 +62,12 @@ export class Board {
         return joinBytes(pieces);
     }
 
-    // The text of the last answer.
+    /** The text of the last answer. */
     text() {
         return this.read(this.exports.page_text);
     }
 
-    // What the console got from a place on.
+    /** What the console got from a place on. */
     console(from = 0) {
         return this.read(this.exports.page_console, from);
     }
@@ -62,32 +76,56 @@ export class Board {
         return Number(this.exports.page_steps(this.handle));
     }
 
-    // Opens a lab; returns why there is none, or nothing.
+    /**
+     * Opens a lab; returns why there is none, or nothing.
+     * @param {Uint8Array} source
+     * @param {Uint8Array} inputs
+     */
     load(source, inputs, pages = 256, slots = 1024) {
-        const load = (...texts) => this.exports.page_load(this.handle, ...texts, pages, slots);
+        const load = (/** @type {bigint[]} */ ...texts) => this.exports.page_load(this.handle, ...texts, pages, slots);
         const code = this.withTexts([source, inputs], load);
         if (code === NO_MEMORY) throw new Error("out of memory");
         return code === REFUSED ? this.text() : null;
     }
 
+    /** @param {number} code */
     answer(code) {
         if (code === NO_MEMORY) throw new Error("out of memory");
         if (code === NO_LAB) throw new Error("no program is assembled");
         return { next: code, text: this.text() };
     }
 
-    // Executes a command line: its answer, and what follows it.
+    /**
+     * Executes a command line: its answer, and what follows it.
+     * @param {Uint8Array} line
+     */
     command(line) {
-        const execute = (...text) => this.exports.page_command(this.handle, ...text, BigInt(this.piece));
+        const { page_command } = this.exports, piece = BigInt(this.piece);
+        const execute = (/** @type {bigint[]} */ ...text) => page_command(this.handle, ...text, piece);
         return this.answer(this.withTexts([line], execute));
     }
 
-    // Goes on with a run whose answer said RUNNING.
+    /**
+     * What command lines that only look answer, as values. The board stays as it is.
+     * @param {string[]} lines
+     * @returns {any[]}
+     */
+    look(lines) {
+        const { page_look } = this.exports;
+        const look = (/** @type {bigint[]} */ ...text) => page_look(this.handle, ...text);
+        const { text } = this.answer(this.withTexts([encode(lines.map((line) => `${line}\n`).join(""))], look));
+        return decode(text).split("\n").slice(0, lines.length).map((line) => JSON.parse(line));
+    }
+
+    /** Goes on with a run whose answer said RUNNING. */
     goOn() {
         return this.answer(this.exports.page_go_on(this.handle, BigInt(this.piece)));
     }
 
-    // The answer of a command line that begins no run, as text.
+    /**
+     * The answer of a command line that begins no run, as text.
+     * @param {string} line
+     */
     ask(line) {
         return decode(this.command(encode(line)).text);
     }

@@ -1,20 +1,35 @@
 // The page's side of the worker: each call is answered once, and a long run tells its progress. A worker that ends, or
 // doesn't heed a pause, is replaced by a new one.
+import { $ } from "./dom.mjs";
+
 const PATIENCE = 10000; // milliseconds in which a pause has to be heeded
-const script = document.getElementById("worker").textContent;
-const address = URL.createObjectURL(new Blob([script], { type: "text/javascript" }));
+const address = URL.createObjectURL(new Blob([$("worker").textContent ?? ""], { type: "text/javascript" }));
+/** @type {Map<number, { resolve: (result: any) => void, reject: (error: Error) => void }>} */
 const waiting = new Map(); // by number: what waits for the answer
 let calls = 0;
-let worker, program; // the worker, and board.wasm, which it runs
-let show, tellLost; // tell the page of a run's progress, and of a board that is lost
+/** @type {Worker} */
+let worker;
+/** @type {Uint8Array} */
+let program; // board.wasm, which it runs
+/** @type {(steps: number, sent: string) => void} */
+let show; // tells the page of a run's progress
+/** @type {(error: Error) => void} */
+let tellLost; // tells the page of a board that is lost
 
 // The error of a call after which the board is another one, without a program.
 export class BoardLost extends Error {
+    /** @param {string} why */
     constructor(why) {
         super(`The board was lost by an error (${why}) and made anew: assemble again.`);
     }
 }
 
+/**
+ * What the worker answers to a call.
+ * @param {string} act
+ * @param {unknown[]} words
+ * @returns {Promise<any>}
+ */
 export function call(act, ...words) {
     return new Promise((resolve, reject) => {
         waiting.set(++calls, { resolve, reject });
@@ -22,17 +37,21 @@ export function call(act, ...words) {
     });
 }
 
-// Gives an answer to the call that it names. One that nobody waits for is dropped.
-function receive({ id, result, failed, lost, steps, sent }) {
-    if (!waiting.has(id)) return;
+/**
+ * Gives an answer to the call that it names. One that nobody waits for is dropped.
+ * @param {{ id: number, result?: unknown, failed?: string, lost?: boolean, steps?: number, sent?: string }} answer
+ */
+function receive({ id, result, failed, lost, steps, sent = "" }) {
+    const waits = waiting.get(id);
+    if (!waits) return;
     if (steps !== undefined) return show(steps, sent);
-    const { resolve, reject } = waiting.get(id);
+    const { resolve, reject } = waits;
     waiting.delete(id);
     if (failed === undefined) return resolve(result);
     reject(lost ? new BoardLost(failed) : new Error(failed));
 }
 
-// Begins a worker that runs board.wasm.
+/** Begins a worker that runs board.wasm. */
 function begin() {
     worker = new Worker(address);
     worker.onmessage = ({ data, target }) => target === worker && receive(data);
@@ -43,7 +62,10 @@ function begin() {
     return call("start", program);
 }
 
-// Ends the worker, and all calls that wait for it, and begins another.
+/**
+ * Ends the worker, and all calls that wait for it, and begins another.
+ * @param {string} why
+ */
 function replace(why) {
     worker.terminate();
     const lost = [...waiting.values()];
@@ -53,14 +75,18 @@ function replace(why) {
     tellLost(new BoardLost(why));
 }
 
-// Begins the board; `onProgress` gets, for each long run, its steps so far and what the program has sent since the last
-// time, and `onLost` the error of a worker that was replaced.
+/**
+ * Begins the board; `onProgress` gets, for each long run, its steps so far and what the program has sent since the last
+ * time, and `onLost` the error of a worker that was replaced.
+ * @param {Uint8Array} bytes
+ * @param {{ onProgress: (steps: number, sent: string) => void, onLost: (error: Error) => void }} calls
+ */
 export function startBoard(bytes, { onProgress, onLost }) {
     [program, show, tellLost] = [bytes, onProgress, onLost];
     return begin();
 }
 
-// Ends a run between two of its pieces. If what is under way goes on for long all the same, the worker is replaced.
+/** Ends a run between two of its pieces. If what is under way goes on for long all the same, the worker is replaced. */
 export function pauseRun() {
     const asked = [...waiting.keys()];
     worker.postMessage({ act: "pause" });

@@ -1,24 +1,40 @@
 // The list of the faults of a source. It is read out as it changes.
-import { $ } from "./dom.mjs";
+import { $, targetOf } from "./dom.mjs";
+import { editor } from "./editor.mjs";
 import { escaped } from "./language.mjs";
+import { view } from "./state.mjs";
 
 const MARK = '<span aria-hidden="true">✗</span>';
 
 let shown = ""; // the list as HTML
 
-function buttonHtml(line) {
+/** @param {number} line */
+function jumpHtml(line) {
     return line ? `<button value="${line}" aria-label="Go to line ${line}">Line ${line}</button> ` : "";
 }
 
+/** @param {Fault} fault */
 function faultHtml({ line, sentence, advice }) {
-    return `<li>${buttonHtml(line)}${MARK} ${escaped(sentence)} <span class="hint">${escaped(advice)}</span></li>`;
+    return `<li>${jumpHtml(line)}${MARK} ${escaped(sentence)} <span class="hint">${escaped(advice)}</span></li>`;
 }
 
-// Shows faults, if they aren't those that are shown.
-export function listFaults(faults) {
+/**
+ * Shows faults, if they aren't those that are shown.
+ * @param {Fault[]} faults
+ */
+function listFaults(faults) {
+    $("text").setAttribute("aria-invalid", String(faults.length > 0));
     const html = faults.map(faultHtml).join("");
     if (html === shown) return;
     $("faults").innerHTML = html;
     $("mended").textContent = html ? "" : "The source has no fault any more.";
     shown = html;
+}
+
+export function makeFaults() {
+    view(({ faults }) => [faults], listFaults);
+    $("faults").addEventListener("click", (event) => {
+        const button = /** @type {HTMLButtonElement | null} */ (targetOf(event, "button"));
+        if (button) editor.goTo(Number(button.value));
+    });
 }

@@ -6,22 +6,23 @@ import hashlib
 import json
 import pathlib
 import re
+import subprocess
 import sys
 
 top, out = map(pathlib.Path, sys.argv[1:])
 web = top / "web"
 
 
-# The modules of the page, each after those that it imports.
-PAGE = ["lines", "queue", "dom", "dialogs", "client", "language", "links", "kept", "texts", "marks", "views", "editor"]
-PAGE += ["files", "faults", "tabs", "controls", "page"]
+# The lessons of the path, in their order.
+LESSONS = ["first", "loop", "function", "trap", "protection"]
 
 
-def script(*names):
-    """The modules as one script: a line that imports is left out, and `export` is taken from the others."""
-    text = "\n".join((web / f"{name}.mjs").read_text() for name in names)
-    text = re.sub(r"^import .*\n", "", text, flags=re.M)
-    return re.sub(r"^export ", "", text, flags=re.M)
+def script(name):
+    """A module with all that it imports, as one script."""
+    words = ["esbuild", str(web / f"{name}.mjs"), "--bundle", "--format=esm", "--charset=utf8", "--log-level=warning"]
+    text = subprocess.run(words, check=True, capture_output=True, text=True, encoding="utf-8").stdout
+    assert "</script" not in text, name
+    return text
 
 
 def examples():
@@ -35,6 +36,27 @@ def examples():
     return json.dumps(found).replace("</", "<\\/")
 
 
+def lessons():
+    """Each lesson of the path by its name, in its order."""
+    found = {name: (web / f"lessons/{name}.lesson").read_text() for name in LESSONS}
+    return json.dumps(found).replace("</", "<\\/")
+
+
+def reference():
+    """The lines of the language's reference about each word: a cell with the word, and those beside it."""
+    text = (top / "docs/ASSEMBLER.md").read_text()
+    found = {}
+    for title in ["Instructions", "Pseudo-instructions", "Directives"]:
+        section = text.split(f"\n## {title}\n")[1]
+        for row in re.search(r"(?:^\|.*\n)+", section, re.M).group().splitlines():
+            cells = [cell.strip() for cell in row.strip("| ").split(" | ")]
+            for word in re.findall(r"`([a-z.][^\s`]*)[^`]*`", cells[0]) if row.startswith("| `") else []:
+                line = " · ".join([cells[0], *filter(None, cells[1:])])
+                if line not in found.setdefault(word, []):
+                    found[word].append(line)
+    return json.dumps(found).replace("</", "<\\/")
+
+
 def hash_of(text, tag):
     """The hash by which the page's policy lets an element run: of all that stands in it."""
     inside = re.search(f"<{tag}>(.*?)</{tag.split()[0]}>", text, re.S).group(1)
@@ -42,10 +64,12 @@ def hash_of(text, tag):
 
 
 parts = {
-    "style": (web / "style.css").read_text(),
-    "worker": script("lines", "board", "worker"),
-    "page": script(*PAGE),
+    "style": "\n".join((web / name).read_text() for name in ["style.css", "layout.css"]),
+    "worker": script("worker"),
+    "page": script("page"),
     "examples": examples(),
+    "reference": reference(),
+    "lessons": lessons(),
     "wasm": base64.b64encode((out / "board.wasm").read_bytes()).decode(),
 }
 text = (web / "index.html").read_text()

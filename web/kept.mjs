@@ -4,66 +4,84 @@
 const KEY = "rvboard "; // how the names of entries begin, and their names in the tab's session
 const WAIT = 500; // milliseconds in which the page before a reload gives its lock back
 
-// Holds the lock of an entry for as long as the page is open; returns whether it does. Without locks no other page is
-// known.
-function hold(name, options) {
+/**
+ * Holds the lock of an entry for as long as the page is open; returns whether it does. Without locks no other page is
+ * known.
+ * @param {string} name
+ * @param {LockOptions} options
+ * @returns {Promise<boolean>}
+ */
+async function hold(name, options) {
     if (!navigator.locks) return true;
     return new Promise((resolve) => {
-        const held = (lock) => {
+        const held = (/** @type {Lock | null} */ lock) => {
             resolve(lock !== null);
-            return lock && new Promise(() => {});
+            return lock ? new Promise(() => {}) : undefined;
         };
         navigator.locks.request(name, options, held).catch(() => resolve(false));
     });
 }
 
-// The entry of a name, or nothing where there is none that can be read.
+/**
+ * The entry of a name, or nothing where there is none that can be read.
+ * @param {string} name
+ * @returns {Entry | null}
+ */
 function read(name) {
     try {
-        const entry = JSON.parse(localStorage.getItem(name));
+        const entry = JSON.parse(localStorage.getItem(name) ?? "null");
         return typeof entry.source === "string" ? entry : null;
     } catch {
         return null;
     }
 }
 
-// The entries of closed tabs that have changes, the latest first; those without are removed.
+/** The entries of closed tabs that have changes, the latest first, by their names; those without are removed. */
 async function leftEntries() {
     if (!navigator.locks) return [];
-    const names = (await navigator.locks.query()).held.map(({ name }) => name);
+    const names = ((await navigator.locks.query()).held ?? []).map(({ name }) => name);
     const left = Object.keys(localStorage).filter((name) => name.startsWith(KEY) && !names.includes(name));
-    const entries = left.map((name) => ({ name, ...read(name) }));
-    for (const { name, edited } of entries) if (!edited) localStorage.removeItem(name);
-    return entries.filter(({ edited }) => edited).sort((a, b) => b.time - a.time);
+    const entries = left.map((key) => ({ key, entry: read(key) }));
+    for (const { key, entry } of entries) if (!entry?.edited) localStorage.removeItem(key);
+    const edited = entries.flatMap(({ key, entry }) => (entry?.edited ? [{ key, entry }] : []));
+    return edited.sort((a, b) => (b.entry.time ?? 0) - (a.entry.time ?? 0));
 }
 
 export class Kept {
     name = ""; // of the entry; nothing is kept before there is one
     key = KEY; // what has that name in the tab's session, which is one for all frames of a page
 
-    // Takes an entry for this tab, and returns what is to be restored from it, or nothing: what the tab itself held under
-    // the same link; or without a link what was typed in the tab that was closed last, unless the page is embedded.
+    /**
+     * Takes an entry for this tab, and returns what is to be restored from it, or nothing: what the tab itself held under
+     * the same link; or without a link what was typed in the tab that was closed last, unless the page is embedded.
+     * @param {string} link
+     * @param {boolean} isEmbedded
+     */
     async open(link, isEmbedded) {
         if (isEmbedded) this.key = KEY + link;
         try {
-            return (await this.openOwn(link)) ?? (await this.openLeft(link || isEmbedded));
+            return (await this.openOwn(link)) ?? (await this.openLeft(link !== "" || isEmbedded));
         } catch {
             return null; // the browser lets this page keep nothing
         }
     }
 
-    // The entry of a tab that is reloaded, opened again or copied; a copy gets an entry of its own.
+    /**
+     * The entry of a tab that is reloaded, opened again or copied; a copy gets an entry of its own.
+     * @param {string} link
+     */
     async openOwn(link) {
         const name = sessionStorage.getItem(this.key), entry = name && read(name);
-        if (!entry || (link && entry.link !== link)) return null;
-        this.take((await hold(name, { signal: AbortSignal.timeout(WAIT) })) ? name : await this.newName());
+        if (!name || !entry || (link && entry.link !== link)) return null;
+        this.take((await hold(name, { signal: /** @type {any} */ (AbortSignal).timeout(WAIT) })) ? name : await this.newName());
         return entry;
     }
 
+    /** @param {boolean} isOther */
     async openLeft(isOther) {
-        for (const entry of isOther ? [] : await leftEntries()) {
-            if (!(await hold(entry.name, { ifAvailable: true }))) continue;
-            this.take(entry.name);
+        for (const { key, entry } of isOther ? [] : await leftEntries()) {
+            if (!(await hold(key, { ifAvailable: true }))) continue;
+            this.take(key);
             return { ...entry, closed: true };
         }
         this.take(await this.newName());
@@ -76,12 +94,16 @@ export class Kept {
         return name;
     }
 
+    /** @param {string} name */
     take(name) {
         this.name = name;
         sessionStorage.setItem(this.key, name);
     }
 
-    // Keeps an entry; returns whether there was room for it. What can't be kept is kept in no older form either.
+    /**
+     * Keeps an entry; returns whether there was room for it. What can't be kept is kept in no older form either.
+     * @param {Entry} entry
+     */
     write(entry) {
         if (!this.name) return false;
         try {

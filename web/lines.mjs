@@ -18,21 +18,31 @@ const FORMS = [
     [0xf4, 0xf4, 3, 0x80, 0x8f],
 ];
 
-// Puts pieces of bytes together.
+/**
+ * Puts pieces of bytes together.
+ * @param {(Uint8Array | number[])[]} pieces
+ */
 export function joinBytes(pieces) {
     const all = new Uint8Array(pieces.reduce((sum, piece) => sum + piece.length, 0));
     pieces.reduce((place, piece) => (all.set(piece, place), place + piece.length), 0);
     return all;
 }
 
-// The bytes of a text; each stand-in is its byte.
+/**
+ * The bytes of a text; each stand-in is its byte.
+ * @param {string} text
+ */
 export function encode(text) {
     const encoder = new TextEncoder();
     const pieces = text.split(/([\udc00-\udcff])/u); // with `u` no half of a pair
     return joinBytes(pieces.map((piece, i) => (i % 2 ? [piece.charCodeAt(0) - STAND_IN] : encoder.encode(piece))));
 }
 
-// How many bytes the character at a place has, or 0 where there is none.
+/**
+ * How many bytes the character at a place has, or 0 where there is none.
+ * @param {Uint8Array} bytes
+ * @param {number} at
+ */
 function lengthAt(bytes, at) {
     const form = FORMS.find(([first, last]) => first <= bytes[at] && bytes[at] <= last);
     if (!form) return 0;
@@ -42,7 +52,11 @@ function lengthAt(bytes, at) {
     return rest.length === Math.max(0, more - 1) && rest.every((byte) => byte >> 6 === 2) ? more + 1 : 0;
 }
 
-// A text of bytes of which some are no UTF-8.
+/**
+ * A text of bytes of which some are no UTF-8.
+ * @param {Uint8Array} bytes
+ * @param {TextDecoder} decoder
+ */
 function decodeEach(bytes, decoder) {
     const parts = [];
     let from = 0, at = 0;
@@ -57,7 +71,10 @@ function decodeEach(bytes, decoder) {
     return parts.join("") + decoder.decode(bytes.subarray(from));
 }
 
-// The text of bytes, from which `encode` makes the same bytes.
+/**
+ * The text of bytes, from which `encode` makes the same bytes.
+ * @param {Uint8Array} bytes
+ */
 export function decodeAll(bytes) {
     const decoder = new TextDecoder("utf-8", { fatal: true, ignoreBOM: true });
     try {
@@ -67,24 +84,37 @@ export function decodeAll(bytes) {
     }
 }
 
-// A text as a text area shows it: carriage returns that end lines are left out, and the others have stand-ins.
+/**
+ * A text as a text area shows it: carriage returns that end lines are left out, and the others have stand-ins.
+ * @param {string} text
+ */
 export function asShown(text) {
     return text.replace(/\r\n|\r$/g, "\n").replaceAll("\r", String.fromCharCode(STAND_IN + 13));
 }
 
-// How many stand-ins a text has, and the line and the column of the first one.
+/**
+ * How many stand-ins a text has, and the line and the column of the first one.
+ * @param {string} text
+ */
 export function standIns(text) {
     const found = [...text.matchAll(/[\udc00-\udcff]/gu)];
     const before = text.slice(0, found[0]?.index).split("\n");
-    return { count: found.length, line: before.length, column: [...before.at(-1)].length + 1 };
+    return { count: found.length, line: before.length, column: [...before[before.length - 1]].length + 1 };
 }
 
-// How many lines a text has: what follows the last line end is one, unless it is empty.
+/**
+ * How many lines a text has: what follows the last line end is one, unless it is empty.
+ * @param {string} text
+ */
 export function countLines(text) {
     return text.split("\n").length - (text === "" || text.endsWith("\n") ? 1 : 0);
 }
 
-// How many characters at the beginning of two texts are the same.
+/**
+ * How many characters at the beginning of two texts are the same.
+ * @param {string} before
+ * @param {string} now
+ */
 export function sameLength(before, now) {
     if (now.startsWith(before)) return before.length;
     let same = 0;
@@ -92,7 +122,11 @@ export function sameLength(before, now) {
     return same;
 }
 
-// How many lines at the beginning and at the end of two lists are the same.
+/**
+ * How many lines at the beginning and at the end of two lists are the same.
+ * @param {string[]} before
+ * @param {string[]} now
+ */
 export function sameLines(before, now) {
     const least = Math.min(now.length, before.length);
     let first = 0, last = 0;
@@ -101,12 +135,16 @@ export function sameLines(before, now) {
     return { first, last };
 }
 
-// A shown text with the line ends of the text that it was: the lines that are the same at the beginning and at the end
-// keep theirs, and the others have that of the first line.
+/**
+ * A shown text with the line ends of the text that it was: the lines that are the same at the beginning and at the end
+ * keep theirs, and the others have that of the first line.
+ * @param {string} shown
+ * @param {string} text
+ */
 export function withEndsOf(shown, text) {
     if (shown === asShown(text)) return text;
     const ends = text.match(/\r?\n/g) ?? ["\n"], before = asShown(text).split("\n"), now = shown.split("\n");
     const { first, last } = sameLines(before, now), more = now.length - before.length;
-    const endOf = (i) => (i < first ? ends[i] : i >= now.length - last ? ends[i - more] : ends[0]) ?? ends[0];
+    const endOf = (/** @type {number} */ i) => (i < first ? ends[i] : i >= now.length - last ? ends[i - more] : ends[0]) ?? ends[0];
     return now.map((line, i) => (i < now.length - 1 ? line + endOf(i) : line)).join("");
 }

@@ -35,9 +35,9 @@ export function monitor(board, line) {
 
 // How the board stands, as rvboard's last line says it.
 export function status(board) {
-    const text = board.ask("w"), steps = board.steps();
-    const halted = text.match(/^halted with code (\d+)/m), pc = text.match(/^[0-9a-f]{8}/m);
-    return `${halted ? `halted ${halted[1]}` : `running at ${pc[0]}`} after ${steps} steps\n`;
+    const [{ steps, halted, here }] = board.look(["w"]);
+    const end = halted === null ? `running at ${here.address.toString(16).padStart(8, "0")}` : `halted ${halted}`;
+    return `${end} after ${steps} steps\n`;
 }
 
 // Takes steps until the board halts, and no more than `steps`.

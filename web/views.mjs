@@ -1,29 +1,20 @@
-// The views of the board: what stands in their panels, as HTML.
+// The views of the board as HTML: registers, control registers, the listing, and what an interrupt source says.
 import { escaped } from "./language.mjs";
 
-// Where things are on the board (docs/BOARD.md), for the map of memory.
-const MEMORY = 0x80000000;
-const PLACES = [
-    [0x00100000, 0x00100fff, "halt register"],
-    [0x02000000, 0x0200ffff, "timer"],
-    [0x0c000000, 0x0fffffff, "interrupt controller"],
-    [0x10000000, 0x10000fff, "serial port"],
-];
-const CONTROL = [
-    ...["mstatus", "misa", "mie", "mip", "mtvec", "mscratch", "mepc", "mcause", "mtval"],
-    ...["mcycle", "mcycleh", "minstret", "minstreth", "mhartid"],
-    ...["pmpcfg0", "pmpcfg1", "pmpcfg2", "pmpcfg3"],
-    ...Array.from({ length: 16 }, (_, entry) => `pmpaddr${entry}`),
-];
+/** @param {number} number */
+export const hex8 = (number) => number.toString(16).padStart(8, "0");
 
-// The commands whose answers `controlHtml` shows.
-export const controlLines = CONTROL.map((name) => `p ${name}`);
+/** @param {unknown[]} parts */
+export const joined = (parts, between = ", ") => parts.filter(Boolean).join(between);
 
-const hex8 = (number) => number.toString(16).padStart(8, "0");
-const joined = (parts, between = ", ") => parts.filter(Boolean).join(between);
-
-// A table with a title, the heads of its columns and its rows, each with attributes or none.
-function table(title, heads, rows, attributes = []) {
+/**
+ * A table with a title, the heads of its columns and its rows, each with attributes or none.
+ * @param {string} title
+ * @param {string[]} heads
+ * @param {(string | number)[][]} rows
+ * @param {string[]} attributes
+ */
+export function table(title, heads, rows, attributes = []) {
     const head = heads.map((it) => `<th scope="col">${it}</th>`).join("");
     const cells = rows.map((row) => `<td>${row.join("</td><td>")}</td>`);
     const body = cells.map((row, i) => `<tr ${attributes[i] ?? ""}>${row}</tr>`);
@@ -33,103 +24,91 @@ function table(title, heads, rows, attributes = []) {
 
 // ---- Registers
 
-function registerHtml({ name, hex, changed }) {
-    const mark = changed ? '*<span class="unseen">changed</span>' : "";
-    const values = `<span>${hex}</span> <span>${parseInt(hex, 16) | 0}</span>`;
-    return `<li class="${changed ? "changed" : ""}"><b>${name}</b> ${values}<i>${mark}</i></li>`;
+/** @param {number} byte */
+const isPrinting = (byte) => byte >= 0x20 && byte < 0x7f;
+
+/** @param {(number | undefined)[]} bytes */
+export const textOf = (bytes) => bytes.map((it) => (it && isPrinting(it) ? String.fromCharCode(it) : ".")).join("");
+
+/** @param {number} word */
+const bytesOf = (word) => [0, 8, 16, 24].map((shift) => (word >>> shift) & 255);
+
+/** @param {number} word */
+function characters(word) {
+    if (word < 256) return isPrinting(word) ? `'${String.fromCharCode(word)}'` : String(word);
+    return `"${textOf(bytesOf(word))}"`;
 }
 
-export function registersHtml(registers) {
-    return registers.map(registerHtml).join("");
+/** @param {number} word */
+const binary = (word) => [24, 16, 8, 0].map((shift) => ((word >>> shift) & 255).toString(2).padStart(8, "0")).join(" ");
+
+/**
+ * How the words of registers are written, by name.
+ * @type {Record<string, (word: number) => string>}
+ */
+export const FORMATS = {
+    hexadecimal: hex8,
+    signed: (word) => String(word | 0),
+    unsigned: String,
+    characters,
+    binary,
+};
+export const BOTH = "hex and signed";
+
+/**
+ * A register in a format; its title has it in all of them.
+ * @param {Register} register
+ * @param {string} format
+ */
+function registerHtml({ name, value, isChanged }, format) {
+    const mark = isChanged ? '*<span class="unseen">changed</span>' : "";
+    const all = Object.entries(FORMATS).map(([title, write]) => `${title} ${write(value)}`).join("\n");
+    const title = `${name}\n${all}`.replaceAll('"', "&quot;");
+    const values = (format === BOTH ? ["hexadecimal", "signed"] : [format]).map((it) => escaped(FORMATS[it](value)));
+    const shown = values.map((it) => `<span>${it}</span>`).join(" ");
+    return `<li class="${isChanged ? "changed" : ""}" title="${escaped(title)}"><b>${name}</b> ${shown}<i>${mark}</i></li>`;
 }
 
-export function controlHtml(texts) {
-    const rows = texts.map((text) => {
-        const [, name, word, fields] = text.match(/^(\w+) = ([0-9a-f-]{8})(.*)$/m);
-        return [name, word, escaped(fields.trim())];
-    });
+/**
+ * @param {Register[]} registers
+ * @param {string} format
+ */
+export const registersHtml = (registers, format) => registers.map((it) => registerHtml(it, format)).join("");
+
+/** @param {Control[]} registers */
+export function controlHtml(registers) {
+    const rows = registers.map(({ name, word, fields }) => [name, word, escaped(fields)]);
     return table("Control registers by field", ["Name", "Value", "Fields"], rows);
-}
-
-// ---- Memory
-
-// A line of `m`: its address, its bytes or words, its text, and what points to it.
-function memoryRow(line, isWords, pointers) {
-    const address = line.slice(0, 8), first = parseInt(address, 16);
-    const bytes = line.slice(10, 58).trim().split(" ");
-    const words = [0, 4, 8, 12].map((at) => bytes.slice(at, at + 4).reverse().join(""));
-    const here = pointers.filter(({ at }) => first <= at && at < first + 16);
-    const marks = here.map(({ name, at }) => (at > first ? `${name} +${at - first}` : name));
-    return [address, (isWords ? words : bytes).join(" "), escaped(line.slice(59)), escaped(marks.join(", "))];
-}
-
-// The answer of `m`, with the labels and the pointers to the stack in it.
-export function memoryHtml(text, isWords, registers, labels) {
-    const lines = text.split("\n").filter((line) => /^[0-9a-f]{8}:/.test(line));
-    if (!lines.length) return `<p>${escaped(text)}</p>`;
-    const frame = registers.filter(({ name }) => name === "sp" || name === "s0");
-    const stack = frame.map(({ name, hex }) => ({ name: `◀ ${name}`, at: parseInt(hex, 16) }));
-    const pointers = [...labels, ...stack];
-    const rows = lines.map((line) => memoryRow(line, isWords, pointers));
-    return table("Memory", ["Address", isWords ? "Words" : "Bytes", "Text", "Here"], rows);
 }
 
 // ---- The listing
 
-// The listing; a click on one of its lines sets or clears a breakpoint.
-export function listingHtml(lines) {
-    const rows = lines.map(({ here, marked, address, word, number, text }) => {
-        const marks = joined([here && "➤", marked && "●"], "");
-        return [marks, address, word, number, escaped(text)];
+/** @param {number | undefined} word */
+const hexOf = (word) => (word === undefined ? "" : hex8(word));
+
+/**
+ * The listing; a click on one of its lines sets or clears a breakpoint.
+ * @param {Row[]} rows
+ */
+export function listingHtml(rows) {
+    const cells = rows.map(({ isHere, isMarked, address, word, number, text }) => {
+        const marks = joined([isHere && "➤", isMarked && "●"], "");
+        return [marks, hexOf(address), hexOf(word), number, escaped(text)];
     });
-    const attributes = lines.map(({ here, number }) => {
-        return `data-line="${number}" ${here ? 'class="here" aria-current="true"' : ""}`;
+    const attributes = rows.map(({ isHere, number }) => {
+        return `data-line="${number}" ${isHere ? 'class="here" aria-current="true"' : ""}`;
     });
-    return table("Listing", ["Mark", "Address", "Word", "Line", "Source"], rows, attributes);
+    return table("Listing", ["Mark", "Address", "Word", "Line", "Source"], cells, attributes);
 }
 
 // ---- Devices
 
-// What the interrupt controller says of a source, beside its switch.
+/**
+ * What the interrupt controller says of a source, beside its switch.
+ * @param {Source | undefined} source
+ */
 export function sourceText(source) {
     if (!source) return "";
-    const { request, enabled, priority, edges } = source;
-    return joined([request, enabled && "enabled", `priority ${priority}`, edges && `${edges} edges`]);
-}
-
-// ---- Protection
-
-const REFUSALS = { 1: "fetch", 5: "load", 7: "store" };
-
-// The parts of the address space: what is there, and what each mode may do by the first entry that has bytes.
-function partsOf(regions, pages) {
-    const places = [...PLACES, [MEMORY, MEMORY + pages * 4096 - 1, "memory"]];
-    const ranges = [...places, ...regions.map(({ first, last }) => [first, last])];
-    const starts = new Set([0, ...ranges.flatMap(([first, last]) => [first, last + 1])]);
-    const sorted = [...starts].filter((at) => at < 2 ** 32).sort((a, b) => a - b);
-    return sorted.map((first, i) => {
-        const last = (sorted[i + 1] ?? 2 ** 32) - 1;
-        const place = places.find(([from, to]) => from <= first && first <= to)?.[2];
-        const region = regions.find((it) => it.first <= first && first <= it.last);
-        return { user: "---", machine: "rwx", ...region, first, last, place };
-    });
-}
-
-const grants = (letters) => `<span class="grants ${letters.replaceAll("-", "") || "none"}">${letters}</span>`;
-
-// The map of memory: a row for each part that has something, and where the last refusal was.
-export function protectionHtml(regions, pages, traps) {
-    const refused = traps.findLast(({ cause }) => REFUSALS[cause]);
-    const isRefused = ({ first, last }) => refused && first <= refused.tval && refused.tval <= last;
-    const shown = partsOf(regions, pages).filter((part) => part.place || "entry" in part || isRefused(part));
-    const rows = shown.map((part) => [
-        `${hex8(part.first)} – ${hex8(part.last)}`,
-        joined([part.place, "entry" in part && `entry ${part.entry}`]),
-        grants(part.user),
-        grants(part.machine) + (part.locked ? " locked" : ""),
-        isRefused(part) ? `✗ ${REFUSALS[refused.cause]} at ${hex8(refused.tval)}` : "",
-    ]);
-    const none = "No entry is on: machine mode may do all, user mode nothing";
-    const title = regions.length ? "What each mode may do where" : none;
-    return table(title, ["Addresses", "What is there", "User", "Machine", "Last refused"], rows);
+    const { request, isEnabled, priority, edges } = source;
+    return joined([request, isEnabled && "enabled", `priority ${priority}`, edges && `${edges} edges`]);
 }

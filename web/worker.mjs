@@ -7,37 +7,42 @@ const PROGRESS = 100; // milliseconds between two reports of a long run
 const TURN = 12; // milliseconds that a piece of a run shall take
 const PIECES = { least: 1000, most: 10000000 }; // steps of a piece
 
-let module, lab, checker;
+/** @type {WebAssembly.Module} */
+let module;
+/** @type {Board} */
+let lab;
+/** @type {Board} */
+let checker;
 let paused = false;
 let told = 0; // how many bytes of the console the page has
-let decoder; // of those that it gets in a long run
-let asked; // the number of the call of the queue that is answered
+let decoder = new TextDecoder(); // of those that it gets in a long run
+let asked = 0; // the number of the call of the queue that is answered
 
 function renew() {
     lab = new Board(module);
     checker = new Board(module);
 }
 
-// Tells the page how far a long run is, and what the program has sent meanwhile.
+/** Tells the page how far a long run is, and what the program has sent meanwhile. */
 function report() {
     const more = lab.console(told);
     told += more.length;
     postMessage({ id: asked, steps: lab.steps(), sent: decoder.decode(more, { stream: true }) });
 }
 
-// Lets waiting messages come in.
+/** Lets waiting messages come in. */
 function breathe() {
-    return new Promise((done) => {
+    return /** @type {Promise<void>} */ (new Promise((done) => {
         const { port1, port2 } = new MessageChannel();
         port2.onmessage = () => {
             port2.close();
             done();
         };
         port1.postMessage(null);
-    });
+    }));
 }
 
-// Goes on with the run by a piece, and makes the next piece longer or shorter by the time that this one took.
+/** Goes on with the run by a piece, and makes the next piece longer or shorter by the time that this one took. */
 function goOn() {
     const began = performance.now(), answer = lab.goOn();
     const factor = Math.min(4, TURN / Math.max(1, performance.now() - began));
@@ -45,24 +50,39 @@ function goOn() {
     return answer;
 }
 
+/** @type {Record<string, (...words: any[]) => unknown>} */
 const acts = {
+    /** @param {Uint8Array} bytes */
     async start(bytes) {
         module = await WebAssembly.compile(bytes);
         renew();
     },
 
-    // Why a source is refused, or nothing.
+    /**
+     * Why a source is refused, or nothing.
+     * @param {string} source
+     * @param {string} inputs
+     * @param {number} pages
+     */
     check(source, inputs, pages) {
         const fault = checker.load(encode(source), encode(inputs), pages);
         return fault && decode(fault);
     },
 
+    /**
+     * @param {string} source
+     * @param {string} inputs
+     * @param {number} pages
+     */
     load(source, inputs, pages) {
         const fault = lab.load(encode(source), encode(inputs), pages);
         return fault && decode(fault);
     },
 
-    // Executes a command line to its end, or up to a pause.
+    /**
+     * Executes a command line to its end, or up to a pause.
+     * @param {string} line
+     */
     async command(line) {
         paused = false;
         decoder = new TextDecoder();
@@ -77,42 +97,68 @@ const acts = {
             ({ next, text } = goOn());
             answer += decode(text);
         }
-        return next === RUNNING ? `${answer}paused\n${lab.ask("w")}` : answer;
+        const isPaused = next === RUNNING;
+        return { text: isPaused ? `${answer}paused\n${lab.ask("w")}` : answer, isPaused };
+    },
+
+    /**
+     * Runs a program in a lab of its own, and returns why it is refused, or what the lab answers then.
+     * @param {string} source
+     * @param {string} inputs
+     * @param {number} pages
+     * @param {number} steps
+     * @param {string[]} lines
+     */
+    async examine(source, inputs, pages, steps, lines) {
+        const own = new Board(module), fault = own.load(encode(source), encode(inputs), pages);
+        if (fault) return { fault: decode(fault) };
+        let { next } = own.command(encode(`s ${steps}`));
+        while (next === RUNNING) {
+            await breathe();
+            ({ next } = own.goOn());
+        }
+        return { answers: own.look(lines), console: decode(own.console()), steps: own.steps() };
+    },
+
+    // The steps, what was sent and is saved so far, and what commands that only look answer, as values.
+    look(/** @type {string[]} */ lines) {
+        const bytes = lab.console();
+        told = bytes.length;
+        return { steps: lab.steps(), console: decode(bytes), save: lab.ask("save"), answers: lab.look(lines) };
     },
 
     // The answers of commands that only look.
-    ask: (lines) => lines.map((line) => lab.ask(line)),
-
-    console() {
-        const bytes = lab.console();
-        told = bytes.length;
-        return decode(bytes);
-    },
+    ask: (/** @type {string[]} */ lines) => lines.map((line) => lab.ask(line)),
 
     steps: () => lab.steps(),
 };
 
+/** @param {{ id: number, act: string, words: unknown[] }} call */
 async function answer({ id, act, words }) {
     try {
         postMessage({ id, result: await acts[act](...words) });
     } catch (error) {
         // What the instance holds after an exception can't be relied on.
-        if (error instanceof WebAssembly.RuntimeError) renew();
-        postMessage({ id, failed: String(error.message), lost: error instanceof WebAssembly.RuntimeError });
+        const lost = error instanceof WebAssembly.RuntimeError;
+        if (lost) renew();
+        postMessage({ id, failed: error instanceof Error ? error.message : String(error), lost });
     }
 }
 
-// Answers a call of the queue.
+/**
+ * Answers a call of the queue.
+ * @param {{ id: number, act: string, words: unknown[] }} data
+ */
 function answerNext(data) {
     asked = data.id;
     return answer(data);
 }
 
-let last = Promise.resolve(), started;
+let last = Promise.resolve(), started = last;
 
 onmessage = ({ data }) => {
     if (data.act === "pause") paused = true;
-    else if (data.act === "check") started.then(() => answer(data));
+    else if (data.act === "check" || data.act === "examine") started.then(() => answer(data));
     else last = last.then(() => answerNext(data));
     if (data.act === "start") started = last;
 };

@@ -19,7 +19,7 @@ BEGAN = time.monotonic()
 NAMES = ["rvboard", "rvlab"]
 OUT = os.path.join(TOP, "out")
 BUILT_PAGE = os.path.join(OUT, "web/index.html")
-PAGE_SOURCES = ["web", ":!web/test*", "examples", "crates/rv_*/src/*"]
+PAGE_SOURCES = ["web", ":!web/test*", "docs/ASSEMBLER.md", "examples", "crates/rv_*/src/*"]
 VERSION = re.compile(r"[A-Za-z0-9][A-Za-z0-9._+-]{0,63}")
 
 

@@ -14,7 +14,7 @@ from handout.helps import Command, Help, read_commands, read_examples, read_help
 from handout.manual import manual
 from handout.programs import Program, Running, kit_of, oldest_glibc
 
-DOCUMENTS = "GUIDE LAB BOARD ASSEMBLER MONITOR C GRADING ISOLATION LIMITS".split()
+DOCUMENTS = "GUIDE LAB JSON BOARD ASSEMBLER MONITOR C GRADING ISOLATION LIMITS".split()
 # By program the document that has the table of its exit statuses.
 MANUALS = {"rvboard": "docs/BOARD.md", "rvlab": "docs/LAB.md"}
 # The tools that work on the repository itself, and so aren't handed out.

@@ -8,14 +8,14 @@ import { openPage } from "./chromium.mjs";
 const url = `file://${fileURLToPath(new URL("../../out/web/index.html", import.meta.url))}`;
 const ROLES = ["banner", "main", "toolbar", "tablist", "tabpanel", "log", "status"];
 const ORDER = [
-    ...["example", "load", "open", "save", "link"],
+    ...["example", "load", "open", "save", "link", "lessons"],
     ...["assemble", "run", "pause", "step", "over", "out", "back", "undo", "reset", "trap", "why", "break"],
     "speed",
-    ...["text", "console", "send-text", "answer", "ask-line", "tab-control"],
+    ...["find", "text", "split-source", "format", "answer", "ask-line", "console", "send-text", "tab-control"],
 ];
 const CONTROLS = new Set(["button", "textbox", "combobox", "checkbox", "switch", "tab", "listbox", "link"]);
 
-const TABS = ["control", "memory", "listing", "traps", "devices", "protection", "repeat"];
+const TABS = ["control", "memory", "stack", "listing", "instruction", "traps", "devices", "protection", "repeat"];
 
 // Opens a tab: not by the mouse, since what the tab before shows may still come and move it.
 async function openTab(page, tab) {
@@ -145,4 +145,11 @@ await tablet.run(`document.getElementById("tab-repeat").scrollIntoView()`);
 const bar = await tablet.run(`document.getElementById("controls").getBoundingClientRect().top`);
 same("on a tablet the controls stay in sight below", bar, 0);
 await tablet.close();
+
+const phone = await openPage(url, { width: 390, height: 844, dark: true });
+await ready(phone);
+await placed(phone, "on a phone");
+await contrast(phone, "on a phone");
+same("a tab that is opened doesn't scroll the page", await phone.run("scrollY"), 0);
+await phone.close();
 finish();

@@ -5,7 +5,7 @@ import os from "node:os";
 import path from "node:path";
 
 const ANSWERED = 30000; // milliseconds in which a call is answered
-const TRIES = 400, PAUSE = 25; // how often, and how many milliseconds apart, a condition is tried
+const TRIES = 1200, PAUSE = 25; // how often, and how many milliseconds apart, a condition is tried
 
 const textOf = ({ exception, text }) => exception?.description ?? text;
 const wait = (milliseconds) => new Promise((done) => setTimeout(done, milliseconds));
@@ -146,7 +146,9 @@ async function openTab(browser, tabs, url, { width = 1280, height = 720, dark = 
         // The bytes of a file that the page has saved.
         async savedBytes(name) {
             const file = path.join(home, name);
-            for (let i = 0; i < TRIES && !fs.existsSync(file); i++) await wait(PAUSE);
+            // Chromium makes an empty file of the name before it moves the bytes there.
+            const isThere = () => fs.existsSync(file) && fs.statSync(file).size > 0;
+            for (let i = 0; i < TRIES && !isThere(); i++) await wait(PAUSE);
             const bytes = fs.readFileSync(file);
             fs.rmSync(file);
             return bytes;

@@ -192,9 +192,14 @@ async function views() {
     await page.click("#memory-words");
     await panelHas("memory", "00000001 00000002");
     contains("and as words", await row(), /^8000003c\s+00000001 00000002 .*table/);
+    const addresses = `[...document.querySelectorAll("#panel-memory tbody tr")].map((it) => parseInt(it.innerText, 16))`;
+    const last = await page.run(`${addresses}.at(-1)`);
     await page.click("#memory-later");
-    await page.until(`${inPanel("memory", "td")}.textContent === "800000bc"`);
+    await page.until(`${addresses}[0] === ${last + 16}`);
     check("and what follows", true);
+    await page.click("#memory-earlier");
+    await page.until(`${addresses}[0] === 0x8000003c`);
+    check("and what precedes", true);
     await page.click("#memory-words");
     await page.click("#tab-control");
     await panelHas("control", "mstatus");

@@ -113,6 +113,10 @@ async function named() {
     await page.run(`location.hash = "example=hello"`);
     await page.until(`${text} === ${JSON.stringify(sourceOf("hello"))}`);
     check("another one is heeded", true);
+    await page.visit(`${site}/index.html?embed#lesson=loop`);
+    const lesson = `document.getElementById("lesson").checkVisibility()`;
+    const button = `document.getElementById("lessons").checkVisibility()`;
+    same("a frame may have a lesson, without the way to others", await page.run(`[${lesson}, ${button}]`), "true,false");
     for (const name of ["nowhere", "constructor", "%zz"]) {
         await page.visit(`${site}/index.html#example=${name}`);
         contains(`${name} is told as none`, await page.run(answer), /names an example that there isn't/);

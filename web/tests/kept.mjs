@@ -76,6 +76,8 @@ async function closedTab() {
     await second.ready();
     same("a text typed in a closed tab is restored in the next one", await text(second), "# typed and lost\n");
     contains("a line says so", await said(second), /Restored: hello\.s as it was typed in a tab that was closed/);
+    const others = `Object.keys(localStorage).filter((it) => !it.startsWith("rvboard")).join()`;
+    same("which goes on with its entry", await second.run(others), "");
     const third = await page.beside(url);
     await third.ready();
     same("and in that one alone", await text(third), sourceOf("hello"));

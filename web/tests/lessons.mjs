@@ -1,12 +1,8 @@
-// node web/tests/lessons.mjs PROGRAM [FOLDER]: lessons by clicks and keys, beside what the built program prints.
-// With FOLDER, pictures of four states are written to it.
+// node web/tests/lessons.mjs PROGRAM: lessons by clicks and keys, beside what the built program prints.
 import fs from "node:fs";
 import { check, contains, same } from "./checks.mjs";
 import { answer, answers, choose, idle, lab, learn, native, open, page, printed } from "./user.mjs";
 import { sourceOf, top, typeOver, where } from "./user.mjs";
-
-const pictures = process.argv[3];
-const picture = (name) => pictures && page.picture(`${pictures}/${name}.png`);
 
 async function allExamples() {
     const files = fs.readdirSync(`${top}/examples`);
@@ -65,7 +61,6 @@ async function fault() {
         return text.value.slice(text.selectionStart, text.selectionEnd);
     })()`);
     same("its button selects that word", selected, "LI");
-    await picture("page-fault");
     await typeOver("LI", "li");
     await page.until(`document.querySelectorAll("#faults li").length === 0`);
     check("mended, no line is marked", !(await page.run(`!!document.querySelector("#gutter .fault")`)));
@@ -87,7 +82,6 @@ async function breakpoint() {
     await answers("step 5");
     await page.until(`/step 5$/.test(document.getElementById("where").textContent)`);
     contains("a step shows the register that it changed", await page.text("#registers .changed"), /t2/);
-    await picture("page-breakpoint");
     await page.alt("B");
     await answers("back at step 4");
     await page.until(`document.querySelector("#gutter .here")?.value === ${line}`);
@@ -152,7 +146,6 @@ async function interruptLine() {
     await page.click('#lines [value="5"]');
     await page.until(`document.querySelector('#lines [value="5"]').ariaChecked === "true"`);
     await idle();
-    await picture("page-devices");
     await page.alt("T");
     await answers("external interrupt");
     check("a line that is raised by hand is taken as an interrupt", true);
@@ -170,7 +163,6 @@ async function protection() {
     const rows = `[...document.querySelectorAll("#panel-protection tr")].map((it) => it.textContent)`;
     const row = (await page.run(rows)).find((it) => it.includes("80001018"));
     contains("the map shows where the task was stopped, and what it may do", row, /80001000 – 80001fff.*r-x/);
-    await picture("page-protection");
 }
 
 async function link() {

@@ -3,12 +3,14 @@
 import { check, same } from "./checks.mjs";
 import { answer, answers, choose, idle, learn, open, page, press, quoted, typeOver, where } from "./user.mjs";
 
-const TABS = ["control", "memory", "listing", "traps", "devices", "protection", "repeat"];
+const TABS = ["control", "memory", "stack", "listing", "instruction", "traps", "devices", "protection", "repeat"];
 // What stands in each tab, whatever the program.
 const SHOWN = {
     control: "mstatus",
     memory: "80000070",
+    stack: "sp is 00000000",
     listing: "Source",
+    instruction: "opcode",
     traps: "no trap",
     devices: "timer: mtime",
     protection: "serial port",
@@ -91,7 +93,7 @@ async function tabsInRun() {
         check(`${name} is shown in a run`, true);
     }
     await page.run(`document.getElementById("tab-devices").focus()`);
-    for (let i = 0; i < 15; i++) await page.press("ArrowRight");
+    for (let i = 0; i < 10; i++) await page.press("ArrowRight");
     await shows("protection");
     check("also after an arrow is held", true);
     await page.until(`!document.getElementById("progress").hidden`);

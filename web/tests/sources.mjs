@@ -58,7 +58,7 @@ async function labelled() {
     })()`);
     const row = `document.querySelector("#panel-memory tbody td:last-child")?.textContent`;
     await page.until(`${row}?.includes("first")`);
-    same("all labels of a line stand in memory", await page.run(row), "first, second, end +4");
+    same("all labels of a line stand in memory", await page.run(row), "◀ pc, first, second, end +4");
 }
 
 // Opens a link with these breakpoints, and returns how many are set.

@@ -1,14 +1,12 @@
 -- The words of the interrupt controller's registers, by their offsets.
-use Rattle.std.proofs.Common.{◌≡◌, ◌∙◌, ℕ, suc, ◌+◌, ◌-◌, ◌*◌, ◌/◌, ◌<◌, ◌≤◌, List, ◌++◌, refl, sym, ap, subst, arith}
-use Rattle.std.specs.List.{flat_map, range_with_len}
+use Rattle.std.proofs.Common.{◌≡◌, ◌∙◌, ℕ, zero, suc, ◌+◌, ◌-◌, ◌*◌, ◌/◌, ◌<◌, ◌≤◌, List, [], ◌∷◌, ◌++◌, map, refl, sym, ap, arith}
+use Rattle.std.specs.List.{range_with_len}
 use Rattle.std.proofs.lemmas.Bool.{le-leb, lt-ltb}
 use Rattle.rv_plic.specs.Gateways.{PlicState}
 use Rattle.rv_plic.specs.Plic.{at, priority_of}
 use Rattle.rv_plic.specs.Support.Registers.{reg_at}
 use Rattle.rv_plic.specs.Sources.{sources, word_of}
 use Rattle.rv_plic.proofs.Rows.{loads}
-use Rattle.rv_answers.specs.Answer.{Written, Appended}
-use Rattle.rv_answers.proofs.Pieces.{next_text, nothing, then}
 
 pub pending_word : (p : PlicState) → (at 0x1000).word p ≡ word_of p.pending
 unfolding reg_at
@@ -29,24 +27,30 @@ priority_word p s low high =
     loads p (4 * s) (omega arith)
     ∙ rw (le-leb 4 (4 * s) (omega (arith, low)), lt-ltb (4 * s) 128 (omega (arith, high)), same) refl
 
--- ---- the rows of the sources from 1 on
+-- what a function gives of some numbers and one more
+pub map_last : {A : Type 0} (f : ℕ → A) (a n : ℕ)
+    → map f (range_with_len a (suc n)) ≡ map f (range_with_len a n) ++ f (a + n) ∷ []
+map_last f a zero = let same : a ≡ a + 0 = omega arith in ap (λ k. f k ∷ []) same
+map_last f a (suc n) =
+    let same : a + 1 + n ≡ a + suc n = omega arith in
+    ap (λ xs. f a ∷ xs) (map_last f (a + 1) n ∙ ap (λ k. map f (range_with_len (a + 1) n) ++ f k ∷ []) same)
 
-pub no_rows : (f : ℕ → List ℕ) (a : Written) → Appended a a (flat_map f (range_with_len 1 0))
-no_rows f a = nothing a
+-- ---- all sources
 
-pub next_row : (f : ℕ → List ℕ) (n s : ℕ) (a b c : Written) → s ≡ n → 0 < n
-    → Appended a b (flat_map f (range_with_len 1 (n - 1))) → Appended b c (f s)
-    → Appended a c (flat_map f (range_with_len 1 (n + 1 - 1)))
-next_row f n s a b c is low o p =
+pub no_sources : {A : Type 0} (f : ℕ → A) → [] ≡ map f (range_with_len 1 0)
+no_sources f = refl
+
+pub next_source : {A : Type 0} (f : ℕ → A) (n s : ℕ) (xs ys : List A) → s ≡ n → 0 < n
+    → xs ≡ map f (range_with_len 1 (n - 1)) → ys ≡ xs ++ f s ∷ []
+    → ys ≡ map f (range_with_len 1 (n + 1 - 1))
+next_source f n s xs ys is low e h =
     let same : 1 + (n - 1) ≡ s = omega (arith, is, low) in
     let more : suc (n - 1) ≡ n + 1 - 1 = omega (arith, low) in
-    subst (Appended a c)
-    (ap (λ k. flat_map f (range_with_len 1 (n - 1)) ++ f k) (sym same)
-    ∙ (next_text f 1 (n - 1) ∙ ap (λ k. flat_map f (range_with_len 1 k)) more)) (then a b c _ _ o p)
+    h ∙ (ap (λ zs. zs ++ f s ∷ []) e ∙ (ap (λ k. map f (range_with_len 1 (n - 1)) ++ f k ∷ []) (sym same)
+    ∙ (sym (map_last f 1 (n - 1)) ∙ ap (λ k. map f (range_with_len 1 k)) more)))
 
-pub all_rows : (f : ℕ → List ℕ) (n : ℕ) (a b : Written) → 32 ≤ n → n ≤ 32
-    → Appended a b (flat_map f (range_with_len 1 (n - 1))) → Appended a b (flat_map f sources)
+pub all_sources : {A : Type 0} (f : ℕ → A) (n : ℕ) (xs : List A) → 32 ≤ n → n ≤ 32
+    → xs ≡ map f (range_with_len 1 (n - 1)) → xs ≡ map f sources
 unfolding sources
-all_rows f n a b low high o =
-    let all : n - 1 ≡ 31 = omega (arith, low, high) in
-    subst (λ k. Appended a b (flat_map f (range_with_len 1 k))) all o
+all_sources f n xs low high e =
+    let all : n - 1 ≡ 31 = omega (arith, low, high) in e ∙ ap (λ k. map f (range_with_len 1 k)) all

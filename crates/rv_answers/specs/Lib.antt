@@ -1,12 +1,4 @@
-pub mod Answer
-pub mod Control
-pub mod Devices
-pub mod Forms
-pub mod Interrupts
+pub mod Printer
 pub mod Memory
-pub mod Places
-pub mod Protection
-pub mod Registers
-pub mod Shown
+pub mod States
 pub mod Support
-pub mod Traps

@@ -1,203 +1,90 @@
-//! The text of an answer.
-use itoa::Buffer;
-use rv_base::{byte_digits, word_digits};
-use rv_isa::{Instr, write_instr};
-use std::alloc::Global;
-use std::marker::Model;
+//! The answer to a command.
+use crate::many::Many;
+use crate::rows::Row;
+use crate::values::{
+    ControlValue, Devices, Dump, Edges, Place, RegisterFile, RegisterValue, Standing, Trap,
+};
 
-/// A text that answers are appended to. Where memory runs out it takes nothing more, and remembers that.
-pub struct Answer {
-    alloc: Global,
-    bytes: Vec<u8>,
-    is_cut: bool,
+/// The commands that look and may be refused.
+#[derive(Clone, Copy)]
+pub enum Look {
+    /// `r`
+    Registers,
+    /// `p`
+    ControlRegister,
+    /// `m`
+    Memory,
+    /// `i`
+    Instruction,
+    /// `l`
+    List,
+    /// `e`
+    Edges,
 }
 
-// Hand-written: a derived `Drop` would be proved anew at each exit (docs/PROVING.md).
-impl Drop for Answer {
-    fn drop(self) {
-        let Answer {
-            alloc: _,
-            bytes: _,
-            is_cut: _,
-        } = self;
-    }
+/// Why the operands of a command have no meaning.
+#[derive(Clone, Copy)]
+pub enum Why {
+    /// The word is no address.
+    NoAddress,
+    /// A word that is an address is missing.
+    Missing,
+    /// The words are no number of bytes or words, and no way to show them.
+    NoExtent,
+    /// No line of the source is at the address.
+    NoLine(u32),
+    /// The words are no number of lines.
+    NoCount,
+    /// The text names no register.
+    NoRegister,
+    /// The word names no control register.
+    NoControlRegister,
+    /// The text is no number of a source that is triggered by edges.
+    NoEdgeSource,
 }
 
-impl Model for Answer {
-    ghost use Rattle.rv_answers.specs.Answer.{Written};
-
-    ghost Value = { Written };
-
-    ghost view = { λ a. record { bytes = a.bytes.items; is_cut = a.is_cut } };
+/// A command whose operands have no meaning.
+#[derive(Drop)]
+pub struct Refusal {
+    /// The command.
+    pub look: Look,
+    /// The operand that has none.
+    pub text: Many<u8>,
+    /// Why it has none.
+    pub why: Why,
 }
 
-impl Answer {
-    ghost use Rattle.std.specs.Prelude.{◌≡◌, [], ◌∷◌, ◌++◌, true, false, codes, replicate};
-    ghost use Rattle.std.specs.Fmt.{decimal, signed_decimal};
-    ghost use Rattle.rv_base.specs.Digits.{hex};
-    ghost use Rattle.rv_isa.specs.Text.{text};
-    ghost use Rattle.rv_answers.specs.Answer.{Appended, padded};
-
-    /// Returns an empty answer. It doesn't allocate.
-    pub fn new(alloc: Global) -> Answer
-        ensures { result ≡ record { bytes = []; is_cut = false } }
-    {
-        Answer {
-            alloc,
-            bytes: Vec::new(alloc),
-            is_cut: false,
-        }
-    }
-
-    /// Returns the text.
-    pub fn bytes(&self) -> &[u8]
-        ensures { result.now ≡ self.now.bytes }
-    {
-        self.bytes.as_slice()
-    }
-
-    /// Whether memory ran out, so that a piece is missing at the end.
-    pub fn is_cut(&self) -> bool
-        ensures { result ≡ self.now.is_cut }
-    {
-        self.is_cut
-    }
-
-    /// Makes the answer empty.
-    pub fn clear(&mut self)
-        ensures { self.new ≡ record { bytes = []; is_cut = false } }
-    {
-        self.bytes.clear();
-        self.is_cut = false;
-    }
-
-    /// Returns the allocator.
-    pub fn alloc(&self) -> Global {
-        self.alloc
-    }
-
-    /// Notes that memory ran out, so that a piece is missing at the end.
-    pub fn cut(&mut self)
-        ensures { self.new ≡ record self.old { is_cut = true } }
-    {
-        self.is_cut = true;
-    }
-
-    /// Appends a piece.
-    pub fn put(&mut self, piece: &[u8])
-        ensures { Appended self.old self.new piece.now }
-    {
-        if self.is_cut {
-            return;
-        }
-        self.is_cut = self.bytes.extend_from_slice(piece).is_err();
-    }
-
-    /// Appends a text.
-    pub fn say(&mut self, text: &str)
-        ensures { Appended self.old self.new text.now }
-    {
-        self.put(text.as_bytes());
-    }
-
-    /// Appends a byte.
-    pub fn byte(&mut self, byte: u8)
-        ensures { Appended self.old self.new (byte ∷ []) }
-    {
-        self.put(&[byte]);
-    }
-
-    /// Appends the eight hexadecimal digits of a word.
-    pub fn word(&mut self, word: u32)
-        ensures { Appended self.old self.new (hex 8 word) }
-    {
-        self.put(&word_digits(word));
-    }
-
-    /// Appends the two hexadecimal digits of a byte.
-    pub fn digits(&mut self, byte: u8)
-        ensures { Appended self.old self.new (hex 2 byte) }
-    {
-        self.put(&byte_digits(byte));
-    }
-
-    /// Appends a number in decimal.
-    pub fn number(&mut self, number: u64)
-        ensures { Appended self.old self.new (decimal number) }
-    {
-        let mut buffer = Buffer::new();
-        self.put(buffer.format(number).as_bytes());
-    }
-
-    /// Appends a signed number in decimal.
-    pub fn signed(&mut self, number: i32)
-        ensures { Appended self.old self.new (signed_decimal number) }
-    {
-        let mut buffer = Buffer::new();
-        self.put(buffer.format(number).as_bytes());
-    }
-
-    /// Appends `count` spaces.
-    #[tactic(auto, using(crate::proofs::Pieces::nothing))]
-    pub fn spaces(&mut self, count: usize)
-        ensures { Appended self.old self.new (replicate count 32) }
-    {
-        for _ in 0..count {
-            self.byte(b' ');
-        }
-    }
-
-    /// Appends a text, and spaces up to a width.
-    #[tactic(auto, using(crate::proofs::Pieces::then))]
-    pub fn padded(&mut self, text: &[u8], width: usize)
-        ensures { Appended self.old self.new (padded width text.now) }
-    {
-        self.put(text);
-        self.spaces(width.saturating_sub(text.len()));
-    }
-
-    /// Appends the number of a line and a colon, and spaces up to a width.
-    #[tactic(auto, using(crate::proofs::Pieces::then, crate::proofs::Pieces::numbered))]
-    pub fn line_number(&mut self, number: usize)
-        ensures { Appended self.old self.new (padded 6 (decimal number ++ codes ":")) }
-    {
-        let mut buffer = Buffer::new();
-        let digits = buffer.format(number).as_bytes();
-        let width = 5usize.saturating_sub(digits.len());
-        self.put(digits);
-        self.put(b":");
-        self.spaces(width);
-    }
-
-    /// Appends that a text isn't what a command wants, and why.
-    pub fn refuse(&mut self, command: &str, text: &[u8], why: &str) {
-        self.say(command);
-        self.say(": `");
-        self.put(text);
-        self.say("` ");
-        self.say(why);
-    }
-
-    /// Ends a line with where to find an example of a command.
-    pub fn see_help(&mut self, command: &str) {
-        self.say("; `help ");
-        self.say(command);
-        self.say("` has an example\n");
-    }
-
-    /// Ends the line.
-    pub fn end(&mut self)
-        ensures { Appended self.old self.new (codes "\n") }
-    {
-        self.put(b"\n");
-    }
-
-    /// Appends the text of an instruction.
-    pub fn instruction(&mut self, instr: Instr)
-        ensures { Appended self.old self.new (text instr) }
-    {
-        if !self.is_cut {
-            self.is_cut = write_instr(instr, &mut self.bytes).is_err();
-        }
-    }
+/// What a command answers.
+#[derive(Drop)]
+pub enum Answer {
+    /// A text, of a command whose answer is no value yet.
+    Text(Many<u8>),
+    /// `w`
+    Where(Standing),
+    /// `r`
+    Registers(RegisterFile),
+    /// `r` of a register
+    Register(RegisterValue),
+    /// `p`
+    ControlRegister(ControlValue),
+    /// `m`
+    Memory(Dump),
+    /// `i`
+    Instruction(Place),
+    /// `l`, and an empty line after it
+    List(Many<Row>),
+    /// `l` where it would begin behind the last line, with the number of lines
+    BehindLast(usize),
+    /// An empty line after `l` where no line follows
+    WasLast,
+    /// `b` alone: all breakpoints, in the order of their addresses
+    Breakpoints(Many<Place>),
+    /// `t`: the last traps, the oldest first
+    Traps(Many<Trap>),
+    /// `e`
+    Edges(Edges),
+    /// `dev`
+    Devices(Devices),
+    /// The operands of a command have no meaning.
+    Refused(Refusal),
 }

@@ -56,7 +56,7 @@ fn read_format(text: &[u8]) -> Option<(Format, u64)>
 }
 
 /// Reads how many bytes or words are shown, and how.
-#[tactic(auto, using(crate::proofs::Filled::extent_told))]
+#[tactic(auto, using(crate::proofs::Formats::extent_told))]
 pub fn read_extent(text: &[u8]) -> Option<Extent>
     ensures value { result ≡ extent (words text.now) }
     ensures most { IfSome result (λ e. e.count ≤ 4096) }

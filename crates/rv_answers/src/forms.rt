@@ -1,17 +1,12 @@
 //! Forms of texts, with places for values.
-ghost use Rattle.std.specs.Prelude.{◌≡◌, ◌≤◌, ◌==◌, length};
-ghost use Rattle.std.specs.List.{after_first, before_first, position_or_len};
-ghost use Rattle.rv_answers.specs.Answer.{Appended};
-ghost use Rattle.rv_answers.specs.Forms.{filled};
-ghost use Rattle.rv_answers.specs.Support.Parts.{choice, piece_by};
+ghost use Rattle.std.specs.Prelude.{◌≤◌, length};
 
-use crate::Answer;
+use crate::Printer;
 use rv_base::low_word;
 
 /// Returns the index of the first of a byte, or the length of the text.
 fn place_of(text: &[u8], sign: u8) -> usize
-    ensures value { result ≡ position_or_len (λ b. b == sign) text.now }
-    ensures within { result ≤ length text.now }
+    ensures { result ≤ length text.now }
 {
     match text {
         [byte, rest @ ..] if *byte != sign => 1 + place_of(rest, sign),
@@ -20,19 +15,13 @@ fn place_of(text: &[u8], sign: u8) -> usize
 }
 
 /// Splits a text at the first of a byte, which is in neither part.
-fn cut<'a>(text: &'a [u8], sign: u8) -> (&'a [u8], &'a [u8])
-    ensures before { result.0.now ≡ before_first (λ b. b == sign) text.now }
-    ensures after { result.1.now ≡ after_first (λ b. b == sign) text.now }
-{
+fn cut<'a>(text: &'a [u8], sign: u8) -> (&'a [u8], &'a [u8]) {
     let (before, from) = text.split_at(place_of(text, sign));
     (before, from.split_at(from.len().min(1)).1)
 }
 
 /// Returns the text with a number, counted from 0, of those with `|` between them, or the last one.
-#[tactic(auto, using(crate::proofs::Pieced::first_choice, crate::proofs::Pieced::only_choice, crate::proofs::Pieced::later_choice))]
-fn choice(texts: &[u8], number: u64) -> &[u8]
-    ensures { result.now ≡ choice texts.now number }
-{
+fn choice(texts: &[u8], number: u64) -> &[u8] {
     let (first, others) = cut(texts, b'|');
     if number == 0 || first.len() == texts.len() {
         return first;
@@ -40,13 +29,10 @@ fn choice(texts: &[u8], number: u64) -> &[u8]
     choice(others, number - 1)
 }
 
-impl Answer {
+impl Printer {
     /// Appends a form with a value in the place of each of its `%`: of `%d` in decimal, of `%x` as a word in
     /// hexadecimal, and of `%{no|one|more}` the text whose number, from 0, it is, or the last one.
-    #[tactic(auto, using(crate::proofs::Pieces::nothing, crate::proofs::Pieced::from_first, crate::proofs::Pieced::from_next))]
-    pub fn fill(&mut self, form: &str, values: &[u64])
-        ensures { Appended self.old self.new (filled form.now values.now) }
-    {
+    pub fn fill(&mut self, form: &str, values: &[u64]) {
         let (first, mut rest) = cut(form.as_bytes(), b'%');
         self.put(first);
         for value in values {
@@ -57,10 +43,7 @@ impl Answer {
     }
 
     /// Appends what follows a `%` of a form, with a value in its place.
-    #[tactic(auto, using(crate::proofs::Pieces::then, crate::proofs::Pieces::nothing))]
-    fn put_piece(&mut self, text: &[u8], value: u64)
-        ensures { Appended self.old self.new (piece_by text.now value) }
-    {
+    fn put_piece(&mut self, text: &[u8], value: u64) {
         match text {
             [b'd', rest @ ..] => {
                 self.number(value);

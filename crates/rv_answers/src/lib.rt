@@ -1,34 +1,37 @@
-//! The texts of the lab's answers: pieces that are appended one after another, rows of a list of the source,
-//! labels and instructions.
+//! What the lab answers, as values, and the one renderer of their text.
 #![tactic(auto)]
 
 mod answer;
-mod control;
 mod devices;
 mod extent;
 mod forms;
-mod interrupts;
+mod many;
 mod memory;
 mod places;
-mod protection;
+mod printer;
 mod registers;
+mod render;
 mod rows;
 mod shown;
 mod standing;
+mod states;
 mod traps;
+mod values;
 
-pub use answer::Answer;
-pub use control::{append_bits, has_bit};
-pub use devices::{append_controller, append_serial, append_timer};
+pub use answer::{Answer, Look, Refusal, Why};
+pub use devices::threshold;
 pub use extent::{Extent, Format, read_extent};
-pub use interrupts::{Interrupts, append_interrupts};
-pub use memory::{append_bytes_row, append_escaped, append_words_row, escapes};
-pub use places::{append_instruction, append_label, append_line_number, line_text, lines_from};
-pub use protection::{append_entry, append_protection};
-pub use registers::{
-    Registers, append_changes, append_register, append_registers, append_value, register_name,
+pub use many::{Many, push};
+pub use memory::{append_escaped, escapes};
+pub use places::append_instruction;
+pub use printer::Printer;
+pub use registers::{append_changes, append_register, append_value, register_name};
+pub use render::{Lines, append_answer, append_region};
+pub use rows::Row;
+pub use standing::append_halted;
+pub use states::{bits_of, clock_of, has_bit, port_of, region_of, regions_of, sources_of};
+pub use traps::append_cause;
+pub use values::{
+    Bits, Cells, Clock, ControlValue, Devices, Dump, Edges, Interrupts, Place, Port, Range, Region,
+    RegisterFile, RegisterValue, Registers, Rights, SourceState, Standing, Trap,
 };
-pub use rows::{Row, append_length, append_row};
-pub use shown::append_shown;
-pub use standing::{append_halted, append_mode, append_step};
-pub use traps::{append_cause, append_times, append_trap, cause_name};

@@ -1,24 +1,15 @@
 //! Rows of memory: bytes with their characters, and words; and bytes as they stand in a string.
-ghost use Rattle.std.specs.Prelude.{◌≡◌, ◌==◌, ◌-◌, ◌*◌, ◌∷◌, ◌++◌, [], codes, find, if◌then◌else◌, length, map, replicate};
-ghost use Rattle.std.specs.Int.{is_in_range};
-ghost use Rattle.std.specs.List.{flat_map};
-ghost use Rattle.std.specs.Option.{option_map};
-ghost use Rattle.rv_base.specs.Digits.{hex};
+ghost use Rattle.std.specs.Prelude.{◌≡◌};
 ghost use Rattle.rv_base.specs.Tables.{rows};
-ghost use Rattle.rv_answers.specs.Answer.{Appended};
-ghost use Rattle.rv_answers.specs.Memory.{bytes_row, escaped, escapes, words_row};
-ghost use Rattle.rv_answers.specs.Support.Parts.{byte_cell, character, word_cell};
+ghost use Rattle.rv_answers.specs.Memory.{escapes};
 
-use crate::Answer;
+use crate::Printer;
 
 /// The number of bytes in a row.
 const ROW_BYTES: usize = 16;
 
 /// Appends a byte of memory, or `--` where there is none.
-#[tactic(auto, using(crate::proofs::Pieces::then))]
-fn append_byte(byte: Option<u8>, answer: &mut Answer)
-    ensures { Appended answer.old answer.new (byte_cell byte) }
-{
+fn append_byte(byte: Option<u8>, answer: &mut Printer) {
     match byte {
         Some(byte) => answer.digits(byte),
         None => answer.say("--"),
@@ -26,89 +17,50 @@ fn append_byte(byte: Option<u8>, answer: &mut Answer)
     answer.say(" ");
 }
 
-/// Appends bytes of memory.
-#[tactic(auto, using(crate::proofs::Pieces::nothing))]
-fn append_bytes(bytes: &[Option<u8>], answer: &mut Answer)
-    ensures { Appended answer.old answer.new (flat_map byte_cell bytes.now) }
-{
-    for byte in bytes {
-        append_byte(*byte, answer);
-    }
-}
-
 /// Returns a byte as a character, or a dot.
-fn character(byte: Option<u8>) -> u8
-    ensures { result ≡ character byte }
-{
+fn character(byte: Option<u8>) -> u8 {
     match byte {
         Some(byte @ 32..=126) => byte,
         _ => b'.',
     }
 }
 
-/// Appends bytes of memory as characters.
-#[tactic(auto, using(crate::proofs::Pieces::nothing))]
-fn append_characters(bytes: &[Option<u8>], answer: &mut Answer)
-    ensures { Appended answer.old answer.new (map character bytes.now) }
-{
-    for byte in bytes {
-        answer.byte(character(*byte));
-    }
-}
-
 /// Appends an address and the bytes there, and spaces for those that are missing to a row.
-#[tactic(auto, using(crate::proofs::Pieces::then))]
-fn append_cells(address: u32, bytes: &[Option<u8>], answer: &mut Answer)
-    ensures { Appended answer.old answer.new (hex 8 address ++ codes ": " ++ flat_map byte_cell bytes.now
-        ++ replicate (3 * (16 - length bytes.now)) 32) }
-{
+fn append_cells(address: u32, bytes: &[Option<u8>], answer: &mut Printer) {
     answer.word(address);
     answer.say(": ");
-    append_bytes(bytes, answer);
+    for byte in bytes {
+        append_byte(*byte, answer);
+    }
     answer.spaces(3 * ROW_BYTES.saturating_sub(bytes.len()));
 }
 
 /// Appends a row of at most 16 bytes: the address, the bytes, and their characters.
-#[tactic(auto, using(crate::proofs::Pieces::then), unfolding(crate::specs::Memory::bytes_row))]
-pub fn append_bytes_row(address: u32, bytes: &[Option<u8>], answer: &mut Answer)
-    ensures { Appended answer.old answer.new (bytes_row address bytes.now) }
-{
+pub(crate) fn append_bytes_row(address: u32, bytes: &[Option<u8>], answer: &mut Printer) {
     append_cells(address, bytes, answer);
     answer.say(" ");
-    append_characters(bytes, answer);
+    for byte in bytes {
+        answer.byte(character(*byte));
+    }
     answer.end();
 }
 
 /// Appends a word of memory, or `--------` where there is none.
-#[tactic(auto, using(crate::proofs::Pieces::then))]
-fn append_word(word: Option<u32>, answer: &mut Answer)
-    ensures { Appended answer.old answer.new (word_cell word) }
-{
-    answer.say(" ");
+pub(crate) fn append_word(word: Option<u32>, answer: &mut Printer) {
     match word {
         Some(word) => answer.word(word),
         None => answer.say("--------"),
     }
 }
 
-/// Appends words of memory.
-#[tactic(auto, using(crate::proofs::Pieces::nothing))]
-fn append_words(words: &[Option<u32>], answer: &mut Answer)
-    ensures { Appended answer.old answer.new (flat_map word_cell words.now) }
-{
-    for word in words {
-        append_word(*word, answer);
-    }
-}
-
 /// Appends a row of words: the address, and the words.
-#[tactic(auto, using(crate::proofs::Pieces::then), unfolding(crate::specs::Memory::words_row))]
-pub fn append_words_row(address: u32, words: &[Option<u32>], answer: &mut Answer)
-    ensures { Appended answer.old answer.new (words_row address words.now) }
-{
+pub(crate) fn append_words_row(address: u32, words: &[Option<u32>], answer: &mut Printer) {
     answer.word(address);
     answer.say(":");
-    append_words(words, answer);
+    for word in words {
+        answer.say(" ");
+        append_word(*word, answer);
+    }
     answer.end();
 }
 
@@ -131,10 +83,7 @@ pub fn escapes() -> &'static [(&'static str, u8)]
 }
 
 /// Returns what stands for a byte after a backslash in a table, if it is there.
-fn escape_in(table: &'static [(&'static str, u8)], byte: u8) -> Option<&'static str>
-    ensures { option_map (λ s. s.now) result
-        ≡ option_map (λ row. row.0) (find (λ row. row.1 == byte) (rows table.now)) }
-{
+fn escape_in(table: &'static [(&'static str, u8)], byte: u8) -> Option<&'static str> {
     let [row, rest @ ..] = table else {
         return None;
     };
@@ -145,10 +94,7 @@ fn escape_in(table: &'static [(&'static str, u8)], byte: u8) -> Option<&'static 
 }
 
 /// Appends a byte that has no escape: as it is, or as `\x` and its digits.
-#[tactic(auto, using(crate::proofs::Pieces::then))]
-fn append_plain(byte: u8, answer: &mut Answer)
-    ensures { Appended answer.old answer.new (if is_in_range 32 126 byte then byte ∷ [] else codes "\\x" ++ hex 2 byte) }
-{
+fn append_plain(byte: u8, answer: &mut Printer) {
     match byte {
         32..=126 => answer.byte(byte),
         _ => {
@@ -159,10 +105,7 @@ fn append_plain(byte: u8, answer: &mut Answer)
 }
 
 /// Appends a byte as it stands in a string of the language.
-#[tactic(auto, using(crate::proofs::Pieces::then), unfolding(crate::specs::Memory::escaped))]
-pub fn append_escaped(byte: u8, answer: &mut Answer)
-    ensures { Appended answer.old answer.new (escaped byte) }
-{
+pub fn append_escaped(byte: u8, answer: &mut Printer) {
     match escape_in(escapes(), byte) {
         Some(escape) => {
             answer.say("\\");

@@ -1,17 +1,9 @@
 //! Texts that others wrote, as they are shown in a terminal.
-ghost use Rattle.std.specs.Prelude.{◌≡◌, ◌&&◌, slice_index_or};
-ghost use Rattle.rv_answers.specs.Answer.{Appended};
-ghost use Rattle.rv_answers.specs.Shown as spec;
-ghost use Rattle.rv_answers.specs.Shown.{shown, shown_from};
+use crate::Printer;
 
-use crate::Answer;
-
-/// Returns how many bytes a character has that begins with these two, or 0 where none does or one that is a
-/// control.
-#[tactic(auto, unfolding(crate::specs::Shown::long_size))]
-fn long_size(first: u8, second: u8) -> usize
-    ensures { result ≡ spec.long_size first second }
-{
+/// Returns how many bytes a character has that begins with these two in UTF-8 (The Unicode Standard 15.0, table
+/// 3-7), or 0 where none does or one that is a control.
+fn long_size(first: u8, second: u8) -> usize {
     match (first, second) {
         (0xc2, 0xa0..=0xbf) | (0xc3..=0xdf, 0x80..=0xbf) => 2,
         (0xe0, 0xa0..=0xbf) | (0xed, 0x80..=0x9f) => 3,
@@ -22,9 +14,7 @@ fn long_size(first: u8, second: u8) -> usize
 }
 
 /// Returns a byte of a text, or 0 behind its end.
-fn byte_at(text: &[u8], index: usize) -> u8
-    ensures { result ≡ slice_index_or text.now index 0 }
-{
+fn byte_at(text: &[u8], index: usize) -> u8 {
     match text.get(index) {
         Some(byte) => *byte,
         None => 0,
@@ -32,17 +22,12 @@ fn byte_at(text: &[u8], index: usize) -> u8
 }
 
 /// Returns whether a byte is one of a character behind its second.
-fn is_last(text: &[u8], index: usize) -> bool
-    ensures { result ≡ spec.is_last text.now index }
-{
+fn is_last(text: &[u8], index: usize) -> bool {
     matches!(byte_at(text, index), 0x80..=0xbf)
 }
 
 /// Returns how many bytes the character at the beginning of a text has that is shown as it is, or 0.
-#[tactic(auto, unfolding(crate::specs::Shown::plain_size))]
-fn plain_size(text: &[u8]) -> usize
-    ensures { result ≡ spec.plain_size text.now }
-{
+fn plain_size(text: &[u8]) -> usize {
     let first = byte_at(text, 0);
     if matches!(first, b'\t' | b' '..=b'~') {
         return 1;
@@ -58,10 +43,7 @@ fn plain_size(text: &[u8]) -> usize
 }
 
 /// Appends a text whose first bytes, `inside` of them, are the last of a character.
-#[tactic(auto, using(crate::proofs::Pieces::then, crate::proofs::Pieces::nothing), unfolding(crate::specs::Shown::shown_from))]
-fn append_from(inside: usize, text: &[u8], answer: &mut Answer)
-    ensures { Appended answer.old answer.new (shown_from inside text.now) }
-{
+fn append_from(inside: usize, text: &[u8], answer: &mut Printer) {
     let [byte, rest @ ..] = text else {
         return;
     };
@@ -81,8 +63,6 @@ fn append_from(inside: usize, text: &[u8], answer: &mut Answer)
 
 /// Appends a text that others wrote: a byte that may drive a terminal, and one that is in no character, is
 /// told by its digits.
-pub fn append_shown(text: &[u8], answer: &mut Answer)
-    ensures { Appended answer.old answer.new (shown text.now) }
-{
+pub(crate) fn append_shown(text: &[u8], answer: &mut Printer) {
     append_from(0, text, answer);
 }

@@ -1,6 +1,6 @@
--- What is said of all lines by lists of their numbers is the same by recursion on a number.
-use Rattle.std.proofs.Common.{◌≡◌, ℕ, zero, suc, ◌+◌, List, [], ◌∷◌, ◌++◌, length, refl, ap, ◌∙◌, arith, append-nil, add-zero}
-use Rattle.std.specs.Prelude.{map, is_some, Option, Some, None, slice_get}
+-- What is said of all lines, line by line.
+use Rattle.std.proofs.Common.{◌≡◌, ℕ, zero, suc, ◌+◌, ◌-◌, ◌<◌, ◌≤◌, List, [], ◌∷◌, ◌++◌, length, refl, sym, ap, ◌∙◌, arith, append-nil, add-zero}
+use Rattle.std.specs.Prelude.{map, is_some, Option, Some, None, slice_get, Result, Ok, Err}
 use Rattle.std.specs.Option.{option_map, option_map_or, option_or, unwrap_or}
 use Rattle.std.specs.Result.{result_unwrap_or}
 use Rattle.std.specs.List.{flat_map, filter_map, cons_option, range_with_len, find}
@@ -8,112 +8,155 @@ use Rattle.std.proofs.lemmas.Grind.{flat_map-append}
 use Rattle.std.proofs.lemmas.List.{map-append}
 use Rattle.std.proofs.lemmas.List.Elements.{filter_map-append}
 use Rattle.rv_base.specs.Lines.{lines}
+use Rattle.rv_program.specs.Program.{Assembly}
 use Rattle.rv_program.specs.declared.fault.FaultKind.{FaultKind}
 use Rattle.rv_program.specs.declared.fault.AsmFault.{AsmFault}
-use Rattle.rv_asm.specs.Layout.{phase_two_fault}
-use Rattle.rv_asm.specs.Assembly.{all_parsed, assembled, faults_in, line_bytes}
-use Rattle.rv_asm.specs.Support.Counted.{phase_three_fault, first, joined, up_to, first_fault, assembled_by, all_faults, faults_of_phases, unless_faulty, first_of, phase_one_fault}
+use Rattle.rv_asm.specs.Layout.{definitions, phase_two_fault}
+use Rattle.rv_asm.specs.Assembly.{all_parsed, assembled, line_bytes}
+use Rattle.rv_asm.specs.Support.Counted.{joined, up_to, all_faults, faults_at, phase_one_fault, phase_three_fault}
 
 -- ---- numbers
 
-range_more : (a n : ℕ) → range_with_len a (suc n) ≡ range_with_len a n ++ (a + n) ∷ []
-range_more a zero = rw add-zero refl
-range_more a (suc n) =
+range_parts : (a n m : ℕ) → range_with_len a (n + m) ≡ range_with_len a n ++ range_with_len (a + n) m
+range_parts a zero m = let e : 0 + m ≡ m = omega arith in rw (e, add-zero) refl
+range_parts a (suc n) m =
     let e : (a + 1) + n ≡ a + suc n = omega arith in
-    ap (λ xs. a ∷ xs) (range_more (a + 1) n ∙ ap (λ k. range_with_len (a + 1) n ++ k ∷ []) e)
+    let f : suc n + m ≡ suc (n + m) = omega arith in
+    rw f (ap (λ xs. a ∷ xs) (range_parts (a + 1) n m ∙ ap (λ k. range_with_len (a + 1) n ++ range_with_len k m) e))
 
-pub joined_is : {A : Type 0} (f : ℕ → List A) (n : ℕ) → flat_map f (range_with_len 0 n) ≡ joined f n
+range_more : (n : ℕ) → range_with_len 0 (suc n) ≡ range_with_len 0 n ++ n ∷ []
+range_more n =
+    let e : n + 1 ≡ suc n = omega arith in
+    let z : 0 + n ≡ n = omega arith in
+    rw (e, z) at (range_parts 0 n 1)
+
+range_before : (n m : ℕ) → n ≤ m → range_with_len 0 m ≡ range_with_len 0 n ++ range_with_len n (m - n)
+range_before n m h =
+    let e : n + (m - n) ≡ m = omega arith in
+    let z : 0 + n ≡ n = omega arith in
+    rw (e, z) at (range_parts 0 n (m - n))
+
+pub joined_none : {A : Type 0} (f : ℕ → List A) → joined f 0 ≡ []
 unfolding joined
-joined_is f zero = refl
-joined_is f (suc n) =
-    let e : 0 + n ≡ n = omega arith in
-    ap (flat_map f) (range_more 0 n)
-    ∙ (flat_map-append f (range_with_len 0 n) ((0 + n) ∷ [])
-    ∙ rw (joined_is f n, e, append-nil) refl)
+joined_none f = refl
 
-pub up_to_is : (f : ℕ → ℕ) (n : ℕ) → map f (range_with_len 0 (suc n)) ≡ up_to f n
+pub joined_more : {A : Type 0} (f : ℕ → List A) (n : ℕ) → joined f (suc n) ≡ joined f n ++ f n
+unfolding joined
+joined_more f n =
+    ap (flat_map f) (range_more n)
+    ∙ flat_map-append f (range_with_len 0 n) (n ∷ [])
+    ∙ ap (λ xs. flat_map f (range_with_len 0 n) ++ xs) (append-nil (f n))
+
+pub joined_same : {A : Type 0} (f g : ℕ → List A) (n : ℕ) → ((k : ℕ) → k < n → f k ≡ g k) →
+    joined f n ≡ joined g n
+joined_same f g zero h = joined_none f ∙ sym (joined_none g)
+joined_same f g (suc n) h =
+    rw (joined_more f n, joined_more g n, joined_same f g n (λ k p. h k (omega (arith, p))), h n (omega arith)) refl
+
+pub up_to_more : (f : ℕ → ℕ) (n : ℕ) → up_to f (suc n) ≡ up_to f n ++ f (suc n) ∷ []
 unfolding up_to
-up_to_is f zero = refl
-up_to_is f (suc n) =
-    let e : 0 + suc n ≡ suc n = omega arith in
-    ap (map f) (range_more 0 (suc n))
-    ∙ (map-append f (range_with_len 0 (suc n)) ((0 + suc n) ∷ [])
-    ∙ (ap (λ xs. xs ++ f (0 + suc n) ∷ []) (up_to_is f n) ∙ ap (λ k. up_to f n ++ f k ∷ []) e))
+up_to_more f n = ap (map f) (range_more (suc n)) ∙ map-append f (range_with_len 0 (suc n)) (suc n ∷ [])
+
+-- what is joined of n numbers, before the others
+pub joined_before : {A : Type 0} (f : ℕ → List A) (n m : ℕ) → n ≤ m →
+    joined f m ≡ joined f n ++ flat_map f (range_with_len n (m - n))
+unfolding joined
+joined_before f n m h =
+    ap (flat_map f) (range_before n m h)
+    ∙ flat_map-append f (range_with_len 0 n) (range_with_len n (m - n))
 
 -- ---- faults
-
-one_fault : (k : ℕ) (o : Option FaultKind) →
-    ◌≡◌ {A = List AsmFault} (cons_option (option_map (λ kind. record { line = suc k; kind = kind }) o) [])
-    (option_map_or (λ kind. record { line = suc k; kind = kind } ∷ []) o [])
-one_fault k None = refl
-one_fault k (Some kind) = refl
 
 abbrev fault_at : (ℕ → Option FaultKind) → ℕ → Option AsmFault
 fault_at fault k = option_map (λ kind. record { line = suc k; kind = kind }) (fault k)
 
-pub faults_are : (fault : ℕ → Option FaultKind) (n : ℕ) → faults_in fault n ≡ all_faults fault n
-unfolding joined
-faults_are fault zero = refl
-faults_are fault (suc n) =
-    let e : 0 + n ≡ n = omega arith in
-    ap (filter_map (fault_at fault)) (range_more 0 n)
-    ∙ (filter_map-append (fault_at fault) (range_with_len 0 n) ((0 + n) ∷ [])
-    ∙ rw (faults_are fault n, e, one_fault n (fault n)) refl)
+one_fault : (k : ℕ) (o : Option FaultKind) →
+    cons_option (option_map (λ kind. record { line = suc k; kind = kind }) o) [] ≡ faults_at k o
+one_fault k None = refl
+one_fault k (Some kind) = refl
 
-first_append : (xs ys : List AsmFault) → first_of (xs ++ ys) ≡ option_or (first_of xs) (first_of ys)
+pub faults_none : (fault : ℕ → Option FaultKind) → all_faults fault 0 ≡ []
+unfolding all_faults
+faults_none fault = refl
+
+pub faults_more : (fault : ℕ → Option FaultKind) (n : ℕ) →
+    all_faults fault (suc n) ≡ all_faults fault n ++ faults_at n (fault n)
+unfolding all_faults
+faults_more fault n =
+    ap (filter_map (fault_at fault)) (range_more n)
+    ∙ filter_map-append (fault_at fault) (range_with_len 0 n) (n ∷ [])
+    ∙ ap (λ xs. filter_map (fault_at fault) (range_with_len 0 n) ++ xs) (one_fault n (fault n))
+
+pub first_append : (xs ys : List AsmFault) → slice_get (xs ++ ys) 0 ≡ option_or (slice_get xs 0) (slice_get ys 0)
 first_append [] ys = refl
 first_append (x ∷ xs) ys = refl
 
-first_listed : (k : ℕ) (fault : Option FaultKind)
-    → first_of (option_map_or (λ kind. record { line = suc k; kind = kind } ∷ []) fault [])
-    ≡ option_map (λ kind. record { line = suc k; kind = kind }) fault
-first_listed k None = refl
-first_listed k (Some kind) = refl
+left_nil : {A : Type 0} (xs ys : List A) → xs ++ ys ≡ [] → xs ≡ []
+left_nil [] ys h = refl
+left_nil (x ∷ xs) ys h = absurd (let no : x ∷ (xs ++ ys) ≡ [] = h in cc)
 
-pub firsts : (fault : ℕ → Option FaultKind) (n : ℕ) → first_of (all_faults fault n) ≡ first_fault fault n
-unfolding joined first
-firsts fault zero = refl
-firsts fault (suc n) =
-    first_append (all_faults fault n) (option_map_or (λ kind. record { line = suc n; kind = kind } ∷ []) (fault n) [])
-    ∙ rw (firsts fault n, first_listed n (fault n)) refl
+none_there : (k : ℕ) (xs : List AsmFault) (o : Option FaultKind) → xs ++ faults_at k o ≡ [] → o ≡ None
+none_there k xs None h = refl
+none_there k [] (Some kind) h = absurd cc
+none_there k (x ∷ xs) (Some kind) h = absurd cc
 
-first_is : (faults : List AsmFault) → slice_get faults 0 ≡ first_of faults
-first_is [] = refl
-first_is (fault ∷ faults) = refl
+pub none_appended : (faults found : List AsmFault) (k : ℕ) (o : Option FaultKind) → found ≡ faults ++ faults_at k o →
+    found ≡ [] → (faults ≡ []) × (o ≡ None)
+none_appended faults found k o e h =
+    (left_nil faults (faults_at k o) (sym e ∙ h), none_there k faults o (sym e ∙ h))
 
-phases_found : (one two three : List AsmFault)
-    → unwrap_or (find (λ faults. is_some (slice_get faults 0)) (one ∷ two ∷ three ∷ [])) []
-    ≡ unless_faulty one (unless_faulty two three)
-phases_found (x ∷ one) two three = refl
-phases_found [] (x ∷ two) three = refl
-phases_found [] [] (x ∷ three) = refl
-phases_found [] [] [] = refl
+-- if n + 1 lines have no fault, neither has the last of them, nor have those before it
+pub none_last : (fault : ℕ → Option FaultKind) (n : ℕ) → all_faults fault (suc n) ≡ [] → fault n ≡ None
+none_last fault n h = (none_appended (all_faults fault n) _ n (fault n) (faults_more fault n) h).1
 
--- the faults of the first phase that has any, of which the first is the first of any phase
-module _ (one two three : ℕ → Option FaultKind) (n : ℕ) where
-  pub phases_are : faults_of_phases one two three n
-      ≡ unless_faulty (all_faults one n) (unless_faulty (all_faults two n) (all_faults three n))
-  phases_are =
-      phases_found (faults_in one n) (faults_in two n) (faults_in three n)
-      ∙ rw (faults_are one n, faults_are two n, faults_are three n) refl
+pub none_before : (fault : ℕ → Option FaultKind) (n m : ℕ) → all_faults fault m ≡ [] → n ≤ m → all_faults fault n ≡ []
+unfolding all_faults
+none_before fault n m h p =
+    left_nil _ _ (sym (ap (filter_map (fault_at fault)) (range_before n m p)
+    ∙ filter_map-append (fault_at fault) (range_with_len 0 n) (range_with_len n (m - n))) ∙ h)
 
-  first_unless : (xs ys : List AsmFault) → first_of (unless_faulty xs ys) ≡ option_or (first_of xs) (first_of ys)
-  first_unless [] ys = refl
-  first_unless (x ∷ xs) ys = refl
+-- ---- the first of three phases that has faults
 
-  pub first_phase : slice_get (faults_of_phases one two three n) 0
-      ≡ option_or (first_fault one n) (option_or (first_fault two n) (first_fault three n))
-  first_phase =
-      first_is (faults_of_phases one two three n) ∙ ap first_of phases_are
-      ∙ first_unless (all_faults one n) (unless_faulty (all_faults two n) (all_faults three n))
-      ∙ rw (first_unless (all_faults two n) (all_faults three n), firsts one n, firsts two n, firsts three n) refl
+abbrev pub first_found : (one two three : List AsmFault) → List AsmFault
+first_found one two three = unwrap_or (find (λ found. is_some (slice_get found 0)) (one ∷ two ∷ three ∷ [])) []
 
-pub assembled_is : (source : List ℕ) → assembled source ≡ assembled_by source
-unfolding assembled assembled_by
-assembled_is source =
-    let texts = lines source in
-    let parsed = all_parsed texts in
-    rw (
-      first_phase (phase_one_fault texts) (phase_two_fault parsed) (phase_three_fault parsed) (length texts),
-      joined_is (λ k. result_unwrap_or (line_bytes parsed k) []) (length parsed),
-    ) refl
+-- the assembly, unless there are faults
+abbrev pub answer : List AsmFault → Assembly → Result Assembly AsmFault
+answer faults a = option_map_or (λ fault. Err fault) (slice_get faults 0) (Ok a)
+
+pub found_one : (one two three : List AsmFault) → (one ≡ [] → ⊥) → first_found one two three ≡ one
+found_one [] two three h = absurd (h refl)
+found_one (x ∷ one) two three h = refl
+
+pub found_two : (one two three : List AsmFault) → one ≡ [] → (two ≡ [] → ⊥) → first_found one two three ≡ two
+found_two one [] three e h = absurd (h refl)
+found_two one (x ∷ two) three e h = rw e refl
+
+pub found_three : (one two three : List AsmFault) → one ≡ [] → two ≡ [] → first_found one two three ≡ three
+found_three one two [] e f = rw (e, f) refl
+found_three one two (x ∷ three) e f = rw (e, f) refl
+
+pub first_same : (one two other three : List AsmFault) → slice_get two 0 ≡ slice_get other 0 →
+    slice_get (first_found one two three) 0 ≡ slice_get (first_found one other three) 0
+first_same (x ∷ one) two other three e = refl
+first_same [] (x ∷ two) (y ∷ other) three e = e
+first_same [] (x ∷ two) [] three e = absurd cc
+first_same [] [] (y ∷ other) three e = absurd cc
+first_same [] [] [] three e = refl
+
+-- the faults of a source, by its faults in phase two
+abbrev pub found_by : (ℕ → Option FaultKind) → List (List ℕ) → List AsmFault
+found_by two texts = first_found (all_faults (phase_one_fault texts) (length texts)) (all_faults two (length texts))
+    (all_faults (phase_three_fault (all_parsed texts)) (length texts))
+
+-- its image and its names
+abbrev pub image_by : List (List ℕ) → Assembly
+image_by texts = record {
+  bytes = joined (λ k. result_unwrap_or (line_bytes (all_parsed texts) k) []) (length (all_parsed texts));
+  symbols = (definitions (all_parsed texts)).names;
+}
+
+pub assembled_is : (source : List ℕ) → assembled source
+    ≡ answer (found_by (phase_two_fault (all_parsed (lines source))) (lines source)) (image_by (lines source))
+unfolding assembled joined all_faults
+assembled_is source = refl

@@ -1,16 +1,17 @@
 -- The bytes of operands by their values, all at once and one by one, and how many they are.
-use Rattle.std.proofs.Common.{◌≡◌, List, [], ◌∷◌, ◌++◌, ℕ, suc, ◌*◌, ◌≤◌, ℤ, Bool, true, false, cond, length, replicate, ap, ◌∙◌, refl, arith, append-nil, append_assoc, length-append}
-use Rattle.std.specs.Prelude.{◌||◌, Option, Some, None, is_none, option_and_then, Result, Ok, Err}
+use Rattle.std.proofs.Common.{◌≡◌, List, [], ◌∷◌, ◌++◌, ℕ, suc, ◌*◌, ◌≤◌, ℤ, Bool, true, false, cond, length, ap, ◌∙◌, refl, arith, append-nil, append_assoc, length-append}
+use Rattle.std.specs.Prelude.{◌||◌, map, Option, Some, None, is_none, option_and_then, Result, Ok, Err}
 use Rattle.std.specs.Option.{option_map, ok_or, unwrap_or}
 use Rattle.std.specs.List.{list_any, flat_map}
+use Rattle.std.proofs.lemmas.List.Folds.{flat_map-map}
 use Rattle.rv_isa.specs.Width.{bytes_of}
 use Rattle.rv_isa.specs.declared.op.Width.{Width}
 use Rattle.rv_isa.specs.declared.op.Width.TheVariants.{One, Two, Four}
 use Rattle.rv_source.specs.declared.operand.Operand.{Operand}
 use Rattle.rv_program.specs.declared.fault.FaultKind.{FaultKind}
 use Rattle.rv_program.specs.declared.fault.FaultKind.TheVariants.{Undefined, OutOfRange, OutOfMemory}
-use Rattle.rv_asm.specs.Listing.{◌>>=◌, placed, space}
-use Rattle.rv_asm.specs.Support.Kept.{byte, Valuation, KindFails, has_unknown, wanted, fill_of}
+use Rattle.rv_asm.specs.Listing.{placed}
+use Rattle.rv_asm.specs.Support.Statements.{Valuation, KindFails, has_unknown, placed_by, wanted}
 use Rattle.rv_asm.specs.Support.Steps.{appended}
 
 pub width_within : (width : Width) → bytes_of width ≤ 4
@@ -25,27 +26,27 @@ one_by : (o : Option (List ℕ)) → ◌≡◌ {A = Result (List ℕ) FaultKind}
 one_by None = refl
 one_by (Some bs) = ap (λ x. Ok x) (append-nil bs)
 
-pub placed_one : (place : ℤ → Option (List ℕ)) (x : Operand) (value : Valuation) →
-    placed place (x ∷ []) value ≡ wanted place (value x)
-placed_one place x value = by (value x) refl
+pub placed_one : {X : Type 0} (place : ℤ → Option (List ℕ)) (x : X) (value : X → Option ℤ) →
+    placed_by place (x ∷ []) value ≡ wanted place (value x)
+placed_one {X} place x value = by (value x) refl
   where
-    by : (v : Option ℤ) → value x ≡ v → placed place (x ∷ []) value ≡ wanted place v
+    by : (v : Option ℤ) → value x ≡ v → placed_by place (x ∷ []) value ≡ wanted place v
     by None e = rw e refl
     by (Some v) e = rw e (one_by (place v))
 
-mapped : {A B : Type 0} (f : A → B) (o : Option A) → ◌≡◌ {A = Result B FaultKind}
-    (ok_or (option_map f o) OutOfRange) (ok_or o OutOfRange >>= λ a. Ok (f a))
-mapped f None = refl
-mapped f (Some a) = refl
+-- ---- values by other things that have them
 
-pub space_bytes : (late : Valuation) (n : ℕ) (fill : Option Operand)
-    → (space n fill).contents late ≡ (fill_of late fill >>= λ b. Ok (replicate n b))
-space_bytes late n None = refl
-space_bytes late n (Some x) = placed_one _ x late ∙ by (late x)
-  where
-    by : (v : Option ℤ) → wanted (λ v. option_map (replicate n) (byte v)) v ≡ (wanted byte v >>= λ b. Ok (replicate n b))
-    by None = refl
-    by (Some v) = mapped (replicate n) (byte v)
+any_map : {X Y : Type 0} (p : Y → Bool) (h : X → Y) (xs : List X) → list_any p (map h xs) ≡ list_any (λ x. p (h x)) xs
+any_map p h [] = refl
+any_map p h (x ∷ xs) = ap (λ b. p (h x) || b) (any_map p h xs)
+
+pub placed_map : {X Y : Type 0} (place : ℤ → Option (List ℕ)) (h : X → Y) (value : Y → Option ℤ) (xs : List X) →
+    placed_by place (map h xs) value ≡ placed_by place xs (λ x. value (h x))
+placed_map place h value xs = rw (
+  any_map (λ y. is_none (value y)) h xs,
+  any_map (λ y. is_none (option_and_then place (value y))) h xs,
+  flat_map-map (λ y. unwrap_or (option_and_then place (value y)) []) h xs,
+) refl
 
 -- ---- the first of some operands, before others
 
@@ -65,30 +66,30 @@ failing OutOfMemory past o out more h = tt
 failing kind past None out more h = h
 failing kind past (Some bs) out more h = absurd cc
 
-module _ (place : ℤ → Option (List ℕ)) (value : Valuation) (x : Operand) (xs all : List Operand) (is : x ∷ xs ≡ all)
+module _ {X : Type 0} (place : ℤ → Option (List ℕ)) (value : X → Option ℤ) (x : X) (xs all : List X) (is : x ∷ xs ≡ all)
     (out : List ℕ) where
   pub placed_more : (mid : List ℕ) → appended out (wanted place (value x)) ≡ Ok mid →
-      appended out (placed place all value) ≡ appended mid (placed place xs value)
+      appended out (placed_by place all value) ≡ appended mid (placed_by place xs value)
   placed_more mid h = rw (← is) (by (value x) refl h)
     where
       by : (v : Option ℤ) → value x ≡ v → appended out (wanted place v) ≡ Ok mid →
-          appended out (placed place (x ∷ xs) value) ≡ appended mid (placed place xs value)
+          appended out (placed_by place (x ∷ xs) value) ≡ appended mid (placed_by place xs value)
       by None e h = absurd cc
       by (Some v) e h = rw e (fitting _ _ (place v) out mid _ h)
 
-  pub unknown_later : has_unknown value xs ≡ true → appended out (placed place all value) ≡ Err Undefined
+  pub unknown_later : has_unknown value xs ≡ true → appended out (placed_by place all value) ≡ Err Undefined
   unknown_later h = rw (← is) (by (is_none (value x)) refl)
     where
-      by : (b : Bool) → is_none (value x) ≡ b → appended out (placed place (x ∷ xs) value) ≡ Err Undefined
+      by : (b : Bool) → is_none (value x) ≡ b → appended out (placed_by place (x ∷ xs) value) ≡ Err Undefined
       by true e = rw e refl
       by false e = rw (e, h) refl
 
   pub first_fails : (kind : FaultKind) → has_unknown value xs ≡ false → KindFails kind (appended out (wanted place (value x)))
-      → KindFails kind (appended out (placed place all value))
+      → KindFails kind (appended out (placed_by place all value))
   first_fails kind known h = rw (← is) (by (value x) refl h)
     where
       by : (v : Option ℤ) → value x ≡ v → KindFails kind (appended out (wanted place v)) →
-          KindFails kind (appended out (placed place (x ∷ xs) value))
+          KindFails kind (appended out (placed_by place (x ∷ xs) value))
       by None e h = rw e h
       by (Some v) e h = rw (e, known) (failing kind _ (place v) out _ h)
 

@@ -1,123 +1,129 @@
 -- The listing of an accepted source.
-use Rattle.std.proofs.Common.{◌≡◌, ℕ, zero, suc, ◌+◌, ◌-◌, ◌<◌, ◌≤◌, Bool, true, false, cond, List, [], ◌∷◌, ◌++◌, length, drop, get_or, slice_range, refl, sym, ap, ◌∙◌, arith, length-append, length-drop, append-nil, append_assoc, add-one, add-zero, add-suc}
-use Rattle.std.specs.Prelude.{Option, None, Some, IfSome, nat_lt, ◌&&◌, Result, Ok, Err}
-use Rattle.std.specs.Option.{option_map, option_or, option_map_or}
+use Rattle.std.proofs.Common.{◌≡◌, ℕ, zero, suc, ◌+◌, ◌≤◌, Bool, true, false, cond, List, [], ◌∷◌, ◌++◌, length, refl, sym, ap, ◌∙◌, arith, append-nil, length-append, ◌-◌, ◌<◌, get_or, slice_range, append_assoc, add-zero, add-suc}
+use Rattle.std.specs.Prelude.{Option, None, Some, Result, Ok, Err, nat_lt, IfSome, ◌&&◌}
+use Rattle.std.specs.Option.{unwrap_or, option_map, option_map_or}
 use Rattle.std.specs.Result.{result_err, result_unwrap_or}
-use Rattle.std.specs.List.{All}
-use Rattle.std.specs.List.Sorted.{IsNonDecreasing, IsNonDecreasingBy}
-use Rattle.std.proofs.Math.Seq.{get_or-append_seam, drop-append_seam}
+use Rattle.std.specs.List.{flat_map, All, range_with_len}
 use Rattle.std.proofs.lemmas.Bool.Decides.{nat_tests}
-use Rattle.std.proofs.lemmas.List.{take_all, get_or_append_left, drop-append-le, take-append-le}
+use Rattle.rv_source.specs.Reading.{Parsed}
+use Rattle.rv_source.specs.declared.statement.Statement.{Statement}
+use Rattle.rv_source.specs.declared.statement.Statement.TheVariants.{Marker}
+use Rattle.rv_program.specs.declared.fault.FaultKind.{FaultKind}
+use Rattle.rv_program.specs.declared.fault.FaultKind.TheVariants.{DuplicateSymbol, NotConstant, Misplaced, TooLarge}
+use Rattle.rv_asm.specs.Symbols.{Definitions, operand_value}
+use Rattle.rv_base.specs.Limits.{ram_base, image_limit}
+use Rattle.rv_asm.specs.Layout.{line_at, row_at, phase_two_fault, definitions, labels_in}
+use Rattle.rv_asm.specs.Support.Counted.{address, known_on, joined, all_faults, phase_one_fault, phase_three_fault, up_to, labels, LabelsRise, LieInOrder, AreLinesOf, located, with_line}
+use Rattle.rv_asm.specs.Support.Steps.{Known, values_of, stated, known_before, stated_bytes, bytes_by, listed as listed_of}
+use Rattle.rv_asm.proofs.Counting.{joined_none, joined_more, none_last, none_before, answer, first_found, image_by, assembled_is, joined_before, joined_same, up_to_more}
+use Rattle.rv_asm.proofs.Sizes.{statement_size}
+use Rattle.std.specs.List.Sorted.{IsNonDecreasing, IsNonDecreasingBy}
+use Rattle.std.proofs.Math.Seq.{drop-append_seam, take-append_seam}
+use Rattle.std.proofs.lemmas.List.FromFn.{length-map-range_with_len, get_or-map-range_with_len}
 use Rattle.std.proofs.lemmas.List.Elements.{All-nil, All-push, All-weaker, All-get_or}
 use Rattle.std.proofs.lemmas.List.Sorted.{IsNonDecreasingBy-push, IsNonDecreasingBy-short, IsNonDecreasingBy-from_default}
 use Rattle.rv_base.specs.Lines.{lines}
-use Rattle.rv_base.specs.Limits.{ram_base}
-use Rattle.rv_source.specs.Reading.{Parsed}
 use Rattle.rv_source.specs.declared.line.Label.{Label}
 use Rattle.rv_source.specs.declared.line.Label.TheVariants as label
 use Rattle.rv_program.specs.Program.{Assembly}
-use Rattle.rv_program.specs.declared.fault.FaultKind.{FaultKind}
-use Rattle.rv_program.specs.Faults.{Gives}
 use Rattle.rv_program.specs.declared.fault.AsmFault.{AsmFault}
-use Rattle.rv_asm.specs.Layout.{line_at, definitions, phase_two_fault, labels_in}
 use Rattle.rv_asm.specs.Assembly.{all_parsed, line_bytes, assembled}
-use Rattle.rv_asm.specs.Support.Counted.{phase_three_fault, address, joined, first, first_fault, joined_bytes, assembled_by, up_to, labels, phase_one_fault}
-use Rattle.rv_asm.proofs.Counting.{joined_is, up_to_is, assembled_is}
 use Rattle.rv_asm.specs.Lines.{Listed, Located, listed, bytes_of, end_of}
-use Rattle.rv_asm.specs.Support.Steps.{Known, known_before, laid_out}
-use Rattle.rv_asm.specs.Support.Looked.{LabelsRise, LieInOrder, AreLinesOf, located, with_line}
-use Rattle.rv_asm.specs.Support.Taken.{so_far, Without}
-use Rattle.rv_asm.proofs.Listed.{size_listed, none_last, none_before}
-use Rattle.rv_asm.proofs.Whole.{length-parsed}
-use Rattle.rv_asm.proofs.Reading.{known_is}
+use Rattle.rv_asm.proofs.Reading.{length-parsed}
+
+-- ---- statements without a fault in phase two
+
+not_past : (renamed unknown misplaced past : Bool) → cond renamed (Some DuplicateSymbol)
+    (cond unknown (Some NotConstant) (cond misplaced (Some Misplaced) (cond past (Some TooLarge) None))) ≡
+    None → past ≡ false
+not_past true unknown misplaced past h = absurd cc
+not_past false true misplaced past h = absurd cc
+not_past false false true past h = absurd cc
+not_past false false false true h = absurd cc
+not_past false false false false h = refl
+
+not_above : (m n : ℕ) → nat_lt m n ≡ false → n ≤ m
+not_above m n h = grind (arith, nat_tests)
+
+-- ---- the size of the image
+
+sized_answer : (r : Result (List ℕ) FaultKind) (n : ℕ) → ((bs : List ℕ) → r ≡ Ok bs → length bs ≡ n) →
+    result_err r ≡ None → length (listed_of r) ≡ n
+sized_answer (Ok bs) n h e = h bs refl
+sized_answer (Err kind) n h e = absurd cc
+
+module _ (ds : Definitions) (k : ℕ) (known : Known) where
+  size_line : (statement : Option Statement) → result_err (stated_bytes ds k known statement) ≡ None
+      → (stated k known statement).address ≡ known.address + length (listed_of (stated_bytes ds k known statement))
+  size_line statement e = ap (λ n. known.address + n)
+      (sym (sized_answer (stated_bytes ds k known statement) (row_at k known statement).size
+      (λ bs. statement_size (values_of k known) (operand_value ds k known.address) known.address bs
+      (unwrap_or statement Marker)) e))
+
+module _ (lines : List Parsed) where
+  pub within_line : (n : ℕ) → phase_two_fault lines n ≡ None → address lines (suc n) ≤ ram_base + image_limit
+  unfolding known_before phase_two_fault
+  within_line n h = not_above _ _ (not_past _ _ _ _ h)
+
+  pub within_limit : (n : ℕ) → all_faults (phase_two_fault lines) n ≡ [] →
+      address lines n ≤ ram_base + image_limit
+  unfolding known_before
+  within_limit zero h = omega arith
+  within_limit (suc n) h = within_line n (none_last (phase_two_fault lines) n h)
+
+  -- the bytes of n lines without a fault reach from the base to the address following these lines
+  pub size_listed : (ds : Definitions) (n : ℕ) → all_faults (λ k. result_err (bytes_by ds lines k)) n ≡ []
+      → ram_base + length (joined (λ k. listed_of (bytes_by ds lines k)) n) ≡ address lines n
+  unfolding known_before
+  size_listed ds zero e = rw joined_none refl
+  size_listed ds (suc n) e =
+      let three = λ (k : ℕ). result_err (bytes_by ds lines k) in
+      let before = size_listed ds n (none_before three n (suc n) e (omega arith)) in
+      let last = size_line ds n (known_on lines n) (line_at lines n).statement (none_last three n e) in
+      let more = length-append (joined (λ k. listed_of (bytes_by ds lines k)) n) (listed_of (bytes_by ds lines n)) in
+      rw joined_more (omega (arith, more, before, last))
 
 -- ---- no fault
 
-pub none_below : (fault : ℕ → Option FaultKind) (n k : ℕ) → first_fault fault n ≡ None → k ≤ n →
-    first_fault fault k ≡ None
-unfolding first
-none_below fault zero zero h p = refl
-none_below fault zero (suc k) h p = absurd (omega arith)
-none_below fault (suc n) k h p = by (none_below fault n k (none_before fault n h)) (nat_lt n k) refl
-  where
-    by : (k ≤ n → first_fault fault k ≡ None) → (b : Bool) → nat_lt n k ≡ b → first_fault fault k ≡ None
-    by r true e = let is : k ≡ suc n = grind (arith, nat_tests) in rw is h
-    by r false e = r (grind (arith, nat_tests))
-
-pub none_at : (fault : ℕ → Option FaultKind) (n k : ℕ) → first_fault fault n ≡ None → k < n → fault k ≡ None
-none_at fault n k h p = none_last fault k (none_below fault n (suc k) h (omega (arith, p)))
-
-pub joined_same : {A : Type 0} (f g : ℕ → List A) (n : ℕ) → ((k : ℕ) → k < n → f k ≡ g k) →
-    joined f n ≡ joined g n
-unfolding joined
-joined_same f g zero h = refl
-joined_same f g (suc n) h =
-    rw (joined_same f g n (λ k p. h k (omega (arith, p))), h n (omega arith)) refl
+none_at : (fault : ℕ → Option FaultKind) (n k : ℕ) → all_faults fault n ≡ [] → k < n → fault k ≡ None
+none_at fault n k h p = none_last fault k (none_before fault (suc k) n h (omega (arith, p)))
 
 -- ---- an accepted source has no fault
 
 pub record IsAccepted (source : List ℕ) (a : Assembly) : Type 0 where
-  pub one : first_fault (phase_one_fault (lines source)) (length (lines source)) ≡ None
-  pub two : first_fault (phase_two_fault (all_parsed (lines source))) (length (lines source)) ≡ None
-  pub three : first_fault (phase_three_fault (all_parsed (lines source))) (length (lines source)) ≡ None
-  pub is : a.bytes ≡ joined_bytes (all_parsed (lines source))
+  pub two : all_faults (phase_two_fault (all_parsed (lines source))) (length (lines source)) ≡ []
+  pub three : all_faults (phase_three_fault (all_parsed (lines source))) (length (lines source)) ≡ []
+  pub is : a.bytes ≡ (image_by (lines source)).bytes
 
-abbrev answer : Option AsmFault → Assembly → Result Assembly AsmFault
-answer fault program = option_map_or (λ fault. Err fault) fault (Ok program)
-
-record AreNone (one two three : Option AsmFault) (p a : Assembly) : Type 0 where
-  first : one ≡ None
-  second : two ≡ None
-  third : three ≡ None
+record AreNone (two three : List AsmFault) (p a : Assembly) : Type 0 where
+  second : two ≡ []
+  third : three ≡ []
   same : p ≡ a
 
-answered : (one two three : Option AsmFault) (p a : Assembly) →
-    answer (option_or one (option_or two three)) p ≡ Ok a →
-    AreNone one two three p a
-answered (Some f) two three p a h = absurd cc
-answered None (Some f) three p a h = absurd cc
-answered None None (Some f) p a h = absurd cc
-answered None None None p a h = record { first = refl; second = refl; third = refl; same = cc }
+answered : (one two three : List AsmFault) (p a : Assembly) →
+    answer (first_found one two three) p ≡ Ok a → AreNone two three p a
+answered (f ∷ fs) two three p a h = absurd cc
+answered [] (f ∷ fs) three p a h = absurd cc
+answered [] [] (f ∷ fs) p a h = absurd cc
+answered [] [] [] p a h = record { second = refl; third = refl; same = cc }
 
 pub accepted : (source : List ℕ) (a : Assembly) → assembled source ≡ Ok a → IsAccepted source a
-unfolding assembled_by
 accepted source a h =
     let texts = lines source in
     let n = length texts in
-    let r = answered (first_fault (phase_one_fault texts) n) (first_fault (phase_two_fault (all_parsed texts)) n)
-    (first_fault (phase_three_fault (all_parsed texts)) n) _ a (sym (assembled_is source) ∙ h) in
-    record {
-      one = r.first;
-      two = r.second;
-      three = r.third;
-      is = sym (ap (λ (x : Assembly). x.bytes) r.same);
-    }
+    let r = answered (all_faults (phase_one_fault texts) n) (all_faults (phase_two_fault (all_parsed texts)) n)
+    (all_faults (phase_three_fault (all_parsed texts)) n) _ a (sym (assembled_is source) ∙ h) in
+    record { two = r.second; three = r.third; is = sym (ap (λ (x : Assembly). x.bytes) r.same) }
 
 -- ---- numbers up to one
 
-pub length_up_to : (f : ℕ → ℕ) (n : ℕ) → length (up_to f n) ≡ suc n
+length_up_to : (f : ℕ → ℕ) (n : ℕ) → length (up_to f n) ≡ suc n
 unfolding up_to
-length_up_to f zero = refl
-length_up_to f (suc n) = omega (arith, length-append (up_to f n) (f (suc n) ∷ []), length_up_to f n)
+length_up_to f n = length-map-range_with_len f 0 (suc n)
 
-last_up_to : (xs : List ℕ) (x n : ℕ) → length xs ≡ n → get_or (xs ++ x ∷ []) n 0 ≡ x
-last_up_to xs x n h = rw (← h) (get_or-append_seam xs x [] 0)
-
-pub up_to_at : (f : ℕ → ℕ) (n i : ℕ) → i ≤ n → get_or (up_to f n) i 0 ≡ f i
+up_to_at : (f : ℕ → ℕ) (n i : ℕ) → i ≤ n → get_or (up_to f n) i 0 ≡ f i
 unfolding up_to
-up_to_at f zero zero h = refl
-up_to_at f zero (suc i) h = absurd (omega arith)
-up_to_at f (suc n) i h = by (up_to_at f n i) (nat_lt n i) refl
-  where
-    by : (i ≤ n → get_or (up_to f n) i 0 ≡ f i) → (b : Bool) → nat_lt n i ≡ b →
-        get_or (up_to f n ++ f (suc n) ∷ []) i 0 ≡ f i
-    by r true e =
-        let is : i ≡ suc n = grind (arith, nat_tests) in
-        rw is (last_up_to (up_to f n) (f (suc n)) (suc n) (length_up_to f n))
-    by r false e =
-        let le : i ≤ n = grind (arith, nat_tests) in
-        get_or_append_left (up_to f n) (f (suc n) ∷ []) 0 i (let l = length_up_to f n in omega (arith, l, le))
-        ∙ r le
+up_to_at f n i h = get_or-map-range_with_len f 0 (suc n) i i 0 (omega (arith, h)) (omega arith)
 
 -- ---- addresses rise
 
@@ -176,15 +182,14 @@ raised a b xs le h = record {
 }
 
 labels_to : (ls : List Parsed) (n : ℕ) → AreUpTo (address ls n) (labels ls n)
-unfolding joined
-labels_to ls zero = record {
+labels_to ls zero = rw joined_none (record {
   below = All-nil (λ (l : List ℕ × ℕ). l.1 ≤ address ls zero);
   rises = IsNonDecreasingBy-short (λ (l : List ℕ × ℕ). l.1) [] (omega arith);
-}
-labels_to ls (suc n) =
-    raised (address ls n) (address ls (suc n)) (labels ls n ++ labels_in (address ls n) (line_at ls n).labels)
+})
+labels_to ls (suc n) = rw joined_more
+    (raised (address ls n) (address ls (suc n)) (labels ls n ++ labels_in (address ls n) (line_at ls n).labels)
     (rises_by ls n (suc n) (omega arith))
-    (labels_up (address ls n) (labels ls n) (line_at ls n).labels (labels_to ls n))
+    (labels_up (address ls n) (labels ls n) (line_at ls n).labels (labels_to ls n)))
 
 pub labels_rise : (ls : List Parsed) (n : ℕ) → LabelsRise (labels ls n)
 labels_rise ls n = (labels_to ls n).rises
@@ -201,52 +206,22 @@ lie_in_order ls n = record {
 
 -- ---- the bytes of a line
 
-part_of : (xs ys : List ℕ) → slice_range (xs ++ ys) (length xs) (length (xs ++ ys)) ≡ ys
-part_of xs ys =
-    rw drop-append_seam (take_all (length (xs ++ ys) - length xs) ys
-    (let l = length-append xs ys in omega (arith, l)))
+part_is : (xs ys zs : List ℕ) → slice_range (xs ++ (ys ++ zs)) (length xs) (length (xs ++ ys)) ≡ ys
+part_is xs ys zs =
+    let e : length (xs ++ ys) - length xs ≡ length ys = omega (arith, length-append xs ys) in
+    rw (drop-append_seam, e) (take-append_seam ys zs)
 
-part_left : (xs ys : List ℕ) (a b : ℕ) → a ≤ b → b ≤ length xs →
-    slice_range (xs ++ ys) a b ≡ slice_range xs a b
-part_left xs ys a b h p =
-    rw (drop-append-le a xs ys (omega (arith, h, p)))
-    (take-append-le (b - a) (drop a xs) ys (let l = length-drop a xs in omega (arith, l, h, p)))
-
-longer_by : (f : ℕ → List ℕ) (i d : ℕ) → length (joined f i) ≤ length (joined f (i + d))
-unfolding joined
-longer_by f i zero = rw add-zero (omega arith)
-longer_by f i (suc d) =
-    let h = longer_by f i d in let l = length-append (joined f (i + d)) (f (i + d)) in
-    rw add-suc (omega (arith, h, l))
-
-longer : (f : ℕ → List ℕ) (i j : ℕ) → i ≤ j → length (joined f i) ≤ length (joined f j)
-longer f i j h = let e : i + (j - i) ≡ j = omega arith in rw e at (longer_by f i (j - i))
-
-pub part_at : (f : ℕ → List ℕ) (n k : ℕ) → k < n →
+part_at : (f : ℕ → List ℕ) (n k : ℕ) → k < n →
     slice_range (joined f n) (length (joined f k)) (length (joined f (suc k))) ≡ f k
-unfolding joined
-part_at f zero k h = absurd (omega arith)
-part_at f (suc n) k h = by (part_at f n k) (nat_lt k n) refl
-  where
-    by : (k < n → slice_range (joined f n) (length (joined f k)) (length (joined f (suc k))) ≡ f k) →
-        (b : Bool) → nat_lt k n ≡ b →
-        slice_range (joined f n ++ f n) (length (joined f k)) (length (joined f k ++ f k)) ≡ f k
-    by r true e =
-        let lt : k < n = grind (arith, nat_tests) in
-        part_left (joined f n) (f n) (length (joined f k)) (length (joined f k ++ f k))
-        (let l = length-append (joined f k) (f k) in
-        omega (arith, l)) (longer f (suc k) n (omega (arith, lt)))
-        ∙ r lt
-    by r false e =
-        let is : k ≡ n = grind (arith, nat_tests) in
-        rw is (part_of (joined f n) (f n))
+part_at f n k h =
+    rw (joined_before f (suc k) n (omega (arith, h)), joined_more f k, append_assoc) (part_is (joined f k) (f k) _)
 
-bytes_by : (image xs : List ℕ) (f : ℕ → List ℕ) (n k : ℕ) → image ≡ joined f n → k < n →
+bytes_between : (image xs : List ℕ) (f : ℕ → List ℕ) (n k : ℕ) → image ≡ joined f n → k < n →
     nat_lt (suc k) (length xs) ≡ true → get_or xs k 0 - ram_base ≡ length (joined f k) →
     get_or xs (suc k) 0 - ram_base ≡ length (joined f (suc k)) →
     option_map_or (λ a. slice_range image (a - ram_base) (get_or xs (suc k) 0 - ram_base))
     (cond (nat_lt 0 (suc k) && nat_lt (suc k) (length xs)) (Some (get_or xs (suc k - 1) 0)) None) [] ≡ f k
-bytes_by image xs f n k i h t x y =
+bytes_between image xs f n k i h t x y =
     let e : suc k - 1 ≡ k = omega arith in
     let z : nat_lt 0 (suc k) ≡ true = grind (arith, nat_tests) in
     rw (z, t, e, x, y, i) (part_at f n k h)
@@ -271,22 +246,24 @@ module _ (source : List ℕ) (a : Assembly) (ok : IsAccepted source a) where
 
   -- the image reaches from the base to the last address
   reaches : (k : ℕ) → k ≤ n → ram_base + length (joined image_of k) ≡ address parsed k
-  reaches k h = size_listed parsed (definitions parsed) k (none_below (phase_three_fault parsed) n k ok.three h)
+  reaches k h = size_listed parsed (definitions parsed) k (none_before (phase_three_fault parsed) k n ok.three h)
 
   abbrev pub listing : Listed
   listing = record { assembly = a; addresses = up_to (address parsed) n; labels = labels parsed n }
 
   pub listing_is : assembled source ≡ Ok a → listed source ≡ Ok listing
-  unfolding listed
-  listing_is h =
-      rw (h, same_length, up_to_is (address parsed) n, joined_is (λ k. labels_in (address parsed k) (line_at parsed k).labels) n)
-      refl
+  unfolding listed up_to joined
+  listing_is h = rw (h, same_length) refl
 
   address_at : (k : ℕ) → k ≤ n → get_or listing.addresses k 0 ≡ address parsed k
   address_at k h = up_to_at (address parsed) n k h
 
   count_is : length listing.addresses ≡ suc n
   count_is = length_up_to (address parsed) n
+
+  -- the image isn't larger than the largest
+  pub fits : length a.bytes ≤ image_limit
+  fits = omega (arith, ap length image_is, reaches n (omega arith), within_limit parsed n ok.two)
 
   pub reaches_end : end_of listing ≡ ram_base + length a.bytes
   reaches_end =
@@ -297,19 +274,22 @@ module _ (source : List ℕ) (a : Assembly) (ok : IsAccepted source a) where
   is_ok (Ok bs) h = refl
   is_ok (Err kind) h = absurd cc
 
-  part_is : (k : ℕ) → k < n → bytes_of listing (suc k) ≡ image_of k
-  part_is k h =
+  line_is : (k : ℕ) → k < n → bytes_of listing (suc k) ≡ image_of k
+  line_is k h =
       let t : nat_lt (suc k) (length listing.addresses) ≡ true = grind (arith, nat_tests, count_is, h) in
       let from = address_at k (omega (arith, h)) ∙ sym (reaches k (omega (arith, h))) in
       let to = address_at (suc k) (omega (arith, h)) ∙ sym (reaches (suc k) (omega (arith, h))) in
-      bytes_by a.bytes listing.addresses image_of n k image_is h t (omega (arith, from)) (omega (arith, to))
+      bytes_between a.bytes listing.addresses image_of n k image_is h t (omega (arith, from)) (omega (arith, to))
+
+  all_joined : flat_map (λ k. bytes_of listing (suc k)) (range_with_len 0 n) ≡ joined (λ k. bytes_of listing (suc k)) n
+  unfolding joined
+  all_joined = refl
 
   pub are_lines : AreLinesOf source listing
   are_lines = record {
     each = λ k h. is_ok (line_bytes parsed k) (none_at (phase_three_fault parsed) n k ok.three h) ∙
-        ap (λ bs. Ok bs) (sym (part_is k h));
-    all = joined_is (λ k. bytes_of listing (suc k)) n
-        ∙ (joined_same (λ k. bytes_of listing (suc k)) image_of n part_is ∙ sym image_is);
+        ap (λ bs. Ok bs) (sym (line_is k h));
+    all = all_joined ∙ (joined_same (λ k. bytes_of listing (suc k)) image_of n line_is ∙ sym image_is);
   }
 
 -- ---- the notes of lines
@@ -320,22 +300,8 @@ unfolding known_before up_to joined
 noted_begun ls None h = refl
 noted_begun ls (Some n) h = rw h refl
 
-noted_by : (ls : List Parsed) (n : ℕ) (first : Option Located) →
+pub noted_more : (ls : List Parsed) (n : ℕ) (first : Option Located) →
     option_map (with_line (address ls n) (line_at ls n).labels (address ls (suc n))) (option_map (λ _. located ls n) first)
     ≡ option_map (λ _. located ls (suc n)) first
-unfolding up_to joined
-noted_by ls n None = refl
-noted_by ls n (Some p) = refl
-
-pub noted_line : (A : Type 0) (ls : List Parsed) (n : ℕ) (old new : Option AsmFault) (known after : Known)
-    (first notes more : Option Located) (line : Parsed) → line_at ls n ≡ line
-    → Gives (λ s. s) (so_far old known) (laid_out ls n) → Gives (λ s. s) (so_far new after) (laid_out ls (n + 1))
-    → Without old (notes ≡ option_map (λ _. located ls n) first) → Without new ((old ≡ None) × A)
-    → Without new (more ≡ option_map (with_line known.address line.labels after.address) notes)
-    → Without new (more ≡ option_map (λ _. located ls (n + 1)) first)
-noted_line A ls n old (Some fault) known after first notes more line at before now so_far none adds = tt
-noted_line A ls n (Some fault) None known after first notes more line at before now so_far none adds = absurd cc
-noted_line A ls n None None known after first notes more line at before now so_far none adds =
-    let here = known_is ls n known before in
-    let end = known_is ls (n + 1) after now in
-    rw (adds, so_far, here, end, ← at, add-one) (noted_by ls n first)
+noted_more ls n None = refl
+noted_more ls n (Some p) = rw (up_to_more, joined_more) refl

@@ -1,10 +1,10 @@
--- The rows of statements, by the values that must be known; and a statement has as many bytes as its row
--- says.
-use Rattle.std.proofs.Common.{◌≡◌, ◌∙◌, ℕ, ◌+◌, ◌*◌, ◌^◌, ◌%◌, ◌≤◌, ◌==◌, Bool, true, false, List, [], ◌∷◌, ◌++◌, length, replicate, ℤ, ap, refl, arith, length-append}
-use Rattle.std.specs.Prelude.{◌&&◌, ◌||◌, not, is_some, min, take, option_and_then, Option, Some, None, if◌then◌else◌, Result, Ok}
+-- The rows of statements, by the values that must be known; that a statement has as many bytes as its row says; and
+-- the ranges of its values.
+use Rattle.std.proofs.Common.{◌≡◌, ◌∙◌, ℕ, ◌+◌, ◌*◌, ◌^◌, ◌%◌, ◌≤◌, ◌==◌, Bool, true, false, List, [], ◌∷◌, ◌++◌, length, replicate, ℤ, ap, refl, arith, length-append, ◌<◌, sym, pos, negsuc}
+use Rattle.std.specs.Prelude.{◌&&◌, ◌||◌, not, is_some, min, take, option_and_then, Option, Some, None, if◌then◌else◌, Result, Ok, nat_lt}
 use Rattle.std.specs.Int.{to_le_bytes, w32}
 use Rattle.std.proofs.lemmas.List.{length-replicate}
-use Rattle.rv_isa.specs.Number.{modulo}
+use Rattle.rv_isa.specs.Number.{modulo, IsWithin}
 use Rattle.rv_isa.specs.Width.{bytes_of}
 use Rattle.rv_isa.specs.declared.kind.Kind.{Kind}
 use Rattle.rv_isa.specs.declared.kind.Kind.TheVariants.{Auipc}
@@ -19,13 +19,16 @@ use Rattle.rv_source.specs.declared.statement.Statement.{Statement}
 use Rattle.rv_source.specs.declared.statement.Statement.TheVariants as s
 use Rattle.rv_program.specs.declared.fault.FaultKind.{FaultKind}
 use Rattle.rv_base.specs.Tables.{lookup}
-use Rattle.rv_asm.specs.Values.{fits, part_value, far, hi, lo}
+use Rattle.rv_asm.specs.Values.{fits, part_value, far, hi, lo, is_between}
 use Rattle.rv_asm.specs.Layout.{redefines}
 use Rattle.rv_asm.specs.Listing.{bytes, bytes_in, code, filled, padding, space, row}
-use Rattle.rv_asm.specs.Support.Kept.{byte, Valuation, value_by, wanted}
-use Rattle.rv_asm.specs.Support.Counted.{renames}
-use Rattle.rv_asm.specs.Support.Constants.{IsTaken, IsKnown, is_unknown, is_instruction, size_of, constant_in, statement_bytes}
-use Rattle.rv_asm.proofs.DataBytes.{Counts, placed_one, space_bytes, then_counted, mapped_counted, placed_counted}
+use Rattle.rv_asm.specs.Support.Statements.{byte, Valuation, value_by, wanted, IsTaken, IsKnown, is_unknown, is_instruction, size_of, constant_in, statement_bytes}
+use Rattle.rv_asm.specs.Support.Counted.{renames, fault_stated_by}
+use Rattle.rv_asm.proofs.DataBytes.{Counts, placed_one, then_counted, mapped_counted, placed_counted}
+use Rattle.std.proofs.lemmas.Bool.Decides.{nat_tests}
+use Rattle.rv_program.specs.declared.fault.FaultKind.TheVariants.{TooLarge}
+use Rattle.rv_asm.specs.Symbols.{Definitions, operand_value}
+use Rattle.rv_asm.specs.Support.Steps.{image_end}
 
 -- ---- what a row asks
 
@@ -95,35 +98,31 @@ module _ (early : Valuation) (c : ℤ) (here : ℕ) where
   taken (s.Constant name e) k = k.1
   taken statement k = k
 
-  pub size_is : (statement : Statement) → IsKnown early c statement →
-      (row early here statement).size ≡ size_of c here statement
+  pub row_is : (statement : Statement) → IsKnown early c statement →
+      row early here statement ≡ row (λ x. Some c) here statement
   unfolding IsKnown row
-  size_is (s.Li rd e) k = rw k.0 refl
-  size_is (s.Space size fill) k = rw k.0 refl
-  size_is (s.Align power) k = rw k.0 refl
-  size_is (s.Balign multiple) k = rw k.0 refl
-  size_is statement k = refl
+  row_is (s.Li rd e) k = rw k.0 refl
+  row_is (s.Space size fill) k = rw k.0 refl
+  row_is (s.Align power) k = rw k.0 refl
+  row_is (s.Balign multiple) k = rw k.0 refl
+  row_is (s.Constant name e) k = rw k.0 refl
+  row_is statement k = refl
 
-  pub defines_is : (statement : Statement) → IsKnown early c statement →
-      (row early here statement).defines ≡ constant_in c statement
-  unfolding IsKnown row
-  defines_is (s.Constant name e) k = rw k.0 refl
-  defines_is (s.Space size None) k = refl
-  defines_is (s.Space size (Some fill)) k = refl
-  defines_is statement k = refl
+module _ (c : ℤ) (here : ℕ) where
+  pub defines_is : (statement : Statement) → (row (λ x. Some c) here statement).defines ≡ constant_in c statement
+  unfolding row
+  defines_is (s.Space size None) = refl
+  defines_is (s.Space size (Some fill)) = refl
+  defines_is statement = refl
 
-  pub contents_are : (late : Valuation) (statement : Statement) → IsKnown early c statement →
-      (row early here statement).contents late ≡ statement_bytes c late here statement
-  unfolding IsKnown row statement_bytes
-  contents_are late (s.WithValue kind x) k =
+  pub contents_are : (late : Valuation) (statement : Statement) →
+      (row (λ x. Some c) here statement).contents late ≡ statement_bytes c late here statement
+  unfolding row statement_bytes
+  contents_are late (s.WithValue kind x) =
       placed_one _ x late
       ∙ ap (λ place. wanted place (late x)) (λ i v. option_and_then (code here [] kind) (part_is x.form v i))
-  contents_are late (s.Far scratch kind x) k = placed_one _ x late
-  contents_are late (s.Li rd e) k = rw k.0 refl
-  contents_are late (s.Space size fill) k = rw k.0 (space_bytes late (modulo c (2 ^ 32)) fill)
-  contents_are late (s.Align power) k = rw k.0 refl
-  contents_are late (s.Balign multiple) k = rw k.0 refl
-  contents_are late statement k = refl
+  contents_are late (s.Far scratch kind x) = placed_one _ x late
+  contents_are late statement = refl
 
 -- ---- the bytes of a statement are as many as its row says
 
@@ -160,3 +159,31 @@ module _ (early late : Valuation) (here : ℕ) (bs : List ℕ) where
   statement_size (s.Data width xs) h = placed_counted late (bytes_in width) (bytes_of width) (bytes_counted width) xs bs h
   statement_size (s.Space size fill) h = space_counted _ fill h
   statement_size statement h = ready_counted _ bs h
+
+-- ---- the last test of a statement in phase two
+
+module _ (ds : Definitions) (k here : ℕ) (statement : Statement) (c : ℤ)
+    (is : IsKnown (operand_value ds k here) c statement) (new : renames ds.names statement ≡ false)
+    (known : is_unknown (operand_value ds k here) statement ≡ false)
+    (placed : (is_instruction statement && not (here % 4 == 0)) ≡ false) where
+  stated : (b : Bool) → nat_lt image_end (here + size_of c here statement) ≡ b
+      → fault_stated_by ds.names (operand_value ds k here) here statement ≡ (if b then Some TooLarge else None)
+  stated b e = rw (new, known, placed, row_is (operand_value ds k here) c here statement is, e) refl
+
+  pub past : image_end < here + size_of c here statement →
+      Some TooLarge ≡ fault_stated_by ds.names (operand_value ds k here) here statement
+  past h = sym (stated true (grind (arith, nat_tests)))
+
+  pub within : here + size_of c here statement ≤ image_end →
+      None ≡ fault_stated_by ds.names (operand_value ds k here) here statement
+  within h = sym (stated false (grind (arith, nat_tests)))
+
+-- ---- distances of jumps and branches are within their bounds
+
+pub jump_within : (v : ℤ) → is_between (negsuc 1048575) (pos 1048574) v ≡ true → IsWithin (2 ^ 20) v
+jump_within (pos n) h = grind (arith, nat_tests)
+jump_within (negsuc n) h = grind (arith, nat_tests)
+
+pub branch_within : (v : ℤ) → is_between (negsuc 4095) (pos 4094) v ≡ true → IsWithin (2 ^ 12) v
+branch_within (pos n) h = grind (arith, nat_tests)
+branch_within (negsuc n) h = grind (arith, nat_tests)

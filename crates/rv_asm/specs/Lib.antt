@@ -1,5 +1,5 @@
+pub mod AllFaults
 pub mod Assembly
-pub mod Diagnosed
 pub mod Layout
 pub mod Lines
 pub mod Listing

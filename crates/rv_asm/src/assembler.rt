@@ -1,16 +1,14 @@
-//! The phases of assembly, from a source to its image.
-ghost use Rattle.std.specs.Prelude.{◌≡◌, ◌+◌, ◌≤◌, ◌<◌, [], None, Result, Ok, IfOk, IfErr, IfSome, OnOk, length};
-ghost use Rattle.std.specs.List.{All};
+//! The phases of assembly, from a source to its image, or to all of its faults.
+ghost use Rattle.std.specs.Prelude.{◌≡◌, ◌++◌, ◌≤◌, ◌<◌, [], is_some, IfOk, IfSome, OnOk, length};
+ghost use Rattle.std.specs.List.{All, flat_map};
 ghost use Rattle.std.specs.Option.{option_map};
 ghost use Rattle.rv_base.specs.Lines.{lines};
-ghost use Rattle.rv_source.specs.Reading.{parsed, line_form};
-ghost use Rattle.rv_program.specs.declared.fault.AsmFault.{AsmFault};
-ghost use Rattle.rv_program.specs.Faults.{Gives, kind_of};
-ghost use Rattle.rv_program.specs.Support.Kept.{IsFaultAt};
+ghost use Rattle.rv_source.specs.Reading.{parsed};
+ghost use Rattle.rv_tokens.specs.Support.Partial.{Fails as LineFails};
+ghost use Rattle.rv_program.specs.Faults.{Gives};
 ghost use Rattle.rv_asm.specs.Assembly.{all_parsed, assembled};
-ghost use Rattle.rv_asm.specs.Support.Steps.{Known as KnownValue, AddsLine, Writes, start, extended, lines_laid_out, image_of};
-ghost use Rattle.rv_asm.specs.Support.Looked.{located};
-ghost use Rattle.rv_asm.specs.Support.Taken.{so_far, Without, IsUnread, Takes};
+ghost use Rattle.rv_asm.specs.Support.Counted.{all_faults, faults_at, phase_one_fault, unread_kind, located};
+ghost use Rattle.rv_asm.specs.Support.Steps.{start, item_faults, item_listed, IsExamined, LaidOut, Takes};
 
 use crate::layout::Known;
 use crate::notes::{Notes, note};
@@ -18,21 +16,47 @@ use crate::placement::PlacedStatement;
 use crate::symbols::Symbols;
 use crate::{AsmFault, FaultKind, Program};
 use rv_base::cut_lines;
-use rv_source::{Label, LineFault, Statement, read_line_form};
-use std::alloc::Global;
+use rv_source::{LineFault, read_line_form};
+use std::alloc::{AllocError, Global};
 
-/// Returns the fault of a line that can't be read.
-#[tactic(auto, using(crate::proofs::Runs::fault_at))]
-fn unread(number: usize, fault: LineFault) -> AsmFault
-    requires { number < 0xffffffffffffffff }
-    ensures { IsFaultAt (number + 1) (kind_of fault) result }
+/// Appends the fault of a line, if it has one.
+fn append(
+    number: usize,
+    fault: Option<FaultKind>,
+    out: &mut Vec<AsmFault>,
+) -> Result<(), AllocError>
+    requires counted { number < 0xffffffffffffffff }
+    ensures { OnOk result (out.new.items ≡ out.old.items ++ faults_at number fault) }
 {
-    AsmFault::at(number + 1, FaultKind::from(fault))
+    let Some(kind) = fault else {
+        return Ok(());
+    };
+    let line = number + 1;
+    Ok(out.push(AsmFault { line, kind })?)
 }
 
-/// Performs phases one and two on one more line, or phase one alone if a line before it had a fault in phase
-/// two.
-#[tactic(auto, using(crate::proofs::Reading::unread_line, crate::proofs::Reading::unread_statement, rv_source::proofs::Parsed::as_parsed))]
+/// Appends the fault of a line that can't be read.
+#[tactic(auto, using(crate::proofs::Reading::not_read, crate::proofs::Reading::never_empty))]
+fn append_unread(
+    number: usize,
+    text: &[u8],
+    fault: LineFault,
+    out: &mut Vec<AsmFault>,
+) -> Result<(), AllocError>
+    requires counted { number < 0xffffffffffffffff }
+    requires fails { LineFails fault (parsed text.now) }
+    ensures appends { OnOk result (out.new.items ≡ out.old.items ++ faults_at number (unread_kind text.now)) }
+    ensures some { OnOk result (out.new.items ≡ [] → ⊥) }
+{
+    match fault {
+        LineFault::OutOfMemory => Err(AllocError),
+        _ => append(number, Some(FaultKind::from(fault)), out),
+    }
+}
+
+/// Performs phases one and two on one more line, or phase one alone if a line before it has a fault in phase
+/// one. A line with a fault in phase two is left out.
+#[tactic(auto, using(rv_source::proofs::Parsed::form_fails, rv_source::proofs::Parsed::statement_fails, rv_source::proofs::Parsed::as_parsed))]
 fn take<'a>(
     alloc: Global,
     number: usize,
@@ -40,80 +64,148 @@ fn take<'a>(
     known: &mut Known,
     items: &mut Vec<PlacedStatement<'a>>,
     notes: &mut Option<Notes>,
-    fault: &mut Option<AsmFault>,
-) -> Result<(), AsmFault>
-    requires up_to { IfOk (so_far fault.old known.old) (λ l. All (λ d. d.line ≤ number) l.definitions.locals) }
+    unread: &mut Vec<AsmFault>,
+    misplaced: &mut Vec<AsmFault>,
+) -> Result<(), AllocError>
+    requires up_to { unread.old.items ≡ [] → All (λ d. d.line ≤ number) known.old.definitions.locals }
     requires counted { number < 0xffffffffffffffff }
-    ensures ok { OnOk result (Takes number text.now fault.old known.old items.old.items notes.old fault.new known.new items.new.items notes.new) }
-    ensures err { IfErr result (IsUnread number text.now) }
+    ensures unread { OnOk result (unread.new.items ≡ unread.old.items ++ faults_at number (unread_kind text.now)) }
+    ensures takes { OnOk result (unread.new.items ≡ [] → Takes number text.now known.old known.new items.old.items items.new.items notes.old notes.new misplaced.old.items misplaced.new.items) }
+    ensures keeps { OnOk result (is_some notes.new ≡ is_some notes.old) }
 {
     let line = match read_line_form(alloc, text) {
         Ok(line) => line,
-        Err(cause) => return Err(unread(number, cause)),
+        Err(fault) => return append_unread(number, text, fault, unread),
     };
     let statement = match line.statement() {
         Ok(statement) => statement,
-        Err(cause) => return Err(unread(number, cause)),
+        Err(fault) => return append_unread(number, text, fault, unread),
     };
-    if fault.is_some() {
+    if !unread.as_slice().is_empty() {
         return Ok(());
     }
     let here = known.address();
-    if let Err(kind) = known.add(alloc, number, text, line.labels(), &statement, items) {
-        *fault = Some(AsmFault::at(number + 1, kind));
-        return Ok(());
-    }
-    match note(alloc, notes, here, line.labels(), known.address()) {
-        Ok(()) => Ok(()),
-        Err(_) => Err(unread(number, LineFault::OutOfMemory)),
-    }
+    let fault = known.add(alloc, number, line.labels(), &statement, items)?;
+    append(number, fault, misplaced)?;
+    note(alloc, notes, here, line.labels(), known)
 }
 
-/// Performs phases one and two line by line, with notes of the lines if they are wanted. A fault of phase two
-/// is kept until all lines are read, since a fault of phase one on a later line takes precedence.
-pub fn lay_out<'a>(
+/// Performs phases one and two line by line, with notes of the lines if they are wanted, and appends the
+/// faults of each phase. A fault of phase one on any line takes precedence over those of phase two.
+fn lay_out<'a>(
     alloc: Global,
     source: &'a [u8],
     known: &mut Known,
     items: &mut Vec<PlacedStatement<'a>>,
     notes: &mut Option<Notes>,
-) -> Result<(), AsmFault>
+    unread: &mut Vec<AsmFault>,
+    misplaced: &mut Vec<AsmFault>,
+) -> Result<(), AllocError>
     requires known { known.old ≡ start }
     requires items { items.old.items ≡ [] }
     requires notes { IfSome notes.old (λ n. n ≡ located [] 0) }
-    ensures layout { Gives (λ _. known.new) result (lines_laid_out (lines source.now)) }
-    ensures items { OnOk result (Writes (all_parsed (lines source.now)) (length (lines source.now)) items.new.items) }
-    ensures notes { OnOk result (notes.new ≡ option_map (λ _. located (all_parsed (lines source.now)) (length (lines source.now))) notes.old) }
+    requires unread { unread.old.items ≡ [] }
+    requires misplaced { misplaced.old.items ≡ [] }
+    ensures unread { OnOk result (unread.new.items ≡ all_faults (phase_one_fault (lines source.now)) (length (lines source.now))) }
+    ensures laid { OnOk result (unread.new.items ≡ [] → LaidOut (all_parsed (lines source.now)) (length (lines source.now)) known.new items.new.items notes.old notes.new misplaced.new.items) }
+    ensures keeps { OnOk result (is_some notes.new ≡ is_some notes.old) }
 {
-    let mut fault = None;
     let mut number: usize = 0;
     for text in cut_lines(source) {
-        if let Err(unread) = take(alloc, number, text, known, items, notes, &mut fault) {
-            return Err(unread);
-        }
+        take(alloc, number, text, known, items, notes, unread, misplaced)?;
         number += 1;
     }
-    match fault {
-        None => Ok(()),
-        Some(fault) => Err(fault),
+    Ok(())
+}
+
+/// Appends the bytes of a statement, or its fault.
+fn write(
+    item: &PlacedStatement,
+    symbols: &Symbols,
+    out: &mut Vec<u8>,
+    faults: &mut Vec<AsmFault>,
+) -> Result<(), AllocError>
+    ensures faults { OnOk result (faults.new.items ≡ faults.old.items ++ item_faults symbols.now item.now) }
+    ensures bytes { OnOk result (faults.new.items ≡ [] → out.new.items ≡ out.old.items ++ item_listed symbols.now item.now) }
+{
+    match item.write(symbols, out) {
+        Ok(()) => Ok(()),
+        Err(FaultKind::OutOfMemory) => Err(AllocError),
+        Err(kind) => append(item.line(), Some(kind), faults),
     }
 }
 
-/// Returns the bytes of all statements: phase three.
-pub fn image(
+/// Returns the bytes of all statements, and appends the faults of those that have none: phase three.
+fn image(
     alloc: Global,
     items: &[PlacedStatement],
     symbols: &Symbols,
-) -> Result<Vec<u8>, AsmFault>
-    ensures { Gives (λ v. v.items) result (image_of symbols.now items.now) }
+    faults: &mut Vec<AsmFault>,
+) -> Result<Vec<u8>, AllocError>
+    requires { faults.old.items ≡ [] }
+    ensures faults { OnOk result (faults.new.items ≡ flat_map (item_faults symbols.now) items.now) }
+    ensures bytes { IfOk result (λ v. faults.new.items ≡ [] → v.items ≡ flat_map (item_listed symbols.now) items.now) }
 {
     let mut out = Vec::new(alloc);
     for item in items {
-        if let Err(kind) = item.write(alloc, symbols, &mut out) {
-            return Err(AsmFault::at(item.line() + 1, kind));
-        }
+        write(item, symbols, &mut out, faults)?;
     }
     Ok(out)
+}
+
+/// What is found of a source: its faults in the first phase that has any, its image if there are none, and its
+/// symbols with the address following its lines.
+#[derive(Drop)]
+pub struct Examined {
+    pub faults: Vec<AsmFault>,
+    pub bytes: Vec<u8>,
+    pub known: Known,
+}
+
+/// Performs the phases up to the first that has faults, with notes of the lines if they are wanted.
+pub fn examine(
+    alloc: Global,
+    source: &[u8],
+    notes: &mut Option<Notes>,
+) -> Result<Examined, AllocError>
+    requires { IfSome notes.old (λ n. n ≡ located [] 0) }
+    ensures { IfOk result (λ e. IsExamined source.now e.faults.items e.bytes.items e.known notes.old notes.new) }
+{
+    let mut known = Known::new(alloc);
+    let mut items = Vec::new(alloc);
+    let mut unread = Vec::new(alloc);
+    let mut faults = Vec::new(alloc);
+    lay_out(
+        alloc,
+        source,
+        &mut known,
+        &mut items,
+        notes,
+        &mut unread,
+        &mut faults,
+    )?;
+    let bytes = Vec::new(alloc);
+    if !unread.as_slice().is_empty() {
+        let faults = unread;
+        return Ok(Examined {
+            faults,
+            bytes,
+            known,
+        });
+    }
+    if !faults.as_slice().is_empty() {
+        return Ok(Examined {
+            faults,
+            bytes,
+            known,
+        });
+    }
+    let bytes = image(alloc, &items, known.symbols(), &mut faults)?;
+    Ok(Examined {
+        faults,
+        bytes,
+        known,
+    })
 }
 
 /// Assembles a source into its image and its names, with notes of its lines if they are wanted.
@@ -126,11 +218,15 @@ pub fn assemble_noting(
     ensures program { Gives (λ p. p) result (assembled source.now) }
     ensures notes { OnOk result (notes.new ≡ option_map (λ _. located (all_parsed (lines source.now)) (length (lines source.now))) notes.old) }
 {
-    let mut known = Known::new(alloc);
-    let mut items = Vec::new(alloc);
-    lay_out(alloc, source, &mut known, &mut items, notes)?;
-    let bytes = image(alloc, &items, known.symbols())?;
-    Ok(Program::new(bytes, known.into_names()))
+    let Examined {
+        faults,
+        bytes,
+        known,
+    } = examine(alloc, source, notes)?;
+    match faults.first() {
+        None => Ok(Program::new(bytes, known.into_symbols().names)),
+        Some(first) => Err(AsmFault::at(first.line, first.kind)),
+    }
 }
 
 /// Assembles a source into its image and its names.

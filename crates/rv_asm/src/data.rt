@@ -3,7 +3,7 @@ ghost use Rattle.std.specs.Prelude.{◌≡◌, ◌++◌, ◌<◌, ◌^◌, take,
 ghost use Rattle.std.specs.Option.{ok_or};
 ghost use Rattle.rv_isa.specs.declared.kind.Kind.TheVariants.{OpImm};
 ghost use Rattle.rv_isa.specs.declared.op.ImmOp.TheVariants.{Addi};
-ghost use Rattle.rv_asm.specs.Support.Kept.{KindBecomes, nops};
+ghost use Rattle.rv_asm.specs.Support.Statements.{KindBecomes, nops};
 ghost use Rattle.std.specs.Int.{to_le_bytes, w32};
 ghost use Rattle.rv_isa.specs.Number.{modulo};
 ghost use Rattle.rv_isa.specs.Width.{bytes_of};
@@ -16,6 +16,7 @@ use crate::FaultKind;
 use crate::instructions::{addi, write_instr};
 use crate::values::{bits, fits};
 use rv_isa::{Reg, Width};
+use std::alloc::AllocError;
 
 /// Appends the low bytes of a value, as many as the width has, lowest first, if it fits.
 #[tactic(auto, using(crate::proofs::DataBytes::width_within))]
@@ -30,15 +31,15 @@ pub fn write_fitting(width: Width, value: i64, out: &mut Vec<u8>) -> Result<(), 
 }
 
 /// Appends `count` copies of a byte.
-pub fn fill(count: u32, byte: u8, out: &mut Vec<u8>) -> Result<(), FaultKind>
-    ensures { KindBecomes out.new.items result (Ok (out.old.items ++ replicate count byte)) }
+pub fn fill(count: u32, byte: u8, out: &mut Vec<u8>) -> Result<(), AllocError>
+    ensures { OnOk result (out.new.items ≡ out.old.items ++ replicate count byte) }
 {
     Ok(out.resize(out.len() + count as usize, byte)?)
 }
 
 /// Appends the words of `count` instructions `nop`.
-fn write_nops(count: u32, out: &mut Vec<u8>) -> Result<(), FaultKind>
-    ensures { KindBecomes out.new.items result (Ok (out.old.items ++ bytes (nops count))) }
+fn write_nops(count: u32, out: &mut Vec<u8>) -> Result<(), AllocError>
+    ensures { OnOk result (out.new.items ≡ out.old.items ++ bytes (nops count)) }
 {
     let nop = addi(Reg::of(0), Reg::of(0), 0);
     for _ in 0..count {
@@ -49,8 +50,8 @@ fn write_nops(count: u32, out: &mut Vec<u8>) -> Result<(), FaultKind>
 
 /// Appends `count` bytes of padding: zeros, and then `nop` instructions.
 #[tactic(auto, unfolding(crate::specs::Listing::padding))]
-pub fn pad(count: u32, out: &mut Vec<u8>) -> Result<(), FaultKind>
-    ensures { KindBecomes out.new.items result (Ok (out.old.items ++ padding count)) }
+pub fn pad(count: u32, out: &mut Vec<u8>) -> Result<(), AllocError>
+    ensures { OnOk result (out.new.items ≡ out.old.items ++ padding count) }
 {
     fill(count % 4, 0, out)?;
     write_nops(count / 4, out)

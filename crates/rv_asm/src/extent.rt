@@ -1,12 +1,12 @@
 //! The extent of a statement, and its faults in phase two.
 ghost use Rattle.std.specs.Prelude.{◌≡◌, ◌==◌, ◌&&◌, ◌%◌, ◌≤◌, ◌<◌, ◌+◌, ◌*◌, ℕ, List, ℤ, min, not, is_some, true, false, Some, IfOk, IfSome};
 ghost use Rattle.std.specs.Option.{option_map_or};
+ghost use Rattle.std.specs.Result.{result_err};
 ghost use Rattle.rv_isa.specs.Width.{bytes_of};
 ghost use Rattle.rv_source.specs.declared.statement.Statement.{Statement};
-ghost use Rattle.rv_asm.specs.Support.Counted.{renames};
-ghost use Rattle.rv_asm.specs.Support.Kept.{KindGives, values_in};
-ghost use Rattle.rv_asm.specs.Support.Constants.{asked, IsKnown, IsTaken, is_unknown, is_instruction, size_of};
-ghost use Rattle.rv_asm.specs.Support.Steps.{image_end, free};
+ghost use Rattle.rv_asm.specs.Support.Counted.{fault_stated_by, renames};
+ghost use Rattle.rv_asm.specs.Support.Statements.{values_in, asked, IsKnown, IsTaken, is_unknown, is_instruction, size_of};
+ghost use Rattle.rv_asm.specs.Support.Steps.{image_end};
 
 use crate::FaultKind;
 use crate::instructions::loading;
@@ -41,7 +41,7 @@ fn is_taken(statement: &Statement, value: i64) -> bool
 /// Returns the constant of a statement: the value that must be known on its line, because its size or a name
 /// depends on it. Other statements have the constant 0. None if the value isn't known there, or isn't in the
 /// range of the statement.
-#[tactic(auto, unfolding(crate::specs::Support::Constants::IsKnown))]
+#[tactic(auto, unfolding(crate::specs::Support::Statements::IsKnown))]
 fn constant(scope: Scope, statement: &Statement) -> Option<i64>
     ensures unknown { is_unknown (values_in scope.entry) statement.now ≡ not (is_some result) }
     ensures known { IfSome result (λ c. IsKnown (values_in scope.entry) c statement.now) }
@@ -66,7 +66,7 @@ fn data_size(width: Width, count: usize) -> u32
 }
 
 /// Returns the size in bytes of a statement at the address `here`, saturated at 2^32 - 1.
-#[tactic(auto, using(crate::proofs::Sizes::length_bytes, crate::proofs::Sizes::padded, crate::proofs::Sizes::space_size), unfolding(crate::specs::Values::loading, crate::specs::Support::Constants::IsTaken, crate::specs::Listing::row))]
+#[tactic(auto, using(crate::proofs::Sizes::length_bytes, crate::proofs::Sizes::padded, crate::proofs::Sizes::space_size), unfolding(crate::specs::Values::loading, crate::specs::Support::Statements::IsTaken, crate::specs::Listing::row))]
 fn size_of(here: u32, constant: i64, statement: &Statement) -> u32
     requires { IsTaken constant statement.now }
     ensures { result ≡ min (size_of constant here statement.now) 0xffffffff }
@@ -109,9 +109,9 @@ fn renames(symbols: &Symbols, statement: &Statement) -> bool
 }
 
 /// Returns the extent of a statement, or its fault in phase two.
-#[tactic(auto, using(crate::proofs::Sizes::taken, crate::proofs::Extents::past, crate::proofs::Extents::within), unfolding(crate::specs::Support::Steps::free))]
+#[tactic(auto, using(crate::proofs::Sizes::taken, crate::proofs::Sizes::past, crate::proofs::Sizes::within))]
 pub fn extent_of(scope: Scope, statement: &Statement) -> Result<Extent, FaultKind>
-    ensures fault { KindGives (λ _. tt) result (free scope.entry.symbols.now scope.entry.line scope.entry.here statement.now) }
+    ensures fault { result_err result ≡ fault_stated_by scope.entry.symbols.now.names (values_in scope.entry) scope.entry.here statement.now }
     ensures known { IfOk result (λ e. IsKnown (values_in scope.entry) e.constant statement.now) }
     ensures end { IfOk result (λ e. e.end ≡ scope.entry.here + size_of e.constant scope.entry.here statement.now) }
     ensures within { IfOk result (λ e. e.end ≤ image_end) }

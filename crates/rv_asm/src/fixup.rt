@@ -2,13 +2,14 @@
 ghost use Rattle.std.specs.Prelude.{◌≡◌, ◌++◌};
 ghost use Rattle.std.specs.Option.{option_map};
 ghost use Rattle.rv_asm.specs.Listing.{bytes, filled};
-ghost use Rattle.rv_asm.specs.Support.Kept.{kinds, near, pair};
+ghost use Rattle.rv_asm.specs.Support.Statements.{kinds, near, pair};
 
 use crate::FaultKind;
-use crate::data::write_fitting;
+use crate::data::{self, write_fitting};
 use crate::instructions::{Instructions, auipc};
 use crate::values::{
-    branch_distance, far, five_bits, hi, immediate, jump_distance, lo, part_value, upper_immediate,
+    branch_distance, byte, far, five_bits, hi, immediate, jump_distance, lo, part_value,
+    upper_immediate,
 };
 use rv_isa::{Instr, Kind, Reg, Width};
 use rv_source::{Form, Operand, Part};
@@ -63,12 +64,14 @@ pub enum Waiting {
     Far { scratch: Reg, instr: Instr },
     /// The value itself, in a width.
     Data { width: Width },
+    /// The value itself, in a byte, so many times.
+    Fill { count: u32 },
 }
 
 impl Waiting {
     ghost use Rattle.std.specs.Prelude.{◌≡◌};
     ghost use Rattle.rv_source.specs.Support.Partial.{part_of};
-    ghost use Rattle.rv_asm.specs.Support.Kept.{KindBecomes};
+    ghost use Rattle.rv_asm.specs.Support.Statements.{KindBecomes};
     ghost use Rattle.rv_asm.specs.Support.Steps.{appended, waiting_bytes};
     ghost use Rattle.rv_asm.specs.declared.fixup.Waiting.TheVariants as w;
 
@@ -96,7 +99,11 @@ impl Waiting {
             Waiting::Near { instr, part } => near(here, instr, part, value),
             Waiting::Far { scratch, instr } => pair(here, scratch, instr, value),
             Waiting::Data { width } => return write_fitting(width, value, out),
+            Waiting::Fill { count } => {
+                let byte = byte(value).ok_or(FaultKind::OutOfRange)?;
+                return Ok(data::fill(count, byte, out)?);
+            }
         };
-        instructions.ok_or(FaultKind::OutOfRange)?.write(out)
+        Ok(instructions.ok_or(FaultKind::OutOfRange)?.write(out)?)
     }
 }

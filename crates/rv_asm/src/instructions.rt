@@ -1,15 +1,15 @@
 //! The instructions that a statement is assembled to.
-ghost use Rattle.std.specs.Prelude.{◌≡◌, ◌<◌, ◌^◌, ◌++◌, [], ◌∷◌, Ok};
+ghost use Rattle.std.specs.Prelude.{◌≡◌, ◌<◌, ◌^◌, ◌++◌, [], ◌∷◌, OnOk};
 ghost use Rattle.rv_isa.specs.Number.{IsWithin};
 ghost use Rattle.rv_isa.specs.declared.kind.Kind.TheVariants.{Lui, Auipc, OpImm};
 ghost use Rattle.rv_isa.specs.declared.op.ImmOp.TheVariants.{Addi};
-ghost use Rattle.rv_asm.specs.Support.Kept.{KindBecomes, kinds};
+ghost use Rattle.rv_asm.specs.Support.Statements.{kinds};
 ghost use Rattle.rv_asm.specs.Listing.{bytes};
 ghost use Rattle.rv_asm.specs.Values.{loading};
 
-use crate::FaultKind;
 use crate::values::{hi, immediate, lo};
 use rv_isa::{ImmOp, Instr, Kind, Reg, encode};
+use std::alloc::AllocError;
 
 /// The instructions of a statement: one or two.
 #[derive(Clone, Copy)]
@@ -19,8 +19,8 @@ pub enum Instructions {
 }
 
 impl Instructions {
-    ghost use Rattle.std.specs.Prelude.{◌≡◌, ◌++◌, ◌*◌, length, Ok};
-    ghost use Rattle.rv_asm.specs.Support.Kept.{KindBecomes, kinds};
+    ghost use Rattle.std.specs.Prelude.{◌≡◌, ◌++◌, ◌*◌, length, OnOk};
+    ghost use Rattle.rv_asm.specs.Support.Statements.{kinds};
     ghost use Rattle.rv_asm.specs.Listing.{bytes};
 
     /// Returns the size of the instructions in bytes.
@@ -34,8 +34,8 @@ impl Instructions {
     }
 
     /// Appends the words of the instructions, each with its lowest byte first.
-    pub fn write(self, out: &mut Vec<u8>) -> Result<(), FaultKind>
-        ensures { KindBecomes out.new.items result (Ok (out.old.items ++ bytes (kinds self))) }
+    pub fn write(self, out: &mut Vec<u8>) -> Result<(), AllocError>
+        ensures { OnOk result (out.new.items ≡ out.old.items ++ bytes (kinds self)) }
     {
         match self {
             Instructions::One(only) => write_instr(only, out),
@@ -48,8 +48,8 @@ impl Instructions {
 }
 
 /// Appends the word of an instruction, its lowest byte first.
-pub fn write_instr(instr: Instr, out: &mut Vec<u8>) -> Result<(), FaultKind>
-    ensures { KindBecomes out.new.items result (Ok (out.old.items ++ bytes (instr ∷ []))) }
+pub fn write_instr(instr: Instr, out: &mut Vec<u8>) -> Result<(), AllocError>
+    ensures { OnOk result (out.new.items ≡ out.old.items ++ bytes (instr ∷ [])) }
 {
     Ok(out.extend_from_slice(&encode(instr).to_le_bytes())?)
 }

@@ -1,37 +1,257 @@
 //! What is kept of a statement until all symbols are known.
+ghost use Rattle.std.specs.Prelude.{◌≡◌, ℕ, map, Ok, IfOk, IfSome};
+ghost use Rattle.rv_source.specs.Operands.{terms_of};
+ghost use Rattle.rv_asm.specs.Symbols.{Definitions, operand_value};
+ghost use Rattle.rv_asm.specs.Listing.{bytes_in, padding, placed, space};
+ghost use Rattle.rv_asm.specs.Support.Statements.{IsTaken, statement_bytes};
+ghost use Rattle.rv_asm.specs.Support.Steps.{IsNumber, IsSum, expression_of, kept_bytes, waiting_bytes};
+
+use crate::data::{fill, pad};
 use crate::fixup::Waiting;
-use crate::instructions::Instructions;
-use crate::single::Single;
+use crate::instructions::{Instructions, loading};
+use crate::symbols::{Scope, added};
+use crate::values::{bits, gap};
+use rv_isa::Width;
+use rv_source::{Atom, Expression, Form, Operand, Statement, Value};
+use std::alloc::{AllocError, Global};
 use std::marker::Model;
 
-/// The text of a line, which is read again where its bytes are written, and the value that was known on the
-/// line.
+/// Bytes that wait for nothing. The view is the list of them.
 #[derive(Drop)]
-pub struct LineText<'a> {
-    pub bytes: &'a [u8],
-    pub constant: i64,
+pub struct Ready(Vec<u8>);
+
+impl Model for Ready {
+    ghost use Rattle.std.specs.Prelude.{List, ℕ};
+
+    ghost Value = { List ℕ };
+
+    ghost view = { λ r. r.0.items };
 }
 
-impl<'a> Model for LineText<'a> {
-    ghost use Rattle.rv_asm.specs.Support.Constants.{KeptLine, IsStated};
+impl Ready {
+    ghost use Rattle.std.specs.Prelude.{◌≡◌, ◌++◌, OnOk};
 
-    ghost Value = { KeptLine };
+    /// Appends the bytes.
+    pub fn append_to(&self, out: &mut Vec<u8>) -> Result<(), AllocError>
+        ensures { OnOk result (out.new.items ≡ out.old.items ++ self.now) }
+    {
+        Ok(out.extend_from_slice(&self.0)?)
+    }
+}
 
-    ghost view = { λ t. record { bytes = t.bytes.now; constant = t.constant } };
+/// The expressions of operands. The view is the list of them.
+#[derive(Drop)]
+pub struct Sums<'a>(Vec<Expression<'a>>);
 
-    ghost invariant = { λ t. IsStated t.constant t.bytes.now };
+impl<'a> Model for Sums<'a> {
+    ghost use Rattle.std.specs.Prelude.{List};
+    ghost use Rattle.rv_source.specs.declared.expression.Term.{Term};
+
+    ghost Value = { List (List Term) };
+
+    ghost view = { λ s. s.0.items };
+}
+
+impl<'a> Sums<'a> {
+    ghost use Rattle.std.specs.Prelude.{◌≡◌};
+
+    /// Returns the expressions, from left to right.
+    pub fn as_slice(&self) -> &[Expression<'a>]
+        ensures { result.now ≡ self.now }
+    {
+        self.0.as_slice()
+    }
+}
+
+/// The value of an atom or its negative, with a number added to it, or subtracted from it.
+#[derive(Drop)]
+pub struct Single<'a> {
+    atom: Atom<'a>,
+    negated: bool,
+    negative: bool,
+    number: u32,
 }
 
 /// What is kept of a statement until all symbols are known. The statement itself isn't kept, since its lists
 /// would take many times the memory of its text.
 #[derive(Drop)]
 pub enum Kept<'a> {
-    /// A statement without bytes.
-    Nothing,
     /// Instructions that wait for nothing.
     Instructions(Instructions),
-    /// Instructions or data that wait for the value of a single symbol.
-    Waiting { waiting: Waiting, value: Single<'a> },
-    /// Any other statement.
-    Line(LineText<'a>),
+    /// Other bytes that wait for nothing.
+    Ready(Ready),
+    /// What waits for the value of a single symbol.
+    One { waiting: Waiting, value: Single<'a> },
+    /// What waits for values, each in its place.
+    Many { waiting: Waiting, values: Sums<'a> },
+}
+
+/// Returns the number of an atom that is one.
+fn number(atom: &Atom) -> Option<u32>
+    ensures { IfSome result (IsNumber atom.now) }
+{
+    match atom {
+        Atom::Number(n) => Some(*n),
+        Atom::Character(b) => Some(u32::from(*b)),
+        _ => None,
+    }
+}
+
+/// Returns the value of an expression as that of a single atom and a number, if it has this form.
+pub fn as_single<'a>(sum: &Expression<'a>) -> Option<Single<'a>>
+    ensures { IfSome result (IsSum sum.now) }
+{
+    let (first, more) = sum.terms();
+    let (negative, number) = match more {
+        [] => (false, 0),
+        [second] => (second.negative, number(&second.atom)?),
+        _ => return None,
+    };
+    Some(Single {
+        atom: first.atom.again(),
+        negated: first.negative,
+        negative,
+        number,
+    })
+}
+
+impl<'a> Single<'a> {
+    ghost use Rattle.std.specs.Prelude.{◌≡◌};
+    ghost use Rattle.rv_asm.specs.Support.Steps.{single_value};
+
+    /// Returns the value, or None if the symbol isn't defined.
+    pub fn value(&self, scope: Scope) -> Option<i64>
+        ensures { result ≡ single_value scope.entry.symbols.now scope.entry.line scope.entry.here self.now }
+    {
+        let value = added(0, self.negated, scope.atom(&self.atom)?);
+        Some(added(value, self.negative, i64::from(self.number)))
+    }
+}
+
+/// Returns the expression of an operand.
+fn sum_of<'a>(alloc: Global, operand: &Operand<'a>) -> Result<Expression<'a>, AllocError>
+    ensures { IfOk result (λ e. e ≡ expression_of operand.now) }
+{
+    match &operand.form {
+        Form::Value { sum, .. } => sum.again(alloc),
+        Form::Text(_) => Ok(Expression::zero(alloc)),
+    }
+}
+
+/// Returns the expressions of operands.
+fn sums_of<'a>(alloc: Global, operands: &[Operand<'a>]) -> Result<Sums<'a>, AllocError>
+    ensures { IfOk result (λ sums. sums ≡ map expression_of operands.now) }
+{
+    let mut sums = Vec::with_capacity(alloc, operands.len())?;
+    for operand in operands {
+        sums.push(sum_of(alloc, operand)?)?;
+    }
+    Ok(Sums(sums))
+}
+
+/// Returns the value of an operand as that of a single symbol, if it has this form.
+fn symbol_of<'a>(operand: &Operand<'a>) -> Option<Single<'a>>
+    ensures { IfSome result (IsSum (terms_of operand.now)) }
+{
+    match &operand.form {
+        Form::Value { sum, .. } => as_single(sum),
+        Form::Text(_) => None,
+    }
+}
+
+/// Returns what is kept of what waits for the value of an operand.
+#[tactic(auto, using(crate::proofs::Laying::one_kept, crate::proofs::Laying::waiting_kept))]
+fn waiting_for<'a>(
+    alloc: Global,
+    waiting: Waiting,
+    operand: &Operand<'a>,
+) -> Result<Kept<'a>, AllocError>
+    ensures { IfOk result (λ k. (ds : Definitions) → (line here : ℕ) → kept_bytes ds line here k ≡ waiting_bytes here waiting (operand_value ds line here operand.now)) }
+{
+    if let Some(value) = symbol_of(operand) {
+        return Ok(Kept::One { waiting, value });
+    }
+    let mut sums = Vec::with_capacity(alloc, 1)?;
+    sums.push(sum_of(alloc, operand)?)?;
+    let values = Sums(sums);
+    Ok(Kept::Many { waiting, values })
+}
+
+/// Returns what is kept of values of a width.
+#[tactic(auto, using(crate::proofs::Laying::data_kept, crate::proofs::Laying::many_kept))]
+fn data<'a>(alloc: Global, width: Width, operands: &[Operand<'a>]) -> Result<Kept<'a>, AllocError>
+    ensures { IfOk result (λ k. (ds : Definitions) → (line here : ℕ) → kept_bytes ds line here k ≡ placed (bytes_in width) operands.now (operand_value ds line here)) }
+{
+    let waiting = Waiting::Data { width };
+    if let [only] = operands {
+        return waiting_for(alloc, waiting, only);
+    }
+    let values = sums_of(alloc, operands)?;
+    Ok(Kept::Many { waiting, values })
+}
+
+/// Returns what is kept of a space of so many bytes.
+#[tactic(auto, using(crate::proofs::Laying::space_kept), unfolding(crate::specs::Support::Steps::kept_bytes))]
+fn space<'a>(
+    alloc: Global,
+    count: u32,
+    byte: &Option<Value<'_, 'a>>,
+) -> Result<Kept<'a>, AllocError>
+    ensures { IfOk result (λ k. (ds : Definitions) → (line here : ℕ) → kept_bytes ds line here k ≡ (space count byte.now).contents (operand_value ds line here)) }
+{
+    if let Some(byte) = byte {
+        return waiting_for(alloc, Waiting::Fill { count }, byte.operand());
+    }
+    let mut zeros = Vec::new(alloc);
+    fill(count, 0, &mut zeros)?;
+    Ok(Kept::Ready(Ready(zeros)))
+}
+
+/// Returns what is kept of so many bytes of padding.
+#[tactic(auto, unfolding(crate::specs::Support::Steps::kept_bytes))]
+fn padding<'a>(alloc: Global, count: u32) -> Result<Kept<'a>, AllocError>
+    ensures { IfOk result (λ k. (ds : Definitions) → (line here : ℕ) → kept_bytes ds line here k ≡ Ok (padding count)) }
+{
+    let mut bytes = Vec::new(alloc);
+    pad(count, &mut bytes)?;
+    Ok(Kept::Ready(Ready(bytes)))
+}
+
+/// Returns what is kept of a statement at an address, with its constant.
+#[tactic(auto, unfolding(crate::specs::Support::Statements::statement_bytes, crate::specs::Support::Statements::IsTaken, crate::specs::Support::Steps::kept_bytes))]
+pub fn keep<'a>(
+    alloc: Global,
+    here: u32,
+    constant: i64,
+    statement: &Statement<'_, 'a>,
+) -> Result<Kept<'a>, AllocError>
+    requires { IsTaken constant statement.now }
+    ensures { IfOk result (λ k. (ds : Definitions) → (line : ℕ) → kept_bytes ds line here k ≡ statement_bytes constant (operand_value ds line here) here statement.now) }
+{
+    match statement {
+        Statement::Instruction(instr) => Ok(Kept::Instructions(Instructions::One(*instr))),
+        Statement::Li { rd, .. } => Ok(Kept::Instructions(loading(*rd, bits(constant)))),
+        Statement::WithValue { instr, value } => {
+            let waiting = Waiting::near(*instr, value.operand());
+            waiting_for(alloc, waiting, value.operand())
+        }
+        Statement::Far {
+            scratch,
+            instr,
+            target,
+        } => {
+            let (scratch, instr) = (*scratch, *instr);
+            waiting_for(alloc, Waiting::Far { scratch, instr }, target.operand())
+        }
+        Statement::Data { width, values } => data(alloc, *width, values.as_slice()),
+        Statement::Bytes(strings) => {
+            let mut bytes = Vec::new(alloc);
+            strings.append_to(&mut bytes)?;
+            Ok(Kept::Ready(Ready(bytes)))
+        }
+        Statement::Space { fill, .. } => space(alloc, bits(constant), fill),
+        Statement::Align { .. } => padding(alloc, gap(here, 1 << bits(constant))),
+        Statement::Balign { .. } => padding(alloc, gap(here, bits(constant))),
+        Statement::Constant { .. } | Statement::Marker => Ok(Kept::Ready(Ready(Vec::new(alloc)))),
+    }
 }

@@ -5,7 +5,6 @@ use crate::locals::LocalLabel;
 use crate::placement::PlacedStatement;
 use crate::symbols::{Scope, Symbols};
 use rv_base::RAM_BASE;
-use rv_program::Names;
 use rv_source::{Label, Statement};
 use std::alloc::{AllocError, Global};
 use std::marker::Model;
@@ -26,14 +25,10 @@ impl Model for Known {
 }
 
 impl Known {
-    ghost use Rattle.std.specs.Prelude.{◌≡◌, ◌≤◌, ◌<◌, ◌∷◌, [], is_some, length, Some, Ok, OnOk, IfOk, IfErr, IfSome};
+    ghost use Rattle.std.specs.Prelude.{◌≡◌, ◌≤◌, ◌<◌, ◌∷◌, [], OnOk, IfOk};
     ghost use Rattle.std.specs.List.{All};
-    ghost use Rattle.rv_source.specs.Reading.{parsed};
-    ghost use Rattle.rv_asm.specs.Support.Kept.{KindBecomes};
     ghost use Rattle.rv_asm.specs.Support.Counted.{relabels};
-    ghost use Rattle.rv_asm.specs.Support.Steps.{start, values_of, labelled, after_statement, after_line, Adds, AddsLine};
-    ghost use Rattle.rv_asm.specs.Support.Constants.{IsKnown, statement_in};
-    ghost use Rattle.rv_asm.specs.Support.Judged.{Keeps, new_among};
+    ghost use Rattle.rv_asm.specs.Support.Steps.{start, labelled, LaysOut, new_among};
 
     pub fn new(alloc: Global) -> Self
         ensures { result ≡ start }
@@ -78,29 +73,28 @@ impl Known {
         }
     }
 
-    /// Defines the labels of a line but those whose name is already defined, from left to right. Returns the
-    /// index of the first that is left out.
-    pub fn new_labels(
+    /// Defines the labels of a line but those whose name is already defined, from left to right. Returns
+    /// whether any is left out.
+    fn new_labels(
         &mut self,
         alloc: Global,
         line: usize,
         labels: &[Label],
-    ) -> Result<Option<usize>, AllocError>
+    ) -> Result<bool, AllocError>
         requires { All (λ d. d.line ≤ line) self.old.definitions.locals }
         ensures known { OnOk result (self.new ≡ labelled line self.old (new_among self.old labels.now)) }
-        ensures index { IfOk result (λ i. is_some i ≡ relabels self.old labels.now) }
-        ensures within { IfOk result (λ i. IfSome i (λ n. n < length labels.now)) }
+        ensures old { IfOk result (λ old. old ≡ relabels self.old labels.now) }
     {
-        let mut left_out = None;
-        for index in 0..labels.len() {
-            let is_old = self.label(alloc, line, &labels[index])?;
-            left_out = left_out.or(is_old.then_some(index));
+        let mut left_out = false;
+        for label in labels {
+            let is_old = self.label(alloc, line, label)?;
+            left_out = left_out || is_old;
         }
         Ok(left_out)
     }
 
     /// Returns the scope of a statement of a line at the current address.
-    pub fn scope(&self, line: usize) -> Scope<'_>
+    fn scope(&self, line: usize) -> Scope<'_>
         ensures symbols { result.symbols.now ≡ self.now.definitions }
         ensures line { result.line ≡ line }
         ensures here { result.here ≡ self.now.address }
@@ -112,54 +106,38 @@ impl Known {
         }
     }
 
-    /// Defines the name of the statement of a line if it is `.equ`, and moves the address past it. Returns
-    /// the value that had to be known.
-    #[tactic(auto, using(crate::proofs::Placing::not_placed, crate::proofs::Placing::placed, crate::proofs::Sizes::taken))]
-    pub fn advance(
-        &mut self,
-        alloc: Global,
-        line: usize,
-        statement: &Statement,
-    ) -> Result<i64, FaultKind>
-        ensures known { KindBecomes self.new result (after_statement line self.old (Some statement.now)) }
-        ensures same { IfErr result (λ kind. Keeps kind self.old self.new) }
-        ensures constant { IfOk result (λ c. IsKnown (values_of line self.old) c statement.now) }
-    {
-        let extent = extent_of(self.scope(line), statement)?;
-        self.symbols
-            .define_constant(alloc, extent.constant, statement)?;
-        self.address = extent.end;
-        Ok(extent.constant)
-    }
-
-    /// Lays out one more line: defines its labels and places its statement. `text` is the line as written,
-    /// and `number` counts from 0.
-    #[tactic(auto, using(crate::proofs::Placing::adds, crate::proofs::Sizes::taken))]
+    /// Lays out one more line: defines its labels and places its statement. Returns its fault in phase two, if
+    /// it has one: then its statement is left out, and so are labels that define a name a second time. `number`
+    /// counts from 0.
+    #[tactic(auto, using(crate::proofs::Laying::not_some, crate::proofs::Sizes::taken))]
     pub fn add<'a>(
         &mut self,
         alloc: Global,
         number: usize,
-        text: &'a [u8],
         labels: &[Label],
         statement: &Option<Statement<'_, 'a>>,
         items: &mut Vec<PlacedStatement<'a>>,
-    ) -> Result<(), FaultKind>
+    ) -> Result<Option<FaultKind>, AllocError>
         requires up_to { All (λ d. d.line ≤ number) self.old.definitions.locals }
         requires counted { number < 0xffffffffffffffff }
-        requires read { parsed text.now ≡ Ok (record { labels = labels.now; statement = statement.now }) }
-        ensures known { KindBecomes self.new result (after_line number self.old (record { labels = labels.now; statement = statement.now })) }
-        ensures items { OnOk result (AddsLine number self.old (record { labels = labels.now; statement = statement.now }) items.old.items items.new.items) }
+        ensures { IfOk result (λ f. LaysOut number self.old (record { labels = labels.now; statement = statement.now }) f self.new items.old.items items.new.items) }
     {
-        if self.new_labels(alloc, number, labels)?.is_some() {
-            return Err(FaultKind::DuplicateSymbol);
+        if self.new_labels(alloc, number, labels)? {
+            return Ok(Some(FaultKind::DuplicateSymbol));
         }
         let Some(statement) = statement else {
-            return Ok(());
+            return Ok(None);
         };
-        let address = self.address;
-        let constant = self.advance(alloc, number, statement)?;
-        let item = PlacedStatement::new(number, address, constant, text, statement);
-        Ok(items.push(item)?)
+        let extent = match extent_of(self.scope(number), statement) {
+            Ok(extent) => extent,
+            Err(kind) => return Ok(Some(kind)),
+        };
+        let constant = extent.constant;
+        let item = PlacedStatement::new(alloc, number, self.address, constant, statement)?;
+        self.symbols.define_constant(alloc, constant, statement)?;
+        self.address = extent.end;
+        items.push(item)?;
+        Ok(None)
     }
 
     /// Returns the address of the next statement.
@@ -169,10 +147,10 @@ impl Known {
         self.address
     }
 
-    /// Returns the names, without the local labels.
-    pub fn into_names(self) -> Names
-        ensures { result ≡ self.definitions.names }
+    /// Returns the symbols defined so far, without the address.
+    pub fn into_symbols(self) -> Symbols
+        ensures { result ≡ self.definitions }
     {
-        self.symbols.names
+        self.symbols
     }
 }

@@ -10,11 +10,7 @@
 
 mod assembler;
 mod data;
-mod diagnosis;
-mod emission;
 mod extent;
-mod faults;
-mod finding;
 mod fixup;
 mod instructions;
 mod kept;
@@ -22,15 +18,14 @@ mod layout;
 mod listing;
 mod locals;
 mod notes;
-mod origins;
 mod placement;
-mod single;
+mod rejected;
 mod symbols;
 mod values;
 
 pub use assembler::assemble;
-pub use diagnosis::{Detail, Diagnosis, Field};
-pub use faults::diagnose;
 pub use listing::{Listing, NearLabel, Places, list};
 pub use locals::LocalLabel;
+pub use rejected::{Reviewed, review};
 pub use rv_program::{AsmFault, FaultKind, Program};
+pub use values::fits;

@@ -9,9 +9,8 @@ ghost use Rattle.rv_program.specs.Faults.{Gives};
 ghost use Rattle.rv_asm.specs.Assembly.{all_parsed, line_bytes};
 ghost use Rattle.rv_asm.specs.Lines.{listed, bytes_of, end_of, listing_of};
 ghost use Rattle.rv_asm.specs.Layout.{labels_in};
-ghost use Rattle.rv_asm.specs.Support.Counted.{address, labels, up_to};
-ghost use Rattle.rv_asm.specs.Support.Kept.{last_of};
-ghost use Rattle.rv_asm.specs.Support.Looked.{LabelsRise};
+ghost use Rattle.rv_asm.specs.Support.Counted.{address, labels, up_to, LabelsRise};
+ghost use Rattle.rv_asm.specs.Support.Statements.{last_of};
 
 use crate::assembler::assemble_noting;
 use crate::notes::{Notes, PlacedName};
@@ -40,7 +39,7 @@ impl Drop for Places {
 
 impl Model for Places {
     ghost use Rattle.rv_asm.specs.Lines.{Located};
-    ghost use Rattle.rv_asm.specs.Support.Looked.{LieInOrder};
+    ghost use Rattle.rv_asm.specs.Support.Counted.{LieInOrder};
 
     ghost Value = { Located };
 
@@ -51,13 +50,17 @@ impl Model for Places {
 
 impl Places {
     ghost use Rattle.std.specs.Prelude.{◌≡◌};
-    ghost use Rattle.rv_asm.specs.Support.Looked.{LieInOrder};
+    ghost use Rattle.rv_asm.specs.Support.Counted.{LieInOrder};
 
     fn of(notes: Notes) -> Places
         requires { LieInOrder notes }
         ensures { result ≡ notes }
     {
-        let Notes { addresses, labels } = notes;
+        let Notes {
+            addresses,
+            labels,
+            origins: _,
+        } = notes;
         Places { addresses, labels }
     }
 }

@@ -1,7 +1,7 @@
 //! Local labels, which may be defined any number of times.
 ghost use Rattle.std.specs.Prelude.{◌≡◌, ◌≤◌, ◌<◌, ℕ, [], get_or, length, OnOk};
 ghost use Rattle.std.specs.List.{All};
-ghost use Rattle.rv_asm.specs.Support.Kept.{Files};
+ghost use Rattle.rv_asm.specs.Support.Statements.{Files};
 
 use rv_tokens::Direction;
 use std::alloc::{AllocError, Global};
@@ -38,7 +38,7 @@ impl Repeated {
     ghost use Rattle.std.specs.Prelude.{◌≡◌, ◌≤◌, [], ◌∷◌, ◌++◌, None, filter, nat_le, nat_lt, slice_get, OnOk, OnErr};
     ghost use Rattle.std.specs.List.{All, find, last_or};
     ghost use Rattle.rv_asm.specs.Symbols.{nearest};
-    ghost use Rattle.rv_asm.specs.Support.Kept.{last_of};
+    ghost use Rattle.rv_asm.specs.Support.Statements.{last_of};
 
     fn push(&mut self, label: LocalLabel) -> Result<(), AllocError>
         requires { All (λ d. d.line ≤ label.line) self.old }
@@ -100,7 +100,7 @@ impl Drop for Locals {
 impl Model for Locals {
     ghost use Rattle.std.specs.Prelude.{◌≡◌, ℕ, List, [], get_or};
     ghost use Rattle.rv_asm.specs.declared.locals.LocalLabel.{LocalLabel};
-    ghost use Rattle.rv_asm.specs.Support.Kept.{of_number};
+    ghost use Rattle.rv_asm.specs.Support.Statements.{of_number};
 
     ghost Value = { List LocalLabel };
 
@@ -112,7 +112,7 @@ impl Model for Locals {
 impl Locals {
     ghost use Rattle.std.specs.Prelude.{◌≡◌, ◌≤◌, [], ◌∷◌, ◌++◌, OnOk};
     ghost use Rattle.std.specs.List.{All};
-    ghost use Rattle.rv_asm.specs.Support.Kept.{of_number};
+    ghost use Rattle.rv_asm.specs.Support.Statements.{of_number};
     ghost use Rattle.rv_asm.specs.Symbols.{nearest};
 
     pub fn new(alloc: Global) -> Self

@@ -1,9 +1,10 @@
-//! What a listing notes of the lines of a source while they are laid out.
-ghost use Rattle.std.specs.Prelude.{◌≡◌, ◌++◌, OnOk};
+//! What is noted of the lines of a source while they are laid out.
+ghost use Rattle.std.specs.Prelude.{◌≡◌, ◌++◌, is_some, OnOk};
 ghost use Rattle.std.specs.Option.{option_map};
 ghost use Rattle.rv_asm.specs.Layout.{labels_in};
-ghost use Rattle.rv_asm.specs.Support.Looked.{with_line};
+ghost use Rattle.rv_asm.specs.Support.Counted.{with_line};
 
+use crate::layout::Known;
 use rv_base::RAM_BASE;
 use rv_source::Label;
 use std::alloc::{AllocError, Global};
@@ -43,11 +44,21 @@ fn push_names(
     push_names(alloc, address, rest, out)
 }
 
+/// Appends a line for each of `count` names that has none yet.
+fn push_lines(line: usize, count: usize, out: &mut Vec<usize>) -> Result<(), AllocError> {
+    for _ in out.len()..count {
+        out.push(line)?;
+    }
+    Ok(())
+}
+
 /// The addresses of some lines, with the one following them, and their labels.
 #[derive(Drop)]
 pub struct Notes {
     pub addresses: Vec<u32>,
     pub labels: Vec<PlacedName>,
+    /// The line that defines each name, counted from 1, in order of definition.
+    pub origins: Vec<usize>,
 }
 
 impl Model for Notes {
@@ -61,7 +72,7 @@ impl Model for Notes {
 impl Notes {
     ghost use Rattle.std.specs.Prelude.{◌≡◌, ◌∷◌, [], IfOk, OnOk};
     ghost use Rattle.rv_base.specs.Limits.{ram_base};
-    ghost use Rattle.rv_asm.specs.Support.Looked.{with_line};
+    ghost use Rattle.rv_asm.specs.Support.Counted.{with_line};
 
     /// Makes the notes of no lines.
     pub fn new(alloc: Global) -> Result<Notes, AllocError>
@@ -69,22 +80,28 @@ impl Notes {
     {
         let mut addresses = Vec::new(alloc);
         addresses.push(RAM_BASE)?;
-        let labels = Vec::new(alloc);
-        Ok(Notes { addresses, labels })
+        Ok(Notes {
+            addresses,
+            labels: Vec::new(alloc),
+            origins: Vec::new(alloc),
+        })
     }
 
-    /// Adds a line from an address up to another, with its labels.
+    /// Adds a line from an address on, with its labels, by what is known after it.
     fn add(
         &mut self,
         alloc: Global,
         here: u32,
         labels: &[Label],
-        end: u32,
+        known: &Known,
     ) -> Result<(), AllocError>
-        ensures { OnOk result (self.new ≡ with_line here labels.now end self.old) }
+        ensures { OnOk result (self.new ≡ with_line here labels.now known.now.address self.old) }
     {
         push_names(alloc, here, labels, &mut self.labels)?;
-        Ok(self.addresses.push(end)?)
+        let line = self.addresses.len();
+        let count = known.symbols().names.map().len();
+        push_lines(line, count, &mut self.origins)?;
+        Ok(self.addresses.push(known.address())?)
     }
 }
 
@@ -94,12 +111,13 @@ pub fn note(
     notes: &mut Option<Notes>,
     here: u32,
     labels: &[Label],
-    end: u32,
+    known: &Known,
 ) -> Result<(), AllocError>
-    ensures { OnOk result (notes.new ≡ option_map (with_line here labels.now end) notes.old) }
+    ensures notes { OnOk result (notes.new ≡ option_map (with_line here labels.now known.now.address) notes.old) }
+    ensures keeps { OnOk result (is_some notes.new ≡ is_some notes.old) }
 {
     match notes {
-        Some(notes) => notes.add(alloc, here, labels, end),
+        Some(notes) => notes.add(alloc, here, labels, known),
         None => Ok(()),
     }
 }

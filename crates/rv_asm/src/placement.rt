@@ -1,20 +1,44 @@
-//! Statements with their places in the image.
-ghost use Rattle.std.specs.Prelude.{◌≡◌, ℕ, IfSome};
-ghost use Rattle.rv_asm.specs.Symbols.{Definitions, operand_value};
-ghost use Rattle.rv_asm.specs.Support.Constants.{statement_bytes};
-ghost use Rattle.rv_asm.specs.Support.Kept.{KindBecomes};
-ghost use Rattle.rv_asm.specs.Support.Steps.{kept_bytes, waiting_bytes, line_text_bytes, appended};
+//! Statements with their places in the image, and phase three: how their bytes are written.
+ghost use Rattle.std.specs.Prelude.{◌≡◌};
+ghost use Rattle.rv_asm.specs.Support.Statements.{KindBecomes, has_unknown, sums_in};
+ghost use Rattle.rv_asm.specs.Support.Steps.{appended, sums_bytes};
 
 use crate::FaultKind;
 use crate::fixup::Waiting;
-use crate::instructions::{Instructions, loading};
-use crate::kept::{Kept, LineText};
-use crate::single::as_single;
+use crate::kept::{Kept, keep};
 use crate::symbols::{Scope, Symbols};
-use crate::values::bits;
-use rv_source::{Form, Operand, Statement, read_line_form};
-use std::alloc::Global;
+use rv_source::{Expression, Statement};
+use std::alloc::{AllocError, Global};
 use std::marker::Model;
+
+/// Returns whether an expression has no value.
+fn has_unknown(scope: Scope, sums: &[Expression]) -> bool
+    ensures { result ≡ has_unknown (sums_in scope.entry) sums.now }
+{
+    sums.iter().any(|sum| scope.sum(sum).is_none())
+}
+
+/// Appends what waits for values. An undefined value is reported before one that is out of range.
+#[tactic(auto, using(crate::proofs::DataBytes::placed_more, crate::proofs::DataBytes::unknown_later, crate::proofs::DataBytes::first_fails), unfolding(crate::specs::Support::Steps::sums_bytes))]
+fn write_sums(
+    scope: Scope,
+    waiting: &Waiting,
+    sums: &[Expression],
+    out: &mut Vec<u8>,
+) -> Result<(), FaultKind>
+    ensures { KindBecomes out.new.items result (appended out.old.items (sums_bytes scope.entry.symbols.now scope.entry.line scope.entry.here waiting.now sums.now)) }
+{
+    let [first, rest @ ..] = sums else {
+        return Ok(());
+    };
+    if let Err(kind) = waiting.write(scope.here, scope.sum(first), out) {
+        if has_unknown(scope, rest) {
+            return Err(FaultKind::Undefined);
+        }
+        return Err(kind);
+    }
+    write_sums(scope, waiting, rest, out)
+}
 
 /// A statement with its place.
 #[derive(Drop)]
@@ -36,93 +60,31 @@ impl<'a> Model for PlacedStatement<'a> {
     ghost invariant = { λ p. p.line < 0xffffffffffffffff };
 }
 
-/// Appends the bytes of the statement of a line that is read again.
-#[tactic(auto, using(crate::proofs::Writing::never_unread, rv_source::proofs::Parsed::form_fails, rv_source::proofs::Parsed::statement_fails))]
-fn write_line(
-    alloc: Global,
-    scope: Scope,
-    text: &LineText,
-    out: &mut Vec<u8>,
-) -> Result<(), FaultKind>
-    ensures { KindBecomes out.new.items result (appended out.old.items (line_text_bytes scope.entry.symbols.now scope.entry.line scope.entry.here text.now)) }
-{
-    let line = read_line_form(alloc, text.bytes)?;
-    match line.statement()? {
-        Some(statement) => scope.write(text.constant, &statement, out),
-        None => unreachable!(),
-    }
-}
-
-/// Returns what is kept of what waits for the value of an operand, or None if it isn't that of a single
-/// symbol.
-#[tactic(auto, using(crate::proofs::Placing::waiting_kept))]
-fn waiting<'a>(waiting: Waiting, operand: &Operand<'a>) -> Option<Kept<'a>>
-    ensures { IfSome result (λ k. (ds : Definitions) → (line here : ℕ) → kept_bytes ds line here k ≡ waiting_bytes here waiting (operand_value ds line here operand.now)) }
-{
-    let value = match &operand.form {
-        Form::Value { sum, .. } => as_single(sum)?,
-        Form::Text(_) => return None,
-    };
-    Some(Kept::Waiting { waiting, value })
-}
-
-/// Returns what is kept of a statement, or None if its text has to be kept.
-#[tactic(auto, using(crate::proofs::Placing::data_kept), unfolding(crate::specs::Support::Constants::statement_bytes, crate::specs::Support::Steps::kept_bytes))]
-fn short<'a>(constant: i64, statement: &Statement<'_, 'a>) -> Option<Kept<'a>>
-    ensures { IfSome result (λ k. (ds : Definitions) → (line here : ℕ) → kept_bytes ds line here k ≡ statement_bytes constant (operand_value ds line here) here statement.now) }
-{
-    match statement {
-        Statement::Instruction(instr) => Some(Kept::Instructions(Instructions::One(*instr))),
-        Statement::Li { rd, .. } => Some(Kept::Instructions(loading(*rd, bits(constant)))),
-        Statement::WithValue { instr, value } => {
-            waiting(Waiting::near(*instr, value.operand()), value.operand())
-        }
-        Statement::Far {
-            scratch,
-            instr,
-            target,
-        } => {
-            let (scratch, instr) = (*scratch, *instr);
-            waiting(Waiting::Far { scratch, instr }, target.operand())
-        }
-        Statement::Data { width, values } => match values.as_slice() {
-            [only] => waiting(Waiting::Data { width: *width }, only),
-            _ => None,
-        },
-        Statement::Constant { .. } | Statement::Marker => Some(Kept::Nothing),
-        _ => None,
-    }
-}
-
 impl<'a> PlacedStatement<'a> {
-    ghost use Rattle.std.specs.Prelude.{◌≡◌, ◌<◌, ℕ, Some};
-    ghost use Rattle.rv_asm.specs.Support.Kept.{KindBecomes};
+    ghost use Rattle.std.specs.Prelude.{◌≡◌, ◌<◌, IfOk};
     ghost use Rattle.rv_asm.specs.Symbols.{Definitions, operand_value};
-    ghost use Rattle.rv_asm.specs.Support.Constants.{IsTaken, statement_in, statement_bytes};
+    ghost use Rattle.rv_asm.specs.Support.Statements.{KindBecomes, IsTaken, statement_bytes};
     ghost use Rattle.rv_asm.specs.Support.Steps.{item_bytes, appended};
 
-    /// Makes the statement of a line with these bytes, with its constant, at an address.
-    #[tactic(auto, unfolding(crate::specs::Support::Steps::kept_bytes))]
+    /// Makes the statement of a line, with its constant, at an address.
     pub fn new(
+        alloc: Global,
         line: usize,
         address: u32,
         constant: i64,
-        bytes: &'a [u8],
         statement: &Statement<'_, 'a>,
-    ) -> PlacedStatement<'a>
+    ) -> Result<PlacedStatement<'a>, AllocError>
         requires counted { line < 0xffffffffffffffff }
         requires taken { IsTaken constant statement.now }
-        requires parsed { statement_in bytes.now ≡ Some statement.now }
-        ensures at { result.line ≡ line }
-        ensures bytes { (ds : Definitions) → item_bytes ds result ≡ statement_bytes constant (operand_value ds line address) address statement.now }
+        ensures at { IfOk result (λ p. p.line ≡ line) }
+        ensures bytes { IfOk result (λ p. (ds : Definitions) → item_bytes ds p ≡ statement_bytes constant (operand_value ds line address) address statement.now) }
     {
-        let line_text = Kept::Line(LineText { bytes, constant });
-        let kept = short(constant, statement).unwrap_or(line_text);
-        PlacedStatement {
+        let kept = keep(alloc, address, constant, statement)?;
+        Ok(PlacedStatement {
             line,
             address,
             kept,
-        }
+        })
     }
 
     /// Returns the number of the line, counted from 0.
@@ -135,12 +97,7 @@ impl<'a> PlacedStatement<'a> {
 
     /// Appends the bytes of the statement, once all symbols are known.
     #[tactic(auto, unfolding(crate::specs::Support::Steps::kept_bytes))]
-    pub fn write(
-        &self,
-        alloc: Global,
-        symbols: &Symbols,
-        out: &mut Vec<u8>,
-    ) -> Result<(), FaultKind>
+    pub fn write(&self, symbols: &Symbols, out: &mut Vec<u8>) -> Result<(), FaultKind>
         ensures { KindBecomes out.new.items result (appended out.old.items (item_bytes symbols.now self.now)) }
     {
         let scope = Scope {
@@ -149,12 +106,10 @@ impl<'a> PlacedStatement<'a> {
             here: self.address,
         };
         match &self.kept {
-            Kept::Nothing => Ok(()),
-            Kept::Instructions(instructions) => instructions.write(out),
-            Kept::Waiting { waiting, value } => {
-                waiting.write(self.address, value.value(scope), out)
-            }
-            Kept::Line(text) => write_line(alloc, scope, text, out),
+            Kept::Instructions(instructions) => Ok(instructions.write(out)?),
+            Kept::Ready(bytes) => Ok(bytes.append_to(out)?),
+            Kept::One { waiting, value } => waiting.write(self.address, value.value(scope), out),
+            Kept::Many { waiting, values } => write_sums(scope, waiting, values.as_slice(), out),
         }
     }
 }

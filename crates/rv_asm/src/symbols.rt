@@ -1,16 +1,14 @@
 //! The symbols of a source, and the values of expressions.
-ghost use Rattle.std.specs.Prelude.{◌≡◌, ◌^◌, ◌++◌, true, false, [], Ok, IfSome};
+ghost use Rattle.std.specs.Prelude.{◌≡◌, ◌<◌, ◌+◌, ◌*◌, ◌^◌, ◌++◌, ◌∷◌, true, false, [], length, IfSome, OnOk};
 ghost use Rattle.rv_asm.specs.Symbols.{atom_value, sum_value};
 ghost use Rattle.rv_asm.specs.Support.Counted.{renames};
-ghost use Rattle.rv_asm.specs.Support.Constants.{IsTaken, constant_in};
-ghost use Rattle.rv_asm.specs.Support.Kept.{KindBecomes, IsNear, added, values_in};
+ghost use Rattle.rv_asm.specs.Support.Statements.{IsTaken, constant_in, IsNear, added, values_in};
 ghost use Rattle.rv_asm.specs.Values.{is_word};
 
-use crate::FaultKind;
 use crate::locals::Locals;
 use rv_program::Names;
-use rv_source::{Atom, Expression, Form, Operand, Statement};
-use std::alloc::Global;
+use rv_source::{Atom, Expression, Form, Operand, Statement, Term};
+use std::alloc::{AllocError, Global};
 use std::marker::Model;
 
 /// The names and local labels of a source with their values, in order of definition.
@@ -39,16 +37,16 @@ impl Symbols {
     }
 
     /// Defines the name of `.equ` with its value; nothing for any other statement.
-    #[tactic(auto, using(crate::proofs::Placing::not_some), unfolding(crate::specs::Support::Constants::IsTaken))]
+    #[tactic(auto, using(crate::proofs::Laying::not_some), unfolding(crate::specs::Support::Statements::IsTaken))]
     pub fn define_constant(
         &mut self,
         alloc: Global,
         constant: i64,
         statement: &Statement,
-    ) -> Result<(), FaultKind>
+    ) -> Result<(), AllocError>
         requires taken { IsTaken constant statement.now }
         requires new { renames self.old.names statement.now ≡ false }
-        ensures { KindBecomes self.new result (Ok (record { names = self.old.names ++ constant_in constant statement.now; locals = self.old.locals })) }
+        ensures { OnOk result (self.new ≡ record { names = self.old.names ++ constant_in constant statement.now; locals = self.old.locals }) }
     {
         if let Statement::Constant { name, .. } = statement {
             self.names.define(alloc, name.bytes(), constant)?;
@@ -85,18 +83,28 @@ impl<'a> Scope<'a> {
         }
     }
 
+    /// Returns the sum of a term and those after it, or None if one of their symbols isn't defined. Each term is
+    /// added to the sum of those after it, as in the definition.
+    #[tactic(auto, using(crate::proofs::Sums::near_one, crate::proofs::Sums::near_more, crate::proofs::Sums::near_enough), unfolding(crate::specs::Symbols::sum_value))]
+    fn terms(&self, first: &Term, more: &[Term]) -> Option<i64>
+        requires { length more.now < 1024 }
+        ensures value { result ≡ sum_value self.now.symbols.now self.now.line self.now.here (first.now ∷ more.now) }
+        ensures near { IfSome result (IsNear (4294967296 * (length more.now + 1))) }
+    {
+        let value = self.atom(&first.atom)?;
+        let [second, rest @ ..] = more else {
+            return Some(added(0, first.negative, value));
+        };
+        let sum = self.terms(second, rest)?;
+        Some(added(sum, first.negative, value))
+    }
+
     /// Returns the value of an expression, or None if one of its symbols isn't defined.
-    fn sum(&self, expression: &Expression) -> Option<i64>
+    pub fn sum(&self, expression: &Expression) -> Option<i64>
         ensures { result ≡ sum_value self.now.symbols.now self.now.line self.now.here expression.now }
     {
         let (first, more) = expression.terms();
-        let value = self.atom(&first.atom)?;
-        let mut sum = added(0, first.negative, value);
-        for term in more {
-            let value = self.atom(&term.atom)?;
-            sum = added(sum, term.negative, value);
-        }
-        Some(sum)
+        self.terms(first, more)
     }
 
     /// Returns the value of an operand, in the same way.

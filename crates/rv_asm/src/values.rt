@@ -3,7 +3,7 @@ ghost use Rattle.std.specs.Prelude.{◌≡◌, ◌==◌, ◌&&◌, ◌<◌, ◌�
 ghost use Rattle.rv_isa.specs.Number.{IsWithin, IsDistance, modulo};
 ghost use Rattle.rv_asm.specs.Values.{is_between, is_word, fits, immediate, distance, hi, lo, far, gap};
 ghost use Rattle.rv_asm.specs.Listing.{is_multiple};
-ghost use Rattle.rv_asm.specs.Support.Kept.{byte, upper_immediate, five_bits, value_by};
+ghost use Rattle.rv_asm.specs.Support.Statements.{byte, upper_immediate, five_bits, value_by};
 
 use rv_isa::Width;
 use rv_source::Part;
@@ -94,7 +94,7 @@ fn even_between(low: i64, high: i64, offset: i64) -> Option<i32>
 }
 
 /// Returns the distance from `jal` to its target, if it is even and in range.
-#[tactic(auto, using(crate::proofs::Distances::jump_within))]
+#[tactic(auto, using(crate::proofs::Sizes::jump_within))]
 pub fn jump_distance(here: u32, target: i64) -> Option<i32>
     ensures value { result ≡ distance (2 ^ 20) here target }
     ensures within { IfSome result (IsDistance (2 ^ 20)) }
@@ -104,7 +104,7 @@ pub fn jump_distance(here: u32, target: i64) -> Option<i32>
 }
 
 /// Returns the distance from a branch to its target, if it is even and in range.
-#[tactic(auto, using(crate::proofs::Distances::branch_within))]
+#[tactic(auto, using(crate::proofs::Sizes::branch_within))]
 pub fn branch_distance(here: u32, target: i64) -> Option<i32>
     ensures value { result ≡ distance (2 ^ 12) here target }
     ensures within { IfSome result (IsDistance (2 ^ 12)) }

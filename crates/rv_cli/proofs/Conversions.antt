@@ -11,11 +11,11 @@ use Rattle.rv_program.specs.Program.{Assembly}
 use Rattle.rv_program.specs.declared.fault.AsmFault.{AsmFault}
 use Rattle.rv_program.specs.declared.fault.FaultKind.{FaultKind}
 use Rattle.rv_program.specs.declared.fault.FaultKind.TheVariants as kind
-use Rattle.rv_texts.specs.Support.Calls.{Texts}
-use Rattle.rv_texts.specs.declared.fault.ReadFault.{ReadFault}
-use Rattle.rv_texts.specs.declared.fault.ReadFault.TheVariants as read
-use Rattle.rv_texts.specs.declared.fault.TextName.TheVariants as text
-use Rattle.rv_words.specs.declared.Options.{Options}
+use Rattle.rv_io.specs.Support.Calls.{Texts}
+use Rattle.rv_io.specs.declared.fault.ReadFault.{ReadFault}
+use Rattle.rv_io.specs.declared.fault.ReadFault.TheVariants as read
+use Rattle.rv_io.specs.declared.fault.TextName.TheVariants as text
+use Rattle.rv_options.specs.declared.Options.{Options}
 use Rattle.rv_cli.specs.Support.Conversions.{source_fault, unopened_fault, unread_fault}
 use Rattle.rv_cli.specs.Support.Meanings.{IsRunOf}
 use Rattle.rv_cli.specs.Output.{IsOutput, OpensFor}

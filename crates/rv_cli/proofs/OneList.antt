@@ -4,10 +4,10 @@ use Rattle.std.specs.Prelude.{Option, Some, None, is_some, option_and_then, nat_
 use Rattle.std.proofs.Math.Seq.{take-length}
 use Rattle.std.proofs.lemmas.Bool.{cases_lt, false≢true}
 use Rattle.std.proofs.lemmas.List.{take-append-drop}
-use Rattle.rv_lists.specs.declared.input.TimedInput.{TimedInput}
-use Rattle.rv_lists.specs.Support.Reading.{IsFirstRefused, joined, unless_falling}
-use Rattle.rv_lists.specs.Timed.{all_of, timed_line, never_falls, timed}
-use Rattle.rv_lists.proofs.Whole.{begun}
+use Rattle.rv_timeline.specs.declared.input.TimedInput.{TimedInput}
+use Rattle.rv_timeline.specs.Support.Reading.{IsFirstRefused, joined, unless_falling}
+use Rattle.rv_timeline.specs.Timed.{all_of, timed_line, never_falls, timed}
+use Rattle.rv_timeline.proofs.Whole.{begun}
 
 -- ---- lines that have a list: so have those before them
 

@@ -5,8 +5,8 @@ use Rattle.rv_base.specs.Lines.{lines}
 use Rattle.rv_board.specs.Boot.{boot_fault}
 use Rattle.rv_board.specs.Boot as boot
 use Rattle.rv_board.specs.declared.event.BootFault.{BootFault}
-use Rattle.rv_lists.specs.Timed.{timed}
-use Rattle.rv_lists.specs.declared.input.TimedInput.{TimedInput}
+use Rattle.rv_timeline.specs.Timed.{timed}
+use Rattle.rv_timeline.specs.declared.input.TimedInput.{TimedInput}
 use Rattle.rv_monitor.specs.Opening.{Opens}
 use Rattle.rv_monitor.specs.State.{SessionState, new_session}
 use Rattle.rv_monitor.specs.declared.opening.OpenFault.{OpenFault}

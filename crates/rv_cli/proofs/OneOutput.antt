@@ -13,8 +13,8 @@ use Rattle.rv_monitor.specs.State.{SessionState}
 use Rattle.rv_monitor.specs.declared.opening.OpenFault.TheVariants as opening
 use Rattle.rv_program.specs.Program.{Assembly}
 use Rattle.rv_program.specs.declared.fault.AsmFault.{AsmFault}
-use Rattle.rv_texts.specs.Support.Calls.{Texts}
-use Rattle.rv_words.specs.declared.Options.{Options}
+use Rattle.rv_io.specs.Support.Calls.{Texts}
+use Rattle.rv_options.specs.declared.Options.{Options}
 use Rattle.rv_cli.specs.Support.Conversions.{unopened_fault}
 use Rattle.rv_cli.specs.Support.Meanings.{ending_of}
 use Rattle.rv_cli.specs.Output.{IsOutput, OpensFor, printed}

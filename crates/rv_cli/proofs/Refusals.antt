@@ -1,17 +1,17 @@
 -- The results of a run, by those of its parts and by what the texts mean.
 use Rattle.std.proofs.Common.{◌≡◌, Option, Some, None, Ok, Err, subst}
 use Rattle.std.specs.Prelude.{◌≢◌, ℕ, true, false, IfSome, IsErrAnd, List, Result, length, take}
-use Rattle.rv_words.specs.declared.Options.{Options}
-use Rattle.rv_texts.specs.Support.Calls.{GaveIf, Readers, Texts, WroteBeginning}
-use Rattle.rv_texts.specs.Readers.{Reads}
-use Rattle.rv_texts.specs.Texts.{Gave, IsSound, Side, Wrote}
-use Rattle.rv_texts.proofs.Sound.{sound}
-use Rattle.rv_texts.specs.declared.fault.ReadFault.{ReadFault}
-use Rattle.rv_texts.specs.declared.fault.ReadFault.TheVariants as read
+use Rattle.rv_options.specs.declared.Options.{Options}
+use Rattle.rv_io.specs.Support.Calls.{GaveIf, Readers, Texts, WroteBeginning}
+use Rattle.rv_io.specs.Readers.{Reads}
+use Rattle.rv_io.specs.Texts.{Gave, IsSound, Side, Wrote}
+use Rattle.rv_io.proofs.Sound.{sound}
+use Rattle.rv_io.specs.declared.fault.ReadFault.{ReadFault}
+use Rattle.rv_io.specs.declared.fault.ReadFault.TheVariants as read
 use Rattle.rv_cli.specs.Support.Conversions.{unread_fault}
 use Rattle.rv_cli.specs.declared.fault.CliFault.{CliFault}
 use Rattle.rv_cli.specs.declared.fault.CliFault.TheVariants.{ReadSource, ReadInput, ReadCommands, Source, Input, BadPages, BadSlots, ImageTooLarge, OutOfMemory, Write}
-use Rattle.rv_texts.specs.declared.fault.TextName.TheVariants as text
+use Rattle.rv_io.specs.declared.fault.TextName.TheVariants as text
 use Rattle.rv_cli.specs.declared.fault.Ending.{Ending}
 use Rattle.rv_cli.specs.Output.{IsOutput}
 use Rattle.rv_cli.specs.Run.{Runs}

@@ -18,8 +18,8 @@ use Rattle.rv_monitor.specs.Opening.{Opens}
 use Rattle.rv_monitor.specs.declared.opening.OpenFault.{OpenFault}
 use Rattle.rv_monitor.specs.declared.opening.OpenFault.TheVariants as opening
 use Rattle.rv_program.specs.Program.{Assembly}
-use Rattle.rv_texts.specs.Readers.{EachText}
-use Rattle.rv_words.specs.declared.Options.{Options}
+use Rattle.rv_io.specs.Readers.{EachText}
+use Rattle.rv_options.specs.declared.Options.{Options}
 use Rattle.rv_cli.specs.declared.fault.CliFault.{CliFault}
 use Rattle.rv_cli.specs.declared.fault.CliFault.TheVariants.{Source, Input, BadPages, BadSlots, ImageTooLarge}
 use Rattle.rv_cli.specs.declared.fault.Ending.{Ending}

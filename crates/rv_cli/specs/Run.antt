@@ -1,12 +1,12 @@
 -- The results of a run, by what its readers gave and its writer took.
 -- To audit: public contracts cite this.
 use Rattle.std.specs.Prelude.{ℕ, true, false, List, take, Result, Ok, Err}
-use Rattle.rv_words.specs.declared.Options.{Options}
-use Rattle.rv_texts.specs.Readers.{EachText, Reads}
-use Rattle.rv_texts.specs.Texts.{Side, Wrote}
-use Rattle.rv_texts.specs.declared.fault.ReadFault.TheVariants as unread
+use Rattle.rv_options.specs.declared.Options.{Options}
+use Rattle.rv_io.specs.Readers.{EachText, Reads}
+use Rattle.rv_io.specs.Texts.{Side, Wrote}
+use Rattle.rv_io.specs.declared.fault.ReadFault.TheVariants as unread
 use Rattle.rv_cli.specs.Output.{IsOutput}
-use Rattle.rv_texts.specs.declared.fault.TextName.TheVariants as text
+use Rattle.rv_io.specs.declared.fault.TextName.TheVariants as text
 use Rattle.rv_cli.specs.declared.fault.CliFault.{CliFault}
 use Rattle.rv_cli.specs.declared.fault.CliFault.TheVariants.{ReadSource, ReadInput, ReadCommands, OutOfMemory, Write}
 use Rattle.rv_cli.specs.declared.fault.Ending.{Ending}

@@ -8,9 +8,9 @@ ghost use Rattle.rv_cli.specs.Support.Conversions.{unreadable};
 
 use rv_base::NoMemory;
 use rv_board::BootFault;
+use rv_io::{OutFailed, ReadFault, TextName};
 use rv_monitor::OpenFault;
 use rv_program::{AsmFault, FaultKind};
-use rv_texts::{OutFailed, ReadFault, TextName};
 use std::{fmt, io};
 use thiserror::Error;
 

@@ -1,7 +1,7 @@
 //! Laws of the run: what follows from the definition of its output.
 ghost use Rattle.std.specs.Prelude.{◌≡◌, ℕ, List, Result};
-ghost use Rattle.rv_texts.specs.Readers.{EachText};
-ghost use Rattle.rv_words.specs.declared.Options.{Options};
+ghost use Rattle.rv_io.specs.Readers.{EachText};
+ghost use Rattle.rv_options.specs.declared.Options.{Options};
 ghost use Rattle.rv_cli.specs.Output.{IsOutput};
 ghost use Rattle.rv_cli.specs.declared.fault.CliFault.{CliFault};
 ghost use Rattle.rv_cli.specs.declared.fault.Ending.{Ending};

@@ -12,7 +12,7 @@ mod status;
 pub use fault::{CliFault, Ending, exit_status, fault_line, file_or_fault};
 pub use laws::one_output;
 pub use run::run_text;
-pub use rv_texts::{
+pub use rv_io::{
     FileIn, FileOut, InFailed, MemoryIn, MemoryOut, OutFailed, ReadFault, TextIn, TextName, TextOut,
 };
-pub use rv_words::{Options, Origin, REFUSED, Words, read_words, refusal_status};
+pub use rv_options::{Options, Origin, REFUSED, Words, read_words, refusal_status};

@@ -3,8 +3,8 @@ ghost use Rattle.std.specs.Prelude.{◌≡◌, ◌≢◌, Err, IfErr, IfOk, IfSo
 ghost use Rattle.rv_cli.specs.Output.{IsOutput, OpensFor};
 ghost use Rattle.rv_cli.specs.Support.Meanings.{IsRunOf};
 ghost use Rattle.rv_cli.specs.Run.{Runs};
-ghost use Rattle.rv_texts.specs.Texts.{side, side_if};
-ghost use Rattle.rv_texts.specs.Support.Within.{AreWithin};
+ghost use Rattle.rv_io.specs.Texts.{side, side_if};
+ghost use Rattle.rv_io.specs.Support.Within.{AreWithin};
 ghost use Rattle.rv_cli.specs.declared.fault.CliFault.TheVariants.{OutOfMemory, ReadInput, ReadSource, Write};
 
 use crate::fault::{CliFault, Ending};
@@ -13,10 +13,10 @@ use crate::session::run_session;
 use rv_asm::assemble;
 use rv_base::NoMemory;
 use rv_cache::{DecodeCache, Decoded};
+use rv_io::{TextIn, TextOut, Texts, read_texts, write_whole};
 use rv_monitor::{Session, open_session};
+use rv_options::Options;
 use rv_ram::{ByteMemory, PagedRam};
-use rv_texts::{TextIn, TextOut, Texts, read_texts, write_whole};
-use rv_words::Options;
 use std::alloc::Global;
 
 /// The text that a run prints, and how the run ended.

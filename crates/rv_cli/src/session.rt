@@ -7,9 +7,9 @@ ghost use Rattle.rv_cli.specs.Output.{Does, Obeys};
 
 use rv_base::{NoMemory, cut_lines};
 use rv_cache::Decoded;
+use rv_io::Texts;
 use rv_monitor::{Next, Session};
 use rv_ram::ByteMemory;
-use rv_texts::Texts;
 use std::alloc::Global;
 
 /// Executes the command lines in order, up to one that quits, and returns their answers.

@@ -40,17 +40,24 @@ module _ (m : Machine) (user : m.mode ≡ mode.User) where
   effects : (k : Kind) → IfRetired (IsAlike m) (effect k m)
   effects = rows m (IsAlike m) (λ new same still. (same, still)) registers (returns m.mode user)
 
-  -- ---- a step
+-- ---- a step
 
-  traps : (t : Trap) → ChangesByTrap m (trap_step m t).0 (trap_step m t).1
-  unfolding counts enter
+module _ (m : Machine) (user : m.mode ≡ mode.User) where
+  traps : (t : Trap) → ChangesByTrap m (trap_step (ticked m) t).0 (trap_step (ticked m) t).1
+  unfolding counts enter entered
   traps t =
       let made = counted (entered m.csrs t.cause m.pc t.tval m.mode) false None in (
+        record {
+          mode = refl;
+          pc = refl;
+          csrs = ap (λ (d : Mode). record (entered m.csrs t.cause m.pc t.tval d) { mcycle = made.mcycle; minstret = made.minstret }) user;
+        },
         refl,
-        ap (λ (d : Mode). record (entered m.csrs t.cause m.pc t.tval d) { mcycle = made.mcycle; minstret = made.minstret }) user,
+        refl,
+        refl,
       )
 
-  settled : (wrote halt : Option ℕ) (new : Machine) → IsAlike m new
+  settled : (wrote halt : Option ℕ) (new : Machine) → IsAlike (ticked m) new
       → ChangesByTrap m (counts new true wrote) (outcome_of halt)
   unfolding counts
   settled wrote None new alike = (
@@ -68,16 +75,17 @@ module _ (m : Machine) (user : m.mode ≡ mode.User) where
     }) alike.1,
   )
 
-  settles : (wrote : Option ℕ) (e : Effect) → IfRetired (IsAlike m) e
-      → ChangesByTrap m (finished m wrote e).0 (finished m wrote e).1
+  settles : (wrote : Option ℕ) (e : Effect) → IfRetired (IsAlike (ticked m)) e
+      → ChangesByTrap m (finished (ticked m) wrote e).0 (finished (ticked m) wrote e).1
   settles wrote (Ok new) alike = settled wrote new.bus.halt new alike
   settles wrote (Err t) alike = traps t
 
-  attempts : (f : Result Kind Trap) → ChangesByTrap m (attempt m f).0 (attempt m f).1
-  attempts (Ok k) = settles (csr_written k) (effect k m) (effects k)
+  attempts : (f : Result Kind Trap)
+      → ChangesByTrap m (attempt (ticked m) f).0 (attempt (ticked m) f).1
+  attempts (Ok k) = settles (csr_written k) (effect k (ticked m)) (effects (ticked m) user k)
   attempts (Err t) = traps t
 
 -- one step
 pub user_changes : (m : Machine) → m.mode ≡ mode.User → ChangesByTrap m (step m).0 (step m).1
 unfolding step
-user_changes m user = attempts (ticked m) user (fetched (ticked m))
+user_changes m user = attempts m user (fetched (ticked m))

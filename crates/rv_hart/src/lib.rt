@@ -14,6 +14,9 @@ mod values;
 mod windows;
 
 pub use hart::Hart;
-pub use laws::{traps_return, user_mode_changes_by_traps};
+pub use laws::{
+    devices_change_by_access, first_interrupt_is_taken, interrupts_stay_pending, traps_return,
+    user_mode_changes_by_traps,
+};
 pub use marks::{Marks, NoMarks};
 pub use trap::{Outcome, Trap};

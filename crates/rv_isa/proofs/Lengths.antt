@@ -8,43 +8,16 @@ use Rattle.rv_isa.specs.Table.{mnemonic}
 use Rattle.rv_isa.specs.Support.Kinds.{branch_operation, load_operation, store_operation, imm_operation, shift_operation, alu_operation, csr_operation, csr_imm_operation, IsInRange}
 use Rattle.rv_isa.specs.Text.{target, register_text, text}
 use Rattle.rv_isa.specs.declared.kind.Kind.{Kind}
-use Rattle.rv_isa.specs.declared.kind.Kind.TheVariants.{Lui}
+use Rattle.rv_isa.specs.declared.kind.Kind.TheVariants.{Branch, Load, Store, OpImm, Shift, Op, Csr, CsrImm}
+use Rattle.rv_isa.specs.declared.op.Cond.TheVariants as cond
+use Rattle.rv_isa.specs.declared.op.LoadOp.TheVariants as loads
+use Rattle.rv_isa.specs.declared.op.Width.TheVariants as width
+use Rattle.rv_isa.specs.declared.op.ImmOp.TheVariants as immediate
+use Rattle.rv_isa.specs.declared.op.ShiftOp.TheVariants as shift
+use Rattle.rv_isa.specs.declared.op.AluOp.TheVariants as alu
+use Rattle.rv_isa.specs.declared.op.CsrOp.TheVariants as csr
 use Rattle.rv_base.proofs.Hexadecimal.{hex_length}
 use Rattle.rv_base.specs.Digits.{short_hex}
-
--- ---- mnemonics
-
-cond_length : (op : _) → length (mnemonic (branch_operation op)) ≤ 4
-unfolding mnemonic branch_operation
-cond_length op = grind arith
-
-load_length : (op : _) → length (mnemonic (load_operation op)) ≤ 3
-unfolding mnemonic load_operation
-load_length op = grind arith
-
-width_length : (op : _) → length (mnemonic (store_operation op)) ≤ 2
-unfolding mnemonic store_operation
-width_length op = grind arith
-
-imm_op_length : (op : _) → length (mnemonic (imm_operation op)) ≤ 5
-unfolding mnemonic imm_operation
-imm_op_length op = grind arith
-
-shift_length : (op : _) → length (mnemonic (shift_operation op)) ≤ 4
-unfolding mnemonic shift_operation
-shift_length op = grind arith
-
-csr_op_length : (op : _) → length (mnemonic (csr_operation op)) ≤ 5
-unfolding mnemonic csr_operation
-csr_op_length op = grind arith
-
-csr_imm_length : (op : _) → length (mnemonic (csr_imm_operation op)) ≤ 6
-unfolding mnemonic csr_imm_operation
-csr_imm_length op = grind arith
-
-alu_length : (op : _) → length (mnemonic (alu_operation op)) ≤ 6
-unfolding mnemonic alu_operation
-alu_length op = grind arith
 
 -- ---- operands
 
@@ -78,9 +51,16 @@ jump_length (negsuc n) h =
 
 -- ---- lines
 
-ruleset lengths = (cond_length, load_length, width_length, imm_op_length, shift_length, csr_op_length, csr_imm_length, alu_length, small_length, register_length, upper_length, csr_number_length, immediate_length, branch_length, jump_length)
+ruleset lengths = (small_length, register_length, upper_length, csr_number_length, immediate_length, branch_length, jump_length)
 
 pub text_length : (k : Kind) → IsInRange k → length (text k) ≤ 19
-unfolding text mnemonic
-text_length (Lui rd imm) r = simp length-append (grind (arith, lengths))
+unfolding text mnemonic branch_operation load_operation store_operation imm_operation shift_operation alu_operation csr_operation csr_imm_operation
+text_length (Branch cond.Eq _ _ _) r = simp length-append (grind (arith, lengths))
+text_length (Load loads.Lb _ _ _) r = simp length-append (grind (arith, lengths))
+text_length (Store width.One _ _ _) r = simp length-append (grind (arith, lengths))
+text_length (OpImm immediate.Addi _ _ _) r = simp length-append (grind (arith, lengths))
+text_length (Shift shift.Slli _ _ _) r = simp length-append (grind (arith, lengths))
+text_length (Op alu.Add _ _ _) r = simp length-append (grind (arith, lengths))
+text_length (Csr csr.Write _ _ _) r = simp length-append (grind (arith, lengths))
+text_length (CsrImm csr.Write _ _ _) r = simp length-append (grind (arith, lengths))
 text_length k r = simp length-append (grind (arith, lengths))

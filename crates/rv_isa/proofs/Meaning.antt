@@ -1,263 +1,182 @@
--- The search through the kinds finds the meaning of a word.
-use Rattle.std.proofs.Common.{◌≡◌, ℕ, zero, suc, ◌^◌, ◌<◌, ◌≤◌, ◌==◌, Bool, true, false, List, [], ◌∷◌, Option, Some, None, refl, ap, sym, subst, inl, inr, arith, rules, true≢false}
-use Rattle.std.specs.Prelude.{ℤ, pos, negsuc, IfSome, IsSome, if◌then◌else◌}
-use Rattle.std.proofs.lemmas.Bool.{cases_lt, eqb-true, eq-eqb}
+-- The meaning of a word is the kind of the operation whose codes it has, with the fields at their places.
+use Rattle.std.proofs.Common.{◌≡◌, ◌∙◌, ℕ, ◌/◌, ◌%◌, ◌^◌, ◌<◌, Bool, true, false, nat_lt, List, [], ◌∷◌, Option, Some, None, refl, sym, ap, subst, SFits, w32, arith}
+use Rattle.std.specs.Prelude.{if◌then◌else◌}
+use Rattle.std.proofs.lemmas.Bool.{and_parts, eqb-true, ltb-true, lt-ltb, true≢false}
+use Rattle.std.proofs.lemmas.Bool.Decides.{nat_tests}
 use Rattle.std.proofs.lemmas.Option.{none-some, same_Some}
-use Rattle.std.specs.Option.{option_or}
-use Rattle.std.specs.Str.{bytes_eq}
-use Rattle.rv_isa.proofs.OneLayout.{kept, branch_kind, load_kind, store_kind, imm_kind, shift_kind, alu_kind, csr_kind, csr_imm_kind}
-use Rattle.rv_isa.specs.Fields.{kind_of, unsigned}
-use Rattle.rv_isa.specs.Support.Layout.{fields_of, laid}
-use Rattle.rv_isa.specs.Support.Meaning.{first_below, first_within, first_distance, first_in, first_registers, first_fields, first_of, first_kind, means}
-use Rattle.rv_isa.specs.Fields.{zeroed, with_fields}
-use Rattle.rv_isa.specs.Support.Kinds.{IsMeaning, operation_of, operations, word, format_of, FieldsFit, IsInRange}
-use Rattle.rv_isa.specs.Number.{modulo, IsWithin, IsDistance}
-use Rattle.rv_isa.specs.Support.Mnemonics.{first_named}
-use Rattle.rv_isa.specs.Table.{mnemonic}
-use Rattle.rv_isa.specs.Word.{Means}
-use Rattle.rv_isa.proofs.Encodings.{from_kinds}
-use Rattle.rv_isa.proofs.Named.{named_itself}
+use Rattle.rv_isa.specs.Encoded.{encoded, AreInRange, HasImmediate}
+use Rattle.rv_isa.specs.Fields.{kind_of, with_fields}
+use Rattle.rv_isa.specs.Support.Codes.{normal, read_in, codes_of, placed, immediate, read, CodesFit, HasCodes}
+use Rattle.rv_isa.specs.Support.Kinds.{fields_of, operations, word, IsInRange}
+use Rattle.rv_isa.specs.Support.Meaning.{has_codes, has_two, first_in, kind_with, means}
+use Rattle.rv_isa.specs.Table.{kind_in, row, Encoding, R, Amount, I, Number, S, B, U, J, Whole}
+use Rattle.rv_isa.specs.Word.{Means, OneMeaning}
+use Rattle.rv_isa.specs.declared.fields.Fields.{Fields}
+use Rattle.rv_isa.specs.declared.format.Codes.{Codes}
+use Rattle.rv_isa.specs.declared.kind.Kind.{Kind}
 use Rattle.rv_isa.specs.declared.op.Operation.{Operation}
 use Rattle.rv_isa.specs.declared.op.Operation.TheVariants as o
-use Rattle.rv_isa.specs.declared.kind.Kind.{Kind}
-use Rattle.rv_isa.specs.declared.kind.Kind.TheVariants.{Branch, Load, Store, OpImm, Shift, Op, Csr, CsrImm}
-use Rattle.rv_isa.specs.declared.format.Format.{Format}
-use Rattle.rv_isa.specs.declared.format.Format.TheVariants.{R, Amount, I, Number, S, B, U, J, Whole}
+use Rattle.rv_isa.proofs.Codes.{codes_fit}
+use Rattle.rv_isa.proofs.Normal.{normal_kind, normal_range, normal_fields}
+use Rattle.rv_isa.proofs.Encodings.{same_word, kind_in_range, word_means}
 
--- the result of a search, if any, has the property
-record Only {A : Type 0} (P : A → Type 0) (o : Option A) : Type 0 where
-  pub holds : IfSome o P
+-- ---- the operation whose codes a word has
 
--- the search finds something
-record Found {A : Type 0} (o : Option A) : Type 0 where
-  pub some : IsSome o
+has_both : (w opcode funct3 : ℕ) → has_two w opcode funct3 ≡ true
+    → (w % 2 ^ 7 ≡ opcode) × (w / 2 ^ 12 % 2 ^ 3 ≡ funct3)
+has_both w opcode funct3 e =
+    let both = and_parts _ _ e in (eqb-true _ _ both.0, eqb-true _ _ both.1)
 
--- ---- a search finds only a result of one of its places
+has : (w : ℕ) (e : Encoding) → has_codes w e ≡ true → HasCodes w (codes_of e)
+has w (R opcode funct3 funct7 _) e =
+    let both = and_parts _ _ e in let two = has_both w opcode funct3 both.0 in (two.0, two.1, eqb-true _ _ both.1)
+has w (Amount opcode funct3 funct7 _) e =
+    let both = and_parts _ _ e in let two = has_both w opcode funct3 both.0 in (two.0, two.1, eqb-true _ _ both.1)
+has w (I opcode funct3 _) e = has_both w opcode funct3 e
+has w (Number opcode funct3 _) e = has_both w opcode funct3 e
+has w (S opcode funct3 _) e = has_both w opcode funct3 e
+has w (B opcode funct3 _) e = has_both w opcode funct3 e
+has w (U _ _) e = eqb-true _ _ e
+has w (J _ _) e = eqb-true _ _ e
+has w (Whole _ _) e = eqb-true _ _ e
 
-only-or : {A : Type 0} {P : A → Type 0} (a b : Option A) → Only P a → Only P b → Only P (option_or a b)
-only-or None b p q = q
-only-or (Some x) b p q = record { holds = p.holds }
+by_row : (w : ℕ) (y : Operation) (others : Option Operation) (x : Operation) (b : Bool) → has_codes w (row y).1 ≡ b
+    → (others ≡ Some x → HasCodes w (codes_of (row x).1)) → (if b then Some y else others) ≡ Some x
+    → HasCodes w (codes_of (row x).1)
+by_row w y others x true b h e =
+    subst (λ y. HasCodes w (codes_of (row y).1)) (same_Some y x e) (has w (row y).1 b)
+by_row w y others x false b h e = h e
 
-only-below : {A : Type 0} {P : A → Type 0} (n : ℕ) (f : ℕ → Option A) → ((i : ℕ) → i < n → Only P (f i)) →
-    Only P (first_below n f)
-unfolding first_below
-only-below zero f h = record { holds = tt }
-only-below (suc n) f h =
-    only-or _ _ (only-below n f (λ (i : ℕ) (below : i < n). h i (omega arith))) (h n (omega arith))
+pub first_has : (w : ℕ) (xs : List Operation) (x : Operation) → first_in w xs ≡ Some x → HasCodes w (codes_of (row x).1)
+first_has w [] x e = absurd (none-some x e)
+first_has w (y ∷ ys) x e = by_row w y (first_in w ys) x (has_codes w (row y).1) refl (first_has w ys x) e
 
-only-within : {A : Type 0} {P : A → Type 0} (n : ℕ) (f : ℤ → Option A) →
-    ((z : ℤ) → IsWithin n z → Only P (f z)) → Only P (first_within n f)
-unfolding first_within
-only-within n f h = only-or _ _ (only-below n _ (λ i below. h (pos i) below))
-    (only-below n _ (λ i below. h (negsuc i) below))
+pub found : (w : ℕ) (x : Operation) → HasCodes w (codes_of (row x).1) → first_in w operations ≡ Some x
+unfolding operations
+found w o.Lui h = grind (arith, nat_tests)
+found w x h = grind (arith, nat_tests)
 
-only-if : {A : Type 0} {P : A → Type 0} (b : Bool) (o : Option A) → (b ≡ true → Only P o) →
-    Only P (if b then o else None)
-only-if true o h = h refl
-only-if false o h = record { holds = tt }
+-- the word of fields has their codes
+placed_codes : (e : Encoding) (f : Fields) (w : ℕ) → CodesFit (codes_of e) → f.rd < 32 → f.rs1 < 32 → f.rs2 < 32
+    → placed (codes_of e) f ≡ w → HasCodes w (codes_of e)
+placed_codes (R _ _ _ _) f w c a b d e = grind arith
+placed_codes x f w c a b d e = grind arith
 
-only-distance : {A : Type 0} {P : A → Type 0} (n : ℕ) (f : ℤ → Option A) →
-    ((z : ℤ) → IsDistance n z → Only P (f z)) → Only P (first_distance n f)
-unfolding first_distance
-only-distance n f h =
-    only-within n _ (λ z within. only-if (modulo z 2 == 0) (f z) (λ even. h z (within, eqb-true _ _ even)))
+word_codes : (f : Fields) (w : ℕ) → AreInRange f → encoded f ≡ w → HasCodes w (codes_of (row f.operation).1)
+word_codes f w r e =
+    let x = row f.operation in
+    placed_codes x.1 f w (codes_fit f.operation) r.0 r.1 r.2 (same_word x.1 f ∙ e)
 
-only-in : {A B : Type 0} {P : B → Type 0} (xs : List A) (f : A → Option B) → ((x : A) → Only P (f x)) →
-    Only P (first_in xs f)
-unfolding first_in
-only-in [] f h = record { holds = tt }
-only-in (x ∷ xs) f h = only-or _ _ (h x) (only-in xs f h)
+-- ---- the fields of a word
 
--- ---- a search finds something if one of its places has a result
+-- the fields at their places in a word that has the codes give the word, and are in range
+read_word : (e : Encoding) (x : Operation) (w : ℕ) → w < 2 ^ 32 → HasCodes w (codes_of e)
+    → placed (codes_of e) (with_fields x (w / 2 ^ 7 % 2 ^ 5) (w / 2 ^ 15 % 2 ^ 5) (w / 2 ^ 20 % 2 ^ 5) (immediate (codes_of e).format w)) ≡ w
+read_word (R _ _ _ _) x w b h = grind arith
+read_word e x w b h = grind arith
 
-found-left : {A : Type 0} (a b : Option A) → Found a → Found (option_or a b)
-found-left None b p = record { some = absurd (true≢false (sym p.some)) }
-found-left (Some x) b p = record { some = refl }
+read_immediate : (e : Encoding) (w : ℕ) → w < 2 ^ 32 → HasImmediate e (immediate (codes_of e).format w)
+read_immediate (R _ _ _ _) w b = grind arith
+read_immediate e w b = grind arith
 
-found-right : {A : Type 0} (a b : Option A) → Found b → Found (option_or a b)
-found-right None b p = p
-found-right (Some x) b p = record { some = refl }
+read_fits : (x : Operation) (w : ℕ) → w < 2 ^ 32 → AreInRange (read x w)
+read_fits x w b = (omega arith, omega arith, omega arith, read_immediate (row x).1 w b)
 
-found-below : {A : Type 0} (n : ℕ) (f : ℕ → Option A) (i : ℕ) → i < n → Found (f i) → Found (first_below n f)
-unfolding first_below
-found-below zero f i below p = absurd (omega arith)
-found-below (suc n) f i below p =
-    elim (cases_lt i n) [
-      | inl earlier ↦ found-left _ _ (found-below n f i earlier p)
-      | inr last ↦ let same : i ≡ n = omega arith in found-right _ _ (subst (λ (j : ℕ). Found (f j)) same p)
-    ]
+read_encoded : (x : Operation) (w : ℕ) → w < 2 ^ 32 → HasCodes w (codes_of (row x).1) → encoded (read x w) ≡ w
+read_encoded x w b h = sym (same_word (row x).1 (read x w)) ∙ read_word (row x).1 x w b h
 
-found-within : {A : Type 0} (n : ℕ) (f : ℤ → Option A) (z : ℤ) → IsWithin n z → Found (f z) →
-    Found (first_within n f)
-unfolding first_within
-found-within n f (pos i) below p = found-left _ _ (found-below n _ i below p)
-found-within n f (negsuc i) below p = found-right _ _ (found-below n _ i below p)
+-- fields in range with one word make one kind
+same_kind : (e : Encoding) (f : Fields) (x : Operation) (w : ℕ) → f.rd < 32 → f.rs1 < 32 → f.rs2 < 32 → HasImmediate e f.imm
+    → CodesFit (codes_of e) → placed (codes_of e) f ≡ w
+    → kind_in e (with_fields x (w / 2 ^ 7 % 2 ^ 5) (w / 2 ^ 15 % 2 ^ 5) (w / 2 ^ 20 % 2 ^ 5) (immediate (codes_of e).format w)) ≡ kind_in e f
+same_kind (R _ _ _ _) f x w a b c h d e = grind arith
+same_kind y f x w a b c h d e = grind arith
 
-found-if : {A : Type 0} (b : Bool) (o : Option A) → b ≡ true → Found o → Found (if b then o else None)
-found-if true o e p = p
-found-if false o e p = record { some = e }
+-- ---- what a word means
 
-found-distance : {A : Type 0} (n : ℕ) (f : ℤ → Option A) (z : ℤ) → IsDistance n z → Found (f z) →
-    Found (first_distance n f)
-unfolding first_distance
-found-distance n f z d p = found-within n _ z d.0 (found-if (modulo z 2 == 0) (f z) (eq-eqb _ _ d.1) p)
+placed_below : (e : Encoding) (f : Fields) → CodesFit (codes_of e) → f.rd < 32 → f.rs1 < 32 → f.rs2 < 32
+    → placed (codes_of e) f < 2 ^ 32
+placed_below (R _ _ _ _) f c a b d = grind arith
+placed_below e f c a b d = grind arith
 
--- ---- the fields of a format
+word_below : (f : Fields) (w : ℕ) → AreInRange f → encoded f ≡ w → w < 2 ^ 32
+word_below f w r e =
+    let x = row f.operation in
+    subst (λ w. w < 2 ^ 32) (same_word x.1 f ∙ e) (placed_below x.1 f (codes_fit f.operation) r.0 r.1 r.2)
 
-only-registers : {A : Type 0} {P : A → Type 0} (f : ℕ → ℕ → Option A) →
-    ((a b : ℕ) → a < 32 → b < 32 → Only P (f a b)) → Only P (first_registers f)
-only-registers f h = only-below _ _ (λ a x. only-below _ _ (λ b y. h a b x y))
-
-found-registers : {A : Type 0} (f : ℕ → ℕ → Option A) (a b : ℕ) → a < 32 → b < 32 → Found (f a b) →
-    Found (first_registers f)
-found-registers f a b x y p = found-below _ _ a x (found-below _ _ b y p)
-
-word_of : (n m : ℕ) → n < m → m ≤ 2 ^ 32 → unsigned (pos n) < m
-word_of n m h small = omega arith
-
--- a format with other fields
-abbrev refilled : Format → ℕ → ℕ → ℕ → ℤ → Format
-refilled (R opcode _ funct3 _ _ funct7) rd rs1 rs2 imm = R opcode rd funct3 rs1 rs2 funct7
-refilled (Amount opcode _ funct3 _ _ funct7) rd rs1 rs2 imm = Amount opcode rd funct3 rs1 (unsigned imm) funct7
-refilled (I opcode _ funct3 _ _) rd rs1 rs2 imm = I opcode rd funct3 rs1 imm
-refilled (Number opcode _ funct3 _ _) rd rs1 rs2 imm = Number opcode rd funct3 rs1 (unsigned imm)
-refilled (S opcode funct3 _ _ _) rd rs1 rs2 imm = S opcode funct3 rs1 rs2 imm
-refilled (B opcode funct3 _ _ _) rd rs1 rs2 imm = B opcode funct3 rs1 rs2 imm
-refilled (U opcode _ _) rd rs1 rs2 imm = U opcode rd (unsigned imm)
-refilled (J opcode _ _) rd rs1 rs2 imm = J opcode rd imm
-refilled (Whole word) rd rs1 rs2 imm = Whole word
-
-only-fields : {A : Type 0} {P : A → Type 0} (x : Format) (f : ℕ → ℕ → ℕ → ℤ → Option A) →
-    ((rd rs1 rs2 : ℕ) (imm : ℤ) → FieldsFit (refilled x rd rs1 rs2 imm) → Only P (f rd rs1 rs2 imm)) →
-    Only P (first_fields x f)
-only-fields (R _ _ _ _ _ _) f h =
-    only-registers _ (λ rd rs1 a b. only-below _ _ (λ rs2 c. h rd rs1 rs2 (pos 0) (a, b, c)))
-only-fields (Amount _ _ _ _ _ _) f h =
-    only-registers _ (λ rd rs1 a b. only-below _ _
-    (λ amount c. h rd rs1 0 (pos amount) (a, b, word_of amount 32 c (omega arith))))
-only-fields (I _ _ _ _ _) f h =
-    only-registers _ (λ rd rs1 a b. only-within _ _ (λ imm c. h rd rs1 0 imm (a, b, c)))
-only-fields (Number _ _ _ _ _) f h =
-    only-registers _ (λ rd rs1 a b. only-below _ _
-    (λ imm c. h rd rs1 0 (pos imm) (a, b, word_of imm (2 ^ 12) c (omega arith))))
-only-fields (S _ _ _ _ _) f h =
-    only-registers _ (λ rs1 rs2 a b. only-within _ _ (λ imm c. h 0 rs1 rs2 imm (b, a, c)))
-only-fields (B _ _ _ _ _) f h =
-    only-registers _ (λ rs1 rs2 a b. only-distance _ _ (λ imm c. h 0 rs1 rs2 imm (a, b, c)))
-only-fields (U _ _ _) f h =
-    only-below _ _ (λ rd a. only-below _ _
-    (λ imm c. h rd 0 0 (pos imm) (a, word_of imm (2 ^ 20) c (omega arith))))
-only-fields (J _ _ _) f h = only-below _ _ (λ rd a. only-distance _ _ (λ imm c. h rd 0 0 imm (a, c)))
-only-fields (Whole _) f h = h 0 0 0 (pos 0) tt
-
-found-fields : {A : Type 0} (op : Operation) (x : Format) (f : ℕ → ℕ → ℕ → ℤ → Option A) → FieldsFit x →
-    Found (f (laid op x).rd (laid op x).rs1 (laid op x).rs2 (laid op x).imm) → Found (first_fields x f)
-found-fields op (R _ rd _ rs1 rs2 _) f r p =
-    found-registers _ rd rs1 r.0 r.1 (found-below _ _ rs2 r.2 p)
-found-fields op (Amount _ rd _ rs1 amount _) f r p =
-    found-registers _ rd rs1 r.0 r.1 (found-below _ _ amount r.2 p)
-found-fields op (I _ rd _ rs1 imm) f r p = found-registers _ rd rs1 r.0 r.1 (found-within _ _ imm r.2 p)
-found-fields op (Number _ rd _ rs1 imm) f r p = found-registers _ rd rs1 r.0 r.1 (found-below _ _ imm r.2 p)
-found-fields op (S _ _ rs1 rs2 imm) f r p = found-registers _ rs1 rs2 r.1 r.0 (found-within _ _ imm r.2 p)
-found-fields op (B _ _ rs1 rs2 imm) f r p = found-registers _ rs1 rs2 r.0 r.1 (found-distance _ _ imm r.2 p)
-found-fields op (U _ rd imm) f r p = found-below _ _ rd r.0 (found-below _ _ imm r.1 p)
-found-fields op (J _ rd imm) f r p = found-below _ _ rd r.0 (found-distance _ _ imm r.1 p)
-found-fields op (Whole _) f r p = p
-
--- ---- the kinds of an operation
-
-ranged : (x : Operation) (rd rs1 rs2 : ℕ) (imm : ℤ) → FieldsFit (refilled (format_of (zeroed x)) rd rs1 rs2 imm)
-    → IsInRange (kind_of (with_fields x rd rs1 rs2 imm))
-unfolding zeroed kind_of
-ranged o.Lui rd rs1 rs2 imm r = search rules
-ranged x rd rs1 rs2 imm r = search rules
-
-only-of : {A : Type 0} {P : A → Type 0} (x : Operation) (f : Kind → Option A) →
-    ((k : Kind) → IsInRange k → Only P (f k)) → Only P (first_of f x)
-only-of x f h =
-    only-fields (format_of (zeroed x)) _
-    (λ rd rs1 rs2 imm r. h (kind_of (with_fields x rd rs1 rs2 imm)) (ranged x rd rs1 rs2 imm r))
-
--- the search is the same for all kinds of an operation
-like_blank : {A : Type 0} (k : Kind) (f : ℕ → ℕ → ℕ → ℤ → Option A) →
-    first_fields (format_of (zeroed (operation_of k))) f ≡ first_fields (format_of k) f
-unfolding zeroed kind_of
-like_blank (Branch op _ _ _) f = ap (λ (k : Kind). first_fields (format_of k) f) (branch_kind op _)
-like_blank (Load op _ _ _) f = ap (λ (k : Kind). first_fields (format_of k) f) (load_kind op _)
-like_blank (Store op _ _ _) f = ap (λ (k : Kind). first_fields (format_of k) f) (store_kind op _)
-like_blank (OpImm op _ _ _) f = ap (λ (k : Kind). first_fields (format_of k) f) (imm_kind op _)
-like_blank (Shift op _ _ _) f = ap (λ (k : Kind). first_fields (format_of k) f) (shift_kind op _)
-like_blank (Op op _ _ _) f = ap (λ (k : Kind). first_fields (format_of k) f) (alu_kind op _)
-like_blank (Csr op _ _ _) f = ap (λ (k : Kind). first_fields (format_of k) f) (csr_kind op _)
-like_blank (CsrImm op _ _ _) f = ap (λ (k : Kind). first_fields (format_of k) f) (csr_imm_kind op _)
-like_blank k f = refl
-
-same_fields : (op : Operation) (x : Format) →
-    with_fields op (laid op x).rd (laid op x).rs1 (laid op x).rs2 (laid op x).imm ≡ laid op x
-same_fields op (R _ _ _ _ _ _) = refl
-same_fields op x = refl
-
-found-of : {A : Type 0} (k : Kind) (f : Kind → Option A) → IsInRange k → Found (f k) →
-    Found (first_of f (operation_of k))
-unfolding fields_of
-found-of k f r p =
-    let op = operation_of k in
-    let x = format_of k in
-    let here : Found (f (kind_of (laid op x))) = subst (λ z. Found (f z)) (sym (kept k r)) p in
-    subst (λ z. Found z) (sym (like_blank k _))
-    (found-fields op x _ r (subst (λ z. Found (f (kind_of z))) (sym (same_fields op x)) here))
-
--- ---- the operations
-
-found-first : {A : Type 0} (b : Bool) (x y : Operation) (others : Option Operation) (f : Operation → Option A)
-    (later : Option A) → (if b then Some y else others) ≡ Some x → Found (f x) → (others ≡ Some x → Found later) →
-    Found (option_or (f y) later)
-found-first true x y others f later e p h =
-    found-left _ _ (subst (λ z. Found (f z)) (sym (same_Some y x e)) p)
-found-first false x y others f later e p h = found-right _ _ (h e)
-
-found-named : {A : Type 0} (text : List ℕ) (xs : List Operation) (f : Operation → Option A) (x : Operation) →
-    first_named text xs ≡ Some x → Found (f x) → Found (first_in xs f)
-unfolding first_in
-found-named text [] f x e p = absurd (none-some x e)
-found-named text (y ∷ ys) f x e p =
-    found-first (bytes_eq (mnemonic y) text) x y _ f _ e p (λ e. found-named text ys f x e p)
-
--- ---- all kinds
-
-only-kind : {A : Type 0} {P : A → Type 0} (f : Kind → Option A) → ((k : Kind) → IsInRange k → Only P (f k)) →
-    Only P (first_kind f)
-unfolding first_kind
-only-kind f h = only-in operations _ (λ x. only-of x f h)
-
-found-kind : {A : Type 0} (f : Kind → Option A) (k : Kind) → IsInRange k → Found (f k) → Found (first_kind f)
-unfolding first_kind
-found-kind f k r p =
-    found-named (mnemonic (operation_of k)) operations _ (operation_of k) (named_itself (operation_of k))
-    (found-of k f r p)
-
--- ---- the kind that a word means
-
-means-from : (w : ℕ) (o : Option Kind) → IfSome o (λ k. IsInRange k × (word k ≡ w)) →
-    ((k : Kind) → IsInRange k → word k ≡ w → IsSome o) → IsMeaning w o
-unfolding IsMeaning
-means-from w (Some k) here all = here
-means-from w None here all = λ k r e. true≢false (sym (all k r e))
-
-only-means : (w : ℕ) (k : Kind) → IsInRange k → Only (λ k. IsInRange k × (word k ≡ w)) (if word k == w
-    then Some k else None)
-only-means w k r = only-if (word k == w) (Some k) (λ e. record { holds = (r, eqb-true _ _ e) })
-
-found-means : (w : ℕ) (k : Kind) → word k ≡ w → Found (if word k == w then Some k else None)
-found-means w k e = found-if (word k == w) (Some k) (eq-eqb _ _ e) (record { some = refl })
-
--- the search finds the kind that the word means
-by_search : (w : ℕ) → IsMeaning w (means w)
+pub some_meaning : (x : Operation) (w : ℕ) → w < 2 ^ 32 → HasCodes w (codes_of (row x).1)
+    → means w ≡ Some (kind_of (read x w))
 unfolding means
-by_search w =
-    means-from w _
-    (only-kind {P = λ k. IsInRange k × (word k ≡ w)} _ (only-means w)).holds
-    (λ k r e. (found-kind _ k r (found-means w k e)).some)
+some_meaning x w b h = rw (lt-ltb _ _ b, found w x h) refl
+
+fields_meaning : (f : Fields) (w : ℕ) → AreInRange f → encoded f ≡ w → means w ≡ Some (kind_of f)
+unfolding kind_of
+fields_meaning f w r e =
+    let x = f.operation in
+    some_meaning x w (word_below f w r e) (word_codes f w r e)
+    ∙ ap Some (same_kind (row x).1 f x w r.0 r.1 r.2 r.3 (codes_fit x) (same_word (row x).1 f ∙ e))
+
+by_operation : (w : ℕ) (x : Option Operation) → first_in w operations ≡ x → w < 2 ^ 32 → Means w (kind_with w x)
+unfolding Means
+by_operation w (Some x) e b = (read x w, read_fits x w b, refl, read_encoded x w b (first_has w operations x e))
+by_operation w None e b = λ f r q. none-some f.operation (sym e ∙ found w f.operation (word_codes f w r q))
+
+by_size : (w : ℕ) (b : Bool) → nat_lt w (2 ^ 32) ≡ b
+    → Means w (if b then kind_with w (first_in w operations) else None)
+unfolding Means
+by_size w true e = by_operation w (first_in w operations) refl (ltb-true _ _ e)
+by_size w false e = λ f r q. true≢false (sym (lt-ltb _ _ (word_below f w r q)) ∙ e)
 
 pub means_inverts : (w : ℕ) → Means w (means w)
-means_inverts w = from_kinds w (means w) (by_search w)
+unfolding means
+means_inverts w = by_size w (nat_lt w (2 ^ 32)) refl
+
+none_is : (w : ℕ) (k : Option Kind) → Means w k → Means w None → k ≡ None
+unfolding Means
+none_is w (Some k) m n = absurd (n m.0 m.1 m.3)
+none_is w None m n = refl
+
+the_meaning : (w : ℕ) (k : Option Kind) → Means w k → means w ≡ k
+unfolding Means
+the_meaning w (Some k) m = fields_meaning m.0 w m.1 m.3 ∙ ap Some m.2
+the_meaning w None m = none_is w (means w) (means_inverts w) m
+
+pub no_meaning : (w : ℕ) → ((x : Operation) → HasCodes w (codes_of (row x).1) → ⊥) → means w ≡ None
+unfolding Means
+no_meaning w h = the_meaning w None (λ f r e. h f.operation (word_codes f w r e))
+
+pub is_meant : (w : ℕ) (k : Option Kind) → means w ≡ k → Means w k
+is_meant w k e = subst (Means w) e (means_inverts w)
+
+pub one_meaning : OneMeaning
+one_meaning w a b p q = sym (the_meaning w a p) ∙ the_meaning w b q
+
+pub words_differ : (a b : Kind) → IsInRange a → IsInRange b → word a ≡ word b → a ≡ b
+words_differ a b p q e =
+    same_Some a b (one_meaning (word b) (Some a) (Some b) (word_means (word b) a p (sym e))
+    (word_means (word b) b q refl))
+
+-- ---- the fields that the code reads
+
+read_small : (e : Encoding) (w : ℕ) → w < 2 ^ 32 → SFits w32 (immediate (codes_of e).format w)
+read_small (R _ _ _ _) w b = record { sfits = grind arith }
+read_small e w b = record { sfits = grind arith }
+
+same_read : (x : Operation) (w : ℕ) (c : Codes) (n : Fields) → c ≡ codes_of (row x).1
+    → n ≡ normal c.format (read_in c.format x w) → n ≡ normal (codes_of (row x).1).format (read x w)
+same_read x w c n e is = is ∙ ap (λ c. normal c.format (read_in c.format x w)) e
+
+pub read_kind : (x : Operation) (w : ℕ) (c : Codes) (n : Fields) → c ≡ codes_of (row x).1
+    → n ≡ normal c.format (read_in c.format x w) → kind_of n ≡ kind_of (read x w)
+read_kind x w c n e is = normal_kind (read x w) n _ refl (same_read x w c n e is)
+
+pub read_range : (x : Operation) (w : ℕ) (c : Codes) (n : Fields) → w < 2 ^ 32 → c ≡ codes_of (row x).1
+    → n ≡ normal c.format (read_in c.format x w) → IsInRange (kind_of n)
+read_range x w c n b e is =
+    normal_range (read x w) n _ refl (same_read x w c n e is) (kind_in_range (read x w) (read_fits x w b))
+
+pub read_laid : (x : Operation) (w : ℕ) (c : Codes) (n : Fields) → w < 2 ^ 32 → c ≡ codes_of (row x).1
+    → n ≡ normal c.format (read_in c.format x w) → fields_of (kind_of n) ≡ n
+read_laid x w c n b e is =
+    normal_fields x _ _ _ _ n _ (read_small (row x).1 w b) refl (same_read x w c n e is)
+    (kind_in_range (read x w) (read_fits x w b))

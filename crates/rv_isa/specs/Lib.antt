@@ -1,4 +1,5 @@
 pub mod Alu
+pub mod Encoded
 pub mod Fields
 pub mod Laws
 pub mod Names

@@ -1,6 +1,6 @@
 -- Definitions that aren't to audit: each file says why.
+pub mod Codes
 pub mod Kinds
-pub mod Layout
 pub mod Letters
 pub mod Loads
 pub mod Meaning

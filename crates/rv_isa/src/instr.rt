@@ -22,7 +22,7 @@ impl Model for Instr {
     ghost use Rattle.std.specs.Prelude.{◌≡◌};
     ghost use Rattle.rv_isa.specs.Support.Kinds.{IsInRange};
     ghost use Rattle.rv_isa.specs.Fields.{kind_of};
-    ghost use Rattle.rv_isa.specs.Support.Layout.{fields_of};
+    ghost use Rattle.rv_isa.specs.Support.Kinds.{fields_of};
 
     ghost view = { λ i. kind_of i.fields };
 
@@ -35,7 +35,7 @@ impl Model for Instr {
 
 impl Instr {
     ghost use Rattle.std.specs.Prelude.{◌≡◌, ◌↔◌, IsSome, IfSome};
-    ghost use Rattle.rv_isa.specs.Support.Kinds.{IsInRange};
+    ghost use Rattle.rv_isa.specs.Support.Kinds.{fields_of, IsInRange};
     ghost use Rattle.rv_isa.specs.Fields as spec;
 
     /// Returns the instruction of a kind, or `None` exactly if a field is out of its range.
@@ -61,6 +61,16 @@ impl Instr {
         Instr {
             fields: fields_of(kind),
         }
+    }
+
+    /// Returns the instruction with these fields, of which those that its operation doesn't have are 0.
+    #[inline(always)]
+    pub(crate) fn laid(fields: Fields) -> Instr
+        requires in_range { IsInRange (spec.kind_of fields) }
+        requires normal { fields_of (spec.kind_of fields) ≡ fields }
+        ensures { result ≡ spec.kind_of fields }
+    {
+        Instr { fields }
     }
 
     /// Returns the operation with its operands.

@@ -1,13 +1,13 @@
 //! Kinds laid out as fields, and put together again.
 //!
-//! `fields_of` lays a kind out by its format, and a function for each form puts it together. They are
-//! inlined: where the form of a kind or an operation is known, as where a word is decoded, no match is left
-//! of them.
+//! `fields_of` lays a kind out, and a function for each form of several operations puts it together. They are
+//! inlined: where the form of a kind or an operation is known, no match is left of them.
 ghost use Rattle.std.specs.Prelude.{◌≡◌, ◌<◌, ◌^◌};
 ghost use Rattle.rv_isa.specs.Fields as spec;
-ghost use Rattle.rv_isa.specs.Support.Layout as layout;
+ghost use Rattle.rv_isa.specs.Support.Kinds as layout;
+ghost use Rattle.rv_isa.specs.Support.Codes as codes;
 ghost use Rattle.rv_isa.specs.Fields.{with_fields};
-ghost use Rattle.rv_isa.specs.Support.Kinds.{FieldsFit, IsInRange};
+ghost use Rattle.rv_isa.specs.Support.Kinds.{IsInRange};
 ghost use Rattle.rv_isa.specs.declared.kind.Kind.TheVariants as kind;
 
 use crate::format::Format;
@@ -15,8 +15,9 @@ use crate::{AluOp, Cond, CsrOp, Fields, ImmOp, Kind, LoadOp, Operation, Reg, Shi
 
 // ---- a kind's fields
 
-/// Returns fields: a constructor, so that each format's are on one line.
-fn with(operation: Operation, rd: Reg, rs1: Reg, rs2: Reg, imm: i32) -> Fields
+/// Returns fields: a constructor, so that each kind's are on one line.
+#[inline(always)]
+pub(crate) fn with(operation: Operation, rd: Reg, rs1: Reg, rs2: Reg, imm: i32) -> Fields
     ensures { result ≡ with_fields operation rd rs1 rs2 imm }
 {
     Fields {
@@ -28,95 +29,85 @@ fn with(operation: Operation, rd: Reg, rs1: Reg, rs2: Reg, imm: i32) -> Fields
     }
 }
 
-/// Returns the fields of an operation in a format.
+/// Returns the fields that a format has; the others are 0.
 #[inline(always)]
-fn laid(operation: Operation, format: Format) -> Fields
-    requires { FieldsFit format }
-    ensures { result ≡ layout.laid operation format }
+pub(crate) fn normal(format: Format, fields: Fields) -> Fields
+    ensures { result ≡ codes.normal format fields }
 {
     let x0 = Reg::of(0);
+    let Fields {
+        operation,
+        rd,
+        rs1,
+        rs2,
+        imm,
+    } = fields;
     match format {
-        Format::R { rd, rs1, rs2, .. } => with(operation, rd, rs1, rs2, 0),
-        Format::Amount {
-            rd,
-            rs1,
-            amount,
-            ..
-        } => with(operation, rd, rs1, x0, i32::from(amount)),
-        Format::I { rd, rs1, imm, .. } => with(operation, rd, rs1, x0, imm),
-        Format::Number { rd, rs1, imm, .. } => with(
-            operation,
-            rd,
-            Reg::of(rs1),
-            x0,
-            i32::from(imm),
-        ),
-        Format::S { rs1, rs2, imm, .. } => with(operation, x0, rs1, rs2, imm),
-        Format::B { rs1, rs2, imm, .. } => with(operation, x0, rs1, rs2, imm),
-        Format::U { rd, imm, .. } => with(operation, rd, x0, x0, imm as i32),
-        Format::J { rd, imm, .. } => with(operation, rd, x0, x0, imm),
-        Format::Whole { .. } => with(operation, x0, x0, x0, 0),
+        Format::R => with(operation, rd, rs1, rs2, 0),
+        Format::Amount | Format::I | Format::Number => with(operation, rd, rs1, x0, imm),
+        Format::S | Format::B => with(operation, x0, rs1, rs2, imm),
+        Format::U | Format::J => with(operation, rd, x0, x0, imm),
+        Format::Whole => with(operation, x0, x0, x0, 0),
     }
 }
 
 /// Returns the fields of a kind.
 #[inline(always)]
-#[tactic(auto, unfolding(crate::specs::Support::Layout::fields_of))]
+#[tactic(auto, unfolding(crate::specs::Support::Kinds::fields_of))]
 pub(crate) fn fields_of(kind: Kind) -> Fields
     requires { IsInRange kind }
     ensures { result ≡ layout.fields_of kind }
 {
-    // A copy: for the borrow checker the call moves its argument.
-    let same = kind;
-    laid(same.operation(), kind.format())
-}
-
-// ---- the kind of each form, whose fields are read where they are used
-
-/// Returns LUI.
-#[inline(always)]
-pub(crate) fn lui(fields: &Fields) -> Kind
-    ensures { result ≡ kind.Lui fields.now.rd (spec.unsigned fields.now.imm) }
-{
-    Kind::Lui {
-        rd: fields.rd,
-        imm: fields.imm.cast_unsigned(),
+    let x0 = Reg::of(0);
+    match kind {
+        Kind::Lui { rd, imm } => with(Operation::Lui, rd, x0, x0, imm as i32),
+        Kind::Auipc { rd, imm } => with(Operation::Auipc, rd, x0, x0, imm as i32),
+        Kind::Jal { rd, offset } => with(Operation::Jal, rd, x0, x0, offset),
+        Kind::Jalr { rd, base, offset } => with(Operation::Jalr, rd, base, x0, offset),
+        Kind::Branch {
+            cond,
+            rs1,
+            rs2,
+            offset,
+        } => with(cond.operation(), x0, rs1, rs2, offset),
+        Kind::Load {
+            op,
+            rd,
+            base,
+            offset,
+        } => with(op.operation(), rd, base, x0, offset),
+        Kind::Store {
+            width,
+            source,
+            base,
+            offset,
+        } => with(width.store_operation(), x0, base, source, offset),
+        Kind::OpImm { op, rd, rs1, imm } => with(op.operation(), rd, rs1, x0, imm),
+        Kind::Shift {
+            op,
+            rd,
+            rs1,
+            amount,
+        } => with(op.operation(), rd, rs1, x0, i32::from(amount)),
+        Kind::Op { op, rd, rs1, rs2 } => with(op.operation(), rd, rs1, rs2, 0),
+        Kind::Fence { rd, rs1, imm } => with(Operation::Fence, rd, rs1, x0, i32::from(imm)),
+        Kind::FenceI { rd, rs1, imm } => with(Operation::FenceI, rd, rs1, x0, i32::from(imm)),
+        Kind::Csr { op, rd, rs1, csr } => with(op.operation(), rd, rs1, x0, i32::from(csr)),
+        Kind::CsrImm { op, rd, imm, csr } => with(
+            op.imm_operation(),
+            rd,
+            Reg::of(imm),
+            x0,
+            i32::from(csr),
+        ),
+        Kind::Ecall => with(Operation::Ecall, x0, x0, x0, 0),
+        Kind::Ebreak => with(Operation::Ebreak, x0, x0, x0, 0),
+        Kind::Mret => with(Operation::Mret, x0, x0, x0, 0),
+        Kind::Wfi => with(Operation::Wfi, x0, x0, x0, 0),
     }
 }
 
-/// Returns AUIPC.
-#[inline(always)]
-pub(crate) fn auipc(fields: &Fields) -> Kind
-    ensures { result ≡ kind.Auipc fields.now.rd (spec.unsigned fields.now.imm) }
-{
-    Kind::Auipc {
-        rd: fields.rd,
-        imm: fields.imm.cast_unsigned(),
-    }
-}
-
-/// Returns JAL.
-#[inline(always)]
-pub(crate) fn jal(fields: &Fields) -> Kind
-    ensures { result ≡ kind.Jal fields.now.rd fields.now.imm }
-{
-    Kind::Jal {
-        rd: fields.rd,
-        offset: fields.imm,
-    }
-}
-
-/// Returns JALR.
-#[inline(always)]
-pub(crate) fn jalr(fields: &Fields) -> Kind
-    ensures { result ≡ kind.Jalr fields.now.rd fields.now.rs1 fields.now.imm }
-{
-    Kind::Jalr {
-        rd: fields.rd,
-        base: fields.rs1,
-        offset: fields.imm,
-    }
-}
+// ---- the kind of each form of several operations, whose fields are read where they are used
 
 /// Returns a branch.
 #[inline(always)]
@@ -197,32 +188,6 @@ pub(crate) fn op(op: AluOp, fields: &Fields) -> Kind
     }
 }
 
-/// Returns FENCE.
-#[inline(always)]
-pub(crate) fn fence(fields: &Fields) -> Kind
-    requires { spec.unsigned fields.now.imm < 2 ^ 12 }
-    ensures { result ≡ kind.Fence fields.now.rd fields.now.rs1 (spec.unsigned fields.now.imm) }
-{
-    Kind::Fence {
-        rd: fields.rd,
-        rs1: fields.rs1,
-        imm: low_half(fields.imm),
-    }
-}
-
-/// Returns FENCE.I.
-#[inline(always)]
-pub(crate) fn fence_i(fields: &Fields) -> Kind
-    requires { spec.unsigned fields.now.imm < 2 ^ 12 }
-    ensures { result ≡ kind.FenceI fields.now.rd fields.now.rs1 (spec.unsigned fields.now.imm) }
-{
-    Kind::FenceI {
-        rd: fields.rd,
-        rs1: fields.rs1,
-        imm: low_half(fields.imm),
-    }
-}
-
 /// Returns a change of a control register by a register.
 #[inline(always)]
 pub(crate) fn csr(op: CsrOp, fields: &Fields) -> Kind
@@ -253,7 +218,7 @@ pub(crate) fn csr_imm(op: CsrOp, fields: &Fields) -> Kind
 
 /// Returns an immediate of twelve bits.
 #[inline(always)]
-fn low_half(imm: i32) -> u16
+pub(crate) fn low_half(imm: i32) -> u16
     requires { spec.unsigned imm < 2 ^ 12 }
     ensures { result ≡ spec.unsigned imm }
 {

@@ -5,8 +5,9 @@ ghost use Rattle.rv_isa.specs.Laws.{OneMnemonic, OneOperation};
 ghost use Rattle.rv_isa.specs.Support.Mnemonics.{first_named, named};
 ghost use Rattle.rv_isa.specs.Support.Kinds.{IsInRange};
 
-use crate::op::{beginning_with, kind_of};
-use crate::{Fields, Instr, Kind, Operation, Reg};
+use crate::layout::{normal, with};
+use crate::op::beginning_with;
+use crate::{Instr, Kind, Operation, Reg};
 
 /// Returns the operation with a mnemonic, or `None` if no operation has it. Mnemonics are in lower case.
 #[tactic(auto, using(crate::proofs::Named::named_among, crate::proofs::Named::none_named))]
@@ -51,13 +52,8 @@ impl Operation {
         requires { IsInRange (kind_of (with_fields self rd rs1 rs2 imm)) }
         ensures { result ≡ kind_of (with_fields self rd rs1 rs2 imm) }
     {
-        Instr::of(kind_of(&Fields {
-            operation: self,
-            rd,
-            rs1,
-            rs2,
-            imm,
-        }))
+        let fields = with(self, rd, rs1, rs2, imm);
+        Instr::laid(normal(self.codes().format, fields))
     }
 
     /// Returns the operation's kind, with zeros in all fields.

@@ -1,30 +1,21 @@
 //! The operations: the table of instructions, the operations of each form, and their values.
 //!
-//! A new operation has a row in each `match` that it belongs to here. RISC-V Unprivileged ISA 20191213,
-//! chapter 24, has the function codes: funct3 has three bits, funct7 has seven. `from_funct3` and
-//! `from_codes` return the operation that has codes, or `None` where none has them.
-ghost use Rattle.std.specs.Prelude.{◌≡◌, ◌≢◌, ◌<◌, ◌+◌, ◌%◌, ◌==◌, MatchOption, true};
+//! A new operation has a row in each `match` that it belongs to here. `Operation::row` is the table of RISC-V
+//! Unprivileged ISA 20191213, chapter 24, and `Operation::in_word` the same by codes.
+ghost use Rattle.std.specs.Prelude.{◌≡◌, ◌/◌, ◌%◌, ◌^◌, ◌==◌};
 ghost use Rattle.rv_isa.specs.Alu.{alu_value};
 ghost use Rattle.rv_isa.specs.Fields as spec;
-ghost use Rattle.rv_isa.specs.Support.Layout as layout;
 ghost use Rattle.rv_isa.specs.Support.Letters.{beginning_with};
 ghost use Rattle.rv_isa.specs.Support.Kinds as table;
-ghost use Rattle.rv_isa.specs.Table.{mnemonic};
+ghost use Rattle.rv_isa.specs.Support.Codes.{codes, codes_of, HasOperation};
+ghost use Rattle.rv_isa.specs.Table.{mnemonic, row};
 ghost use Rattle.rv_isa.specs.Width.{bytes_of, load_of, imm_alu_op, shift_alu_op};
 ghost use Rattle.rv_isa.specs.Support.Kinds.{IsInRange};
-ghost use Rattle.rv_isa.specs.declared.op.Cond.{Cond};
-ghost use Rattle.rv_isa.specs.declared.op.LoadOp.{LoadOp};
-ghost use Rattle.rv_isa.specs.declared.op.Width.{Width};
-ghost use Rattle.rv_isa.specs.declared.op.ImmOp.{ImmOp};
-ghost use Rattle.rv_isa.specs.declared.op.CsrOp.{CsrOp};
-ghost use Rattle.rv_isa.specs.declared.op.ShiftOp.{ShiftOp};
-ghost use Rattle.rv_isa.specs.declared.op.AluOp.{AluOp};
 
 use crate::arith::{div, mulh, mulhsu, rem};
-use crate::layout::{
-    auipc, branch, csr, csr_imm, fence, fence_i, jal, jalr, load, lui, op, op_imm, shift, store,
-};
-use crate::{Fields, Kind};
+use crate::format::{Codes, Format};
+use crate::layout::{branch, csr, csr_imm, load, low_half, op, op_imm, shift, store};
+use crate::{Fields, Kind, opcode};
 
 /// The operation of an instruction: one for each mnemonic.
 ///
@@ -99,89 +90,168 @@ impl Operation {
         self.row().0
     }
 
-    /// Returns the function code in bits 14:12 of a word.
-    pub(crate) fn funct3(self) -> u32
-        ensures value { result ≡ table.funct3 self }
-        ensures below { result < 8 }
+    /// Returns the format of the operation's words, with its codes.
+    #[inline(always)]
+    pub(crate) fn codes(self) -> Codes
+        ensures { result ≡ codes_of (row self).1 }
     {
-        self.row().1
-    }
-
-    /// Returns the function code in bits 31:25 of a word of R-type.
-    pub(crate) fn funct7(self) -> u32
-        ensures value { result ≡ table.funct7 self }
-        ensures below { result < 128 }
-    {
-        self.row().2
-    }
-
-    /// Returns the mnemonic and the function codes: those that the word doesn't have are 0. It is a table, as long
-    /// as there are operations.
-    #[tactic(auto, unfolding(crate::specs::Table::mnemonic, crate::specs::Support::Kinds::funct3, crate::specs::Support::Kinds::funct7))]
-    fn row(self) -> (&'static str, u32, u32)
-        ensures mnemonic { result.0.now ≡ mnemonic self }
-        ensures funct3 { (result.1 ≡ table.funct3 self) × (result.1 < 8) }
-        ensures funct7 { (result.2 ≡ table.funct7 self) × (result.2 < 128) }
-    {
-        match self {
-            Operation::Lui => ("lui", 0, 0x0),
-            Operation::Auipc => ("auipc", 0, 0x0),
-            Operation::Jal => ("jal", 0, 0x0),
-            Operation::Jalr => ("jalr", 0, 0x0),
-            Operation::Beq => ("beq", 0, 0x0),
-            Operation::Bne => ("bne", 1, 0x0),
-            Operation::Blt => ("blt", 4, 0x0),
-            Operation::Bge => ("bge", 5, 0x0),
-            Operation::Bltu => ("bltu", 6, 0x0),
-            Operation::Bgeu => ("bgeu", 7, 0x0),
-            Operation::Lb => ("lb", 0, 0x0),
-            Operation::Lh => ("lh", 1, 0x0),
-            Operation::Lw => ("lw", 2, 0x0),
-            Operation::Lbu => ("lbu", 4, 0x0),
-            Operation::Lhu => ("lhu", 5, 0x0),
-            Operation::Sb => ("sb", 0, 0x0),
-            Operation::Sh => ("sh", 1, 0x0),
-            Operation::Sw => ("sw", 2, 0x0),
-            Operation::Addi => ("addi", 0, 0x0),
-            Operation::Slti => ("slti", 2, 0x0),
-            Operation::Sltiu => ("sltiu", 3, 0x0),
-            Operation::Xori => ("xori", 4, 0x0),
-            Operation::Ori => ("ori", 6, 0x0),
-            Operation::Andi => ("andi", 7, 0x0),
-            Operation::Slli => ("slli", 1, 0x0),
-            Operation::Srli => ("srli", 5, 0x0),
-            Operation::Srai => ("srai", 5, 0x20),
-            Operation::Add => ("add", 0, 0x0),
-            Operation::Sll => ("sll", 1, 0x0),
-            Operation::Slt => ("slt", 2, 0x0),
-            Operation::Sltu => ("sltu", 3, 0x0),
-            Operation::Xor => ("xor", 4, 0x0),
-            Operation::Srl => ("srl", 5, 0x0),
-            Operation::Or => ("or", 6, 0x0),
-            Operation::And => ("and", 7, 0x0),
-            Operation::Sub => ("sub", 0, 0x20),
-            Operation::Sra => ("sra", 5, 0x20),
-            Operation::Mul => ("mul", 0, 0x1),
-            Operation::Mulh => ("mulh", 1, 0x1),
-            Operation::Mulhsu => ("mulhsu", 2, 0x1),
-            Operation::Mulhu => ("mulhu", 3, 0x1),
-            Operation::Div => ("div", 4, 0x1),
-            Operation::Divu => ("divu", 5, 0x1),
-            Operation::Rem => ("rem", 6, 0x1),
-            Operation::Remu => ("remu", 7, 0x1),
-            Operation::Fence => ("fence", 0, 0x0),
-            Operation::FenceI => ("fence.i", 1, 0x0),
-            Operation::Csrrw => ("csrrw", 1, 0x0),
-            Operation::Csrrs => ("csrrs", 2, 0x0),
-            Operation::Csrrc => ("csrrc", 3, 0x0),
-            Operation::Csrrwi => ("csrrwi", 5, 0x0),
-            Operation::Csrrsi => ("csrrsi", 6, 0x0),
-            Operation::Csrrci => ("csrrci", 7, 0x0),
-            Operation::Ecall => ("ecall", 0, 0x0),
-            Operation::Ebreak => ("ebreak", 0, 0x0),
-            Operation::Mret => ("mret", 0, 0x0),
-            Operation::Wfi => ("wfi", 0, 0x0),
+        let (_, format, opcode, funct3, funct7) = self.row();
+        Codes {
+            format,
+            opcode,
+            funct3,
+            funct7,
         }
+    }
+
+    /// Returns the row of the table of instructions: the mnemonic, the format, and the codes, of which those that
+    /// the format doesn't have are 0. It is a table, as long as there are operations.
+    #[inline(always)]
+    #[tactic(auto, unfolding(crate::specs::Table::mnemonic))]
+    fn row(self) -> (&'static str, Format, u32, u32, u32)
+        ensures mnemonic { result.0.now ≡ mnemonic self }
+        ensures codes { codes result.1 result.2 result.3 result.4 ≡ codes_of (row self).1 }
+    {
+        use Format::{Amount, B, I, J, Number, R, S, U, Whole};
+        match self {
+            Operation::Lui => ("lui", U, opcode::LUI, 0, 0x0),
+            Operation::Auipc => ("auipc", U, opcode::AUIPC, 0, 0x0),
+            Operation::Jal => ("jal", J, opcode::JAL, 0, 0x0),
+            Operation::Jalr => ("jalr", I, opcode::JALR, 0, 0x0),
+            Operation::Beq => ("beq", B, opcode::BRANCH, 0, 0x0),
+            Operation::Bne => ("bne", B, opcode::BRANCH, 1, 0x0),
+            Operation::Blt => ("blt", B, opcode::BRANCH, 4, 0x0),
+            Operation::Bge => ("bge", B, opcode::BRANCH, 5, 0x0),
+            Operation::Bltu => ("bltu", B, opcode::BRANCH, 6, 0x0),
+            Operation::Bgeu => ("bgeu", B, opcode::BRANCH, 7, 0x0),
+            Operation::Lb => ("lb", I, opcode::LOAD, 0, 0x0),
+            Operation::Lh => ("lh", I, opcode::LOAD, 1, 0x0),
+            Operation::Lw => ("lw", I, opcode::LOAD, 2, 0x0),
+            Operation::Lbu => ("lbu", I, opcode::LOAD, 4, 0x0),
+            Operation::Lhu => ("lhu", I, opcode::LOAD, 5, 0x0),
+            Operation::Sb => ("sb", S, opcode::STORE, 0, 0x0),
+            Operation::Sh => ("sh", S, opcode::STORE, 1, 0x0),
+            Operation::Sw => ("sw", S, opcode::STORE, 2, 0x0),
+            Operation::Addi => ("addi", I, opcode::OP_IMM, 0, 0x0),
+            Operation::Slti => ("slti", I, opcode::OP_IMM, 2, 0x0),
+            Operation::Sltiu => ("sltiu", I, opcode::OP_IMM, 3, 0x0),
+            Operation::Xori => ("xori", I, opcode::OP_IMM, 4, 0x0),
+            Operation::Ori => ("ori", I, opcode::OP_IMM, 6, 0x0),
+            Operation::Andi => ("andi", I, opcode::OP_IMM, 7, 0x0),
+            Operation::Slli => ("slli", Amount, opcode::OP_IMM, 1, 0x0),
+            Operation::Srli => ("srli", Amount, opcode::OP_IMM, 5, 0x0),
+            Operation::Srai => ("srai", Amount, opcode::OP_IMM, 5, 0x20),
+            Operation::Add => ("add", R, opcode::OP, 0, 0x0),
+            Operation::Sll => ("sll", R, opcode::OP, 1, 0x0),
+            Operation::Slt => ("slt", R, opcode::OP, 2, 0x0),
+            Operation::Sltu => ("sltu", R, opcode::OP, 3, 0x0),
+            Operation::Xor => ("xor", R, opcode::OP, 4, 0x0),
+            Operation::Srl => ("srl", R, opcode::OP, 5, 0x0),
+            Operation::Or => ("or", R, opcode::OP, 6, 0x0),
+            Operation::And => ("and", R, opcode::OP, 7, 0x0),
+            Operation::Sub => ("sub", R, opcode::OP, 0, 0x20),
+            Operation::Sra => ("sra", R, opcode::OP, 5, 0x20),
+            Operation::Mul => ("mul", R, opcode::OP, 0, 0x1),
+            Operation::Mulh => ("mulh", R, opcode::OP, 1, 0x1),
+            Operation::Mulhsu => ("mulhsu", R, opcode::OP, 2, 0x1),
+            Operation::Mulhu => ("mulhu", R, opcode::OP, 3, 0x1),
+            Operation::Div => ("div", R, opcode::OP, 4, 0x1),
+            Operation::Divu => ("divu", R, opcode::OP, 5, 0x1),
+            Operation::Rem => ("rem", R, opcode::OP, 6, 0x1),
+            Operation::Remu => ("remu", R, opcode::OP, 7, 0x1),
+            Operation::Fence => ("fence", Number, opcode::MISC_MEM, 0, 0x0),
+            Operation::FenceI => ("fence.i", Number, opcode::MISC_MEM, 1, 0x0),
+            Operation::Csrrw => ("csrrw", Number, opcode::SYSTEM, 1, 0x0),
+            Operation::Csrrs => ("csrrs", Number, opcode::SYSTEM, 2, 0x0),
+            Operation::Csrrc => ("csrrc", Number, opcode::SYSTEM, 3, 0x0),
+            Operation::Csrrwi => ("csrrwi", Number, opcode::SYSTEM, 5, 0x0),
+            Operation::Csrrsi => ("csrrsi", Number, opcode::SYSTEM, 6, 0x0),
+            Operation::Csrrci => ("csrrci", Number, opcode::SYSTEM, 7, 0x0),
+            Operation::Ecall => ("ecall", Whole, opcode::ECALL, 0, 0x0),
+            Operation::Ebreak => ("ebreak", Whole, opcode::EBREAK, 0, 0x0),
+            Operation::Mret => ("mret", Whole, opcode::MRET, 0, 0x0),
+            Operation::Wfi => ("wfi", Whole, opcode::WFI, 0, 0x0),
+        }
+    }
+
+    /// Returns the operation whose codes a word has, or `None` if no operation has them. It is a table, as long as
+    /// there are operations.
+    pub(crate) fn in_word(word: u32) -> Option<Operation>
+        ensures { HasOperation word result }
+    {
+        use Operation::*;
+        match (word % 128, (word >> 12) % 8, word >> 25) {
+            (opcode::LUI, _, _) => Some(Lui),
+            (opcode::AUIPC, _, _) => Some(Auipc),
+            (opcode::JAL, _, _) => Some(Jal),
+            (opcode::JALR, 0, _) => Some(Jalr),
+            (opcode::BRANCH, 0, _) => Some(Beq),
+            (opcode::BRANCH, 1, _) => Some(Bne),
+            (opcode::BRANCH, 4, _) => Some(Blt),
+            (opcode::BRANCH, 5, _) => Some(Bge),
+            (opcode::BRANCH, 6, _) => Some(Bltu),
+            (opcode::BRANCH, 7, _) => Some(Bgeu),
+            (opcode::LOAD, 0, _) => Some(Lb),
+            (opcode::LOAD, 1, _) => Some(Lh),
+            (opcode::LOAD, 2, _) => Some(Lw),
+            (opcode::LOAD, 4, _) => Some(Lbu),
+            (opcode::LOAD, 5, _) => Some(Lhu),
+            (opcode::STORE, 0, _) => Some(Sb),
+            (opcode::STORE, 1, _) => Some(Sh),
+            (opcode::STORE, 2, _) => Some(Sw),
+            (opcode::OP_IMM, 0, _) => Some(Addi),
+            (opcode::OP_IMM, 2, _) => Some(Slti),
+            (opcode::OP_IMM, 3, _) => Some(Sltiu),
+            (opcode::OP_IMM, 4, _) => Some(Xori),
+            (opcode::OP_IMM, 6, _) => Some(Ori),
+            (opcode::OP_IMM, 7, _) => Some(Andi),
+            (opcode::OP_IMM, 1, 0x0) => Some(Slli),
+            (opcode::OP_IMM, 5, 0x0) => Some(Srli),
+            (opcode::OP_IMM, 5, 0x20) => Some(Srai),
+            (opcode::OP, 0, 0x0) => Some(Add),
+            (opcode::OP, 1, 0x0) => Some(Sll),
+            (opcode::OP, 2, 0x0) => Some(Slt),
+            (opcode::OP, 3, 0x0) => Some(Sltu),
+            (opcode::OP, 4, 0x0) => Some(Xor),
+            (opcode::OP, 5, 0x0) => Some(Srl),
+            (opcode::OP, 6, 0x0) => Some(Or),
+            (opcode::OP, 7, 0x0) => Some(And),
+            (opcode::OP, 0, 0x20) => Some(Sub),
+            (opcode::OP, 5, 0x20) => Some(Sra),
+            (opcode::OP, 0, 0x1) => Some(Mul),
+            (opcode::OP, 1, 0x1) => Some(Mulh),
+            (opcode::OP, 2, 0x1) => Some(Mulhsu),
+            (opcode::OP, 3, 0x1) => Some(Mulhu),
+            (opcode::OP, 4, 0x1) => Some(Div),
+            (opcode::OP, 5, 0x1) => Some(Divu),
+            (opcode::OP, 6, 0x1) => Some(Rem),
+            (opcode::OP, 7, 0x1) => Some(Remu),
+            (opcode::MISC_MEM, 0, _) => Some(Fence),
+            (opcode::MISC_MEM, 1, _) => Some(FenceI),
+            (opcode::SYSTEM, 1, _) => Some(Csrrw),
+            (opcode::SYSTEM, 2, _) => Some(Csrrs),
+            (opcode::SYSTEM, 3, _) => Some(Csrrc),
+            (opcode::SYSTEM, 5, _) => Some(Csrrwi),
+            (opcode::SYSTEM, 6, _) => Some(Csrrsi),
+            (opcode::SYSTEM, 7, _) => Some(Csrrci),
+            (opcode::SYSTEM, 0, _) => in_whole(word),
+            _ => None,
+        }
+    }
+}
+
+/// Returns the operation of the system that has no fields, and this word.
+fn in_whole(word: u32) -> Option<Operation>
+    requires opcode { word % 2 ^ 7 ≡ 0x73 }
+    requires funct3 { word / 2 ^ 12 % 2 ^ 3 ≡ 0 }
+    ensures { HasOperation word result }
+{
+    match word {
+        opcode::ECALL => Some(Operation::Ecall),
+        opcode::EBREAK => Some(Operation::Ebreak),
+        opcode::MRET => Some(Operation::Mret),
+        opcode::WFI => Some(Operation::Wfi),
+        _ => None,
     }
 }
 
@@ -212,7 +282,7 @@ pub(crate) fn beginning_with(letter: u8) -> &'static [Operation]
     }
 }
 
-/// Returns the kind that an instruction with these fields is.
+/// Returns the kind that an instruction with these fields is. It is a table, as long as there are operations.
 #[inline(always)]
 #[tactic(auto, unfolding(crate::specs::Fields::kind_of))]
 pub(crate) fn kind_of(fields: &Fields) -> Kind
@@ -220,10 +290,23 @@ pub(crate) fn kind_of(fields: &Fields) -> Kind
     ensures { result ≡ spec.kind_of fields.now }
 {
     match fields.operation {
-        Operation::Lui => lui(fields),
-        Operation::Auipc => auipc(fields),
-        Operation::Jal => jal(fields),
-        Operation::Jalr => jalr(fields),
+        Operation::Lui => Kind::Lui {
+            rd: fields.rd,
+            imm: fields.imm.cast_unsigned(),
+        },
+        Operation::Auipc => Kind::Auipc {
+            rd: fields.rd,
+            imm: fields.imm.cast_unsigned(),
+        },
+        Operation::Jal => Kind::Jal {
+            rd: fields.rd,
+            offset: fields.imm,
+        },
+        Operation::Jalr => Kind::Jalr {
+            rd: fields.rd,
+            base: fields.rs1,
+            offset: fields.imm,
+        },
         Operation::Beq => branch(Cond::Eq, fields),
         Operation::Bne => branch(Cond::Ne, fields),
         Operation::Blt => branch(Cond::Lt, fields),
@@ -265,21 +348,16 @@ pub(crate) fn kind_of(fields: &Fields) -> Kind
         Operation::Divu => op(AluOp::Divu, fields),
         Operation::Rem => op(AluOp::Rem, fields),
         Operation::Remu => op(AluOp::Remu, fields),
-        _ => system_kind(fields),
-    }
-}
-
-/// Returns the kind of the fields of a fence or an instruction of the system.
-#[inline(always)]
-#[tactic(auto, unfolding(crate::specs::Fields::kind_of))]
-fn system_kind(fields: &Fields) -> Kind
-    requires system { layout.is_system (spec.kind_of fields.now) ≡ true }
-    requires in_range { IsInRange (spec.kind_of fields.now) }
-    ensures { result ≡ spec.kind_of fields.now }
-{
-    match fields.operation {
-        Operation::Fence => fence(fields),
-        Operation::FenceI => fence_i(fields),
+        Operation::Fence => Kind::Fence {
+            rd: fields.rd,
+            rs1: fields.rs1,
+            imm: low_half(fields.imm),
+        },
+        Operation::FenceI => Kind::FenceI {
+            rd: fields.rd,
+            rs1: fields.rs1,
+            imm: low_half(fields.imm),
+        },
         Operation::Csrrw => csr(CsrOp::Write, fields),
         Operation::Csrrs => csr(CsrOp::Set, fields),
         Operation::Csrrc => csr(CsrOp::Clear, fields),
@@ -290,7 +368,6 @@ fn system_kind(fields: &Fields) -> Kind
         Operation::Ebreak => Kind::Ebreak,
         Operation::Mret => Kind::Mret,
         Operation::Wfi => Kind::Wfi,
-        _ => unreachable!(),
     }
 }
 
@@ -326,22 +403,6 @@ impl Cond {
             Cond::Ge => Operation::Bge,
             Cond::Ltu => Operation::Bltu,
             Cond::Geu => Operation::Bgeu,
-        }
-    }
-
-    #[tactic(auto, unfolding(crate::specs::Support::Kinds::funct3, crate::specs::Support::Kinds::branch_operation))]
-    pub(crate) fn from_funct3(funct3: u32) -> Option<Cond>
-        ensures { MatchOption result ((op : Cond) → table.funct3 (table.branch_operation op) ≢ funct3)
-            (λ op. table.funct3 (table.branch_operation op) ≡ funct3) }
-    {
-        match funct3 {
-            0 => Some(Cond::Eq),
-            1 => Some(Cond::Ne),
-            4 => Some(Cond::Lt),
-            5 => Some(Cond::Ge),
-            6 => Some(Cond::Ltu),
-            7 => Some(Cond::Geu),
-            _ => None,
         }
     }
 }
@@ -386,21 +447,6 @@ impl LoadOp {
             LoadOp::Lb | LoadOp::Lbu => Width::One,
             LoadOp::Lh | LoadOp::Lhu => Width::Two,
             LoadOp::Lw => Width::Four,
-        }
-    }
-
-    #[tactic(auto, unfolding(crate::specs::Support::Kinds::funct3, crate::specs::Support::Kinds::load_operation))]
-    pub(crate) fn from_funct3(funct3: u32) -> Option<LoadOp>
-        ensures { MatchOption result ((op : LoadOp) → table.funct3 (table.load_operation op) ≢ funct3)
-            (λ op. table.funct3 (table.load_operation op) ≡ funct3) }
-    {
-        match funct3 {
-            0 => Some(LoadOp::Lb),
-            1 => Some(LoadOp::Lh),
-            2 => Some(LoadOp::Lw),
-            4 => Some(LoadOp::Lbu),
-            5 => Some(LoadOp::Lhu),
-            _ => None,
         }
     }
 }
@@ -453,19 +499,6 @@ impl Width {
             Width::Four => addr % 4 == 0,
         }
     }
-
-    #[tactic(auto, unfolding(crate::specs::Support::Kinds::funct3, crate::specs::Support::Kinds::store_operation))]
-    pub(crate) fn from_funct3(funct3: u32) -> Option<Width>
-        ensures { MatchOption result ((op : Width) → table.funct3 (table.store_operation op) ≢ funct3)
-            (λ op. table.funct3 (table.store_operation op) ≡ funct3) }
-    {
-        match funct3 {
-            0 => Some(Width::One),
-            1 => Some(Width::Two),
-            2 => Some(Width::Four),
-            _ => None,
-        }
-    }
 }
 
 /// An operation on a register and an immediate.
@@ -516,22 +549,6 @@ impl ImmOp {
             ImmOp::Andi => AluOp::And,
         }
     }
-
-    #[tactic(auto, unfolding(crate::specs::Support::Kinds::funct3, crate::specs::Support::Kinds::imm_operation))]
-    pub(crate) fn from_funct3(funct3: u32) -> Option<ImmOp>
-        ensures { MatchOption result ((op : ImmOp) → table.funct3 (table.imm_operation op) ≢ funct3)
-            (λ op. table.funct3 (table.imm_operation op) ≡ funct3) }
-    {
-        match funct3 {
-            0 => Some(ImmOp::Addi),
-            2 => Some(ImmOp::Slti),
-            3 => Some(ImmOp::Sltiu),
-            4 => Some(ImmOp::Xori),
-            6 => Some(ImmOp::Ori),
-            7 => Some(ImmOp::Andi),
-            _ => None,
-        }
-    }
 }
 
 /// The change of a control register by an instruction.
@@ -571,21 +588,6 @@ impl CsrOp {
             CsrOp::Clear => Operation::Csrrci,
         }
     }
-
-    #[tactic(auto, unfolding(crate::specs::Support::Kinds::funct3, crate::specs::Support::Kinds::csr_operation, crate::specs::Support::Kinds::csr_imm_operation))]
-    pub(crate) fn from_funct3(funct3: u32) -> Option<CsrOp>
-        ensures register { MatchOption result ((op : CsrOp) → table.funct3 (table.csr_operation op) ≢ funct3)
-            (λ op. table.funct3 (table.csr_operation op) ≡ funct3) }
-        ensures number { MatchOption result ((op : CsrOp) → table.funct3 (table.csr_imm_operation op) ≢ funct3 + 4)
-            (λ op. table.funct3 (table.csr_imm_operation op) ≡ funct3 + 4) }
-    {
-        match funct3 {
-            1 => Some(CsrOp::Write),
-            2 => Some(CsrOp::Set),
-            3 => Some(CsrOp::Clear),
-            _ => None,
-        }
-    }
 }
 
 /// A shift of a register by an amount in the instruction.
@@ -622,20 +624,6 @@ impl ShiftOp {
             ShiftOp::Slli => AluOp::Sll,
             ShiftOp::Srli => AluOp::Srl,
             ShiftOp::Srai => AluOp::Sra,
-        }
-    }
-
-    #[tactic(auto, unfolding(crate::specs::Support::Kinds::funct3, crate::specs::Support::Kinds::funct7, crate::specs::Support::Kinds::shift_operation))]
-    pub(crate) fn from_codes(funct7: u32, funct3: u32) -> Option<ShiftOp>
-        ensures { MatchOption result
-            ((op : ShiftOp) → table.funct7 (table.shift_operation op) ≡ funct7 → table.funct3 (table.shift_operation op) ≢ funct3)
-            (λ op. (table.funct7 (table.shift_operation op) ≡ funct7) × (table.funct3 (table.shift_operation op) ≡ funct3)) }
-    {
-        match (funct7, funct3) {
-            (0x0, 1) => Some(ShiftOp::Slli),
-            (0x0, 5) => Some(ShiftOp::Srli),
-            (0x20, 5) => Some(ShiftOp::Srai),
-            _ => None,
         }
     }
 }
@@ -708,35 +696,6 @@ impl AluOp {
             AluOp::Divu => Operation::Divu,
             AluOp::Rem => Operation::Rem,
             AluOp::Remu => Operation::Remu,
-        }
-    }
-
-    #[tactic(auto, unfolding(crate::specs::Support::Kinds::funct3, crate::specs::Support::Kinds::funct7, crate::specs::Support::Kinds::alu_operation))]
-    pub(crate) fn from_codes(funct7: u32, funct3: u32) -> Option<AluOp>
-        ensures { MatchOption result
-            ((op : AluOp) → table.funct7 (table.alu_operation op) ≡ funct7 → table.funct3 (table.alu_operation op) ≢ funct3)
-            (λ op. (table.funct7 (table.alu_operation op) ≡ funct7) × (table.funct3 (table.alu_operation op) ≡ funct3)) }
-    {
-        match (funct7, funct3) {
-            (0x0, 0) => Some(AluOp::Add),
-            (0x0, 1) => Some(AluOp::Sll),
-            (0x0, 2) => Some(AluOp::Slt),
-            (0x0, 3) => Some(AluOp::Sltu),
-            (0x0, 4) => Some(AluOp::Xor),
-            (0x0, 5) => Some(AluOp::Srl),
-            (0x0, 6) => Some(AluOp::Or),
-            (0x0, 7) => Some(AluOp::And),
-            (0x20, 0) => Some(AluOp::Sub),
-            (0x20, 5) => Some(AluOp::Sra),
-            (0x1, 0) => Some(AluOp::Mul),
-            (0x1, 1) => Some(AluOp::Mulh),
-            (0x1, 2) => Some(AluOp::Mulhsu),
-            (0x1, 3) => Some(AluOp::Mulhu),
-            (0x1, 4) => Some(AluOp::Div),
-            (0x1, 5) => Some(AluOp::Divu),
-            (0x1, 6) => Some(AluOp::Rem),
-            (0x1, 7) => Some(AluOp::Remu),
-            _ => None,
         }
     }
 }

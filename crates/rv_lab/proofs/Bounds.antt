@@ -2,22 +2,22 @@
 use Rattle.std.proofs.Common.{◌≡◌, ◌∙◌, ℕ, ◌+◌, ◌*◌, ◌-◌, ◌≤◌, Bool, true, false, List, [], ◌∷◌, refl, sym, ap, subst, arith, inl, inr}
 use Rattle.std.proofs.lemmas.Bool.Decides.{nat_tests}
 use Rattle.std.specs.Prelude.{◌&&◌, if◌then◌else◌, fold, length, max, min, nat_le, nat_lt, MatchOption, Option, Some, None, unwrap_or}
-use Rattle.std.specs.FinSet as set
 use Rattle.std.specs.List.{list_all}
 use Rattle.rv_base.specs.Numbers.{digit_value, number_in}
 use Rattle.rv_base.specs.Words.{words}
 use Rattle.rv_commands.specs.declared.command.Command as commands
 use Rattle.rv_commands.specs.declared.command.Command.TheVariants as monitored_by
-use Rattle.rv_lists.specs.Timed.{driven}
-use Rattle.rv_lists.specs.declared.input.Input.{Input}
+use Rattle.rv_timeline.specs.Timed.{driven}
+use Rattle.rv_timeline.specs.declared.input.Input.{Input}
 use Rattle.rv_monitor.specs.Commands as monitor
 use Rattle.rv_monitor.specs.Commands.{command_in}
-use Rattle.rv_monitor.specs.State.{Addresses, SessionState, TimedState, after, given, with_due, with_break, without_break}
-use Rattle.rv_monitor.specs.Stops.{Took}
+use Rattle.rv_monitor.specs.State.{SessionState, TimedState, after, given, with_due, with_break, without_break}
+use Rattle.rv_recording.specs.Until.{step_ends, steps_of}
+use Rattle.rv_recording.proofs.Counting.{steps_within}
 use Rattle.rv_recording.specs.Recording.{gone_back}
-use Rattle.rv_operands.specs.Operands.{bytes_inputs, condition}
+use Rattle.rv_operands.specs.Operands.{bytes_inputs}
 use Rattle.rv_lab.specs.Commands as lab
-use Rattle.rv_lab.specs.Commands.{Begins, Breaks, GoesOn, InSession, IsWithin, Monitors, Obeys, Repeats, RunsFor, Starts, Steps, With, begun, call_limit, monitored_run, ready, run_of, with_inputs, with_session}
+use Rattle.rv_lab.specs.Commands.{Begins, Breaks, GoesOn, InSession, IsWithin, Monitors, Obeys, Repeats, Starts, Steps, Traces, With, begun, call_limit, monitored_run, piece_steps, ready, run_ends, run_of, with_console, with_inputs, with_session}
 use Rattle.rv_lab.specs.Lines.{with_listed}
 use Rattle.rv_lab.specs.Refusals.{Leads, RunsOut, StopsShort, by_hand, due, nowhere, steps}
 use Rattle.rv_lab.specs.State.{LabState, timed}
@@ -59,25 +59,12 @@ unmoved n old new e = same_taken n old new (ap (λ (l : LabState). (timed l).tak
 
 -- ---- runs
 
-took : (b : Addresses) (n : ℕ) (s t : SessionState) → Took b n s t → t.timed.taken ≤ s.timed.taken + n
-took b n s t r =
-    let now = ap (λ (u : SessionState). u.timed.taken) r.state ∙ taken_after s.timed r.count in
-    omega (arith, r.within, now)
-
-ran : (g : Goal) (n : ℕ) (s t : SessionState) → RunsFor g n s t → t.timed.taken ≤ s.timed.taken + n
-ran goal.Count n s t r = took set.empty n s t r
-ran goal.Break n s t r = took s.breakpoints.addresses n s t r
-ran (goal.Out calls) n s t r =
-    let now = ap (λ (u : SessionState). u.timed.taken) r.1.state ∙ taken_after s.timed r.1.count in
-    omega (arith, r.1.within, now)
-ran (goal.Until condition) n s t r =
-    let now = ap (λ (u : SessionState). u.timed.taken) r.1.state ∙ taken_after s.timed r.1.count in
-    omega (arith, r.1.within, now)
-
 goes : (p : Plan) (old new : LabState) → GoesOn p old new → IsWithin (max old.piece 1) old new
 goes p old new g =
-    let r = ran p.goal (min p.left (max old.piece 1)) old.recording.session new.recording.session g.0.1 in
-    omega (arith, r)
+    let most : piece_steps p old ≤ min p.left (max old.piece 1) =
+    steps_within (run_ends p.goal old.recording.session) (min p.left (max old.piece 1)) in
+    let now = ap (λ (l : LabState). (timed l).taken) g ∙ taken_after (timed old) (piece_steps p old) in
+    omega (arith, most, now)
 
 with_within : {A : Type 0} (meaning : Option A) (Does : A → LabState → LabState → Type 0) (n : ℕ) (old new : LabState)
     → ((x : A) → meaning ≡ Some x → Does x old new → IsWithin n old new) → With meaning Does old new
@@ -152,14 +139,16 @@ within (Moves Until) text old new w =
     with_within _ (λ c. Begins (goal.Until c) 1000000) _ old new
     (λ c e s. goes (plan (goal.Until c) 1000000) (begun old) new s) w
 within (Moves Trace) text old new w =
-    with_within _ (λ n l. InSession (RunsFor goal.Count n) (begun l)) _ old new (λ n e s.
-    let most = count_most 10 1000 n (words text) (omega arith) e in
-    let r = ran goal.Count n old.recording.session new.recording.session s.1 in omega (arith, most, r)) w
+    with_within _ Traces _ old new (λ n e t.
+    let most : n ≤ 1000 = count_most 10 1000 n (words text) (omega arith) e in
+    let k = steps_within (step_ends old.recording.session) n in
+    let now = ap (λ (l : LabState). (timed l).taken) t ∙ taken_after (timed old) (steps_of (step_ends old.recording.session) n) in
+    omega (arith, most, k, now)) w
 within (Moves Back) text old new w =
-    with_within _ (λ n before after. after ≡ record (begun before) {
+    with_within _ (λ n before after. after ≡ with_console (record (begun before) {
       recording = gone_back before.recording ((timed before).taken - n);
       before = (timed before).taken - n;
-    }) _ old new (λ n e s.
+    })) _ old new (λ n e s.
     let is = ap (λ (l : LabState). (timed l).taken) s ∙ taken_after _ ((timed old).taken - n) in omega (arith, is)) w
 within command.List text old new w =
     with_within _ (λ e before after. after ≡ with_listed before e) _ old new

@@ -3,7 +3,7 @@ use Rattle.std.proofs.Common.{◌≡◌, ◌∙◌, ◌-◌, ◌<◌, ◌≤◌,
 use Rattle.std.proofs.lemmas.List.{take_all}
 use Rattle.std.specs.Prelude.{Result, OnOk}
 use Rattle.rv_base.specs.declared.memory.NoMemory.{NoMemory}
-use Rattle.rv_lists.specs.declared.input.Input.{Input}
+use Rattle.rv_timeline.specs.declared.input.Input.{Input}
 use Rattle.rv_lab.specs.State.{LabState}
 use Rattle.rv_lab.specs.Commands.{with_inputs}
 use Rattle.rv_lab.proofs.Runs.{gave_all}

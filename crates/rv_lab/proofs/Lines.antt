@@ -1,16 +1,11 @@
 -- The line of an address, as the listing finds it.
-use Rattle.std.proofs.Common.{◌≡◌, ℕ, zero, suc, ◌+◌, ◌-◌, ◌<◌, ◌≤◌, ◌&&◌, Bool, true, false, cond, find, get_or, length, refl, sym, ap, subst, nat_le, nat_lt, arith}
-use Rattle.std.specs.Prelude.{codes, filter, ◌==◌, ◌++◌, List, [], Option, Some, None, IfSome, IfNone, option_and_then}
-use Rattle.std.specs.Fmt.{decimal}
-use Rattle.std.specs.List.{last_or, range_with_len}
-use Rattle.std.specs.Option.{option_map, option_map_or}
+use Rattle.std.proofs.Common.{◌≡◌, ℕ, zero, suc, ◌+◌, ◌-◌, ◌<◌, ◌≤◌, ◌&&◌, Bool, true, false, cond, find, get_or, length, refl, sym, ap, nat_le, nat_lt, arith}
+use Rattle.std.specs.Prelude.{Option, Some, None, IfSome, IfNone}
+use Rattle.std.specs.List.{range_with_len}
 use Rattle.std.proofs.lemmas.Bool.Decides.{nat_tests}
 use Rattle.std.proofs.lemmas.List.{get_or_past}
 use Rattle.rv_asm.specs.Lines.{Listed, HasByteAt}
-use Rattle.rv_answers.specs.Answer.{Written, Appended}
-use Rattle.rv_answers.specs.Support.Parts.{near_text}
-use Rattle.rv_lab.specs.Lines.{label_text, line_at}
-use Rattle.rv_lab.specs.Support.Rows.{label_at}
+use Rattle.rv_lab.specs.Lines.{line_at}
 
 -- ---- the only number of a range that passes a test
 
@@ -58,21 +53,3 @@ line_is l a (Some n) here never only =
     (λ m h t. only m (has_byte l a m h t)))
 line_is l a None here never only =
     sym (none (has l a) 1 (length l.addresses - 1) (λ m h t. never m (has_byte l a m h t)))
-
--- ---- the label before an address
-
-near_is : (l : Listed) (a : ℕ) (line : Option ℕ) (label : Option (List ℕ × ℕ))
-    → near_text (option_and_then (λ line. option_map (λ label. (label.0, a - label.1)) label) line)
-    ≡ option_map_or (λ label. codes " <" ++ label.0
-    ++ cond (a - label.1 == 0) [] (codes "+" ++ decimal (a - label.1)) ++ codes ">")
-    (option_and_then (λ line. label) line) []
-near_is l a None label = refl
-near_is l a (Some line) None = refl
-near_is l a (Some line) (Some label) = refl
-
-pub near_told : (l : Listed) (a : ℕ) (old new : Written) → Appended old new (near_text (label_at l a))
-    → Appended old new (label_text l a)
-unfolding label_text label_at
-near_told l a old new o =
-    subst (Appended old new)
-    (near_is l a (line_at l a) (last_or None (filter (λ label. nat_le label.1 a) l.labels))) o

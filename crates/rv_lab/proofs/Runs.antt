@@ -1,40 +1,182 @@
 -- Runs and what they leave.
-use Rattle.std.proofs.Common.{◌≡◌, ◌∙◌, ℕ, zero, suc, ◌+◌, ◌-◌, ◌<◌, Bool, true, false, List, [], ◌∷◌, refl, sym, ap, subst, arith}
+use Rattle.std.proofs.Common.{◌≡◌, ◌≢◌, ◌∙◌, ℕ, zero, suc, ◌+◌, ◌-◌, ◌<◌, Bool, true, false, List, [], ◌∷◌, refl, sym, ap, subst, arith}
 use Rattle.std.proofs.lemmas.Bool.{false≢true}
 use Rattle.std.proofs.lemmas.Bool.Decides.{nat_tests}
 use Rattle.std.specs.FinSet as set
-use Rattle.std.specs.Prelude.{◌&&◌, ◌==◌, nat_lt, is_none, is_some, max, min, if◌then◌else◌, IfSome, Option, Some, None, Result, Ok, Err, IfOk, OnOk}
+use Rattle.std.specs.Prelude.{◌&&◌, nat_lt, is_none, is_some, max, min, if◌then◌else◌, unwrap_or, Option, Some, None, Result, Ok, Err, OnOk}
 use Rattle.rv_base.specs.declared.memory.NoMemory.{NoMemory}
-use Rattle.rv_board.specs.Support.State.{BoardState, halted_of, pc_of}
+use Rattle.rv_board.specs.Support.State.{halted_of, pc_of}
 use Rattle.rv_monitor.specs.State.{IsInTime, SessionState, TimedState, after}
-use Rattle.rv_monitor.specs.Support.TimedCalls.{most_of}
-use Rattle.rv_monitor.specs.Stops.{Took, may_step, stop_after}
-use Rattle.rv_monitor.specs.declared.stop.Stop.TheVariants.{Halted, Breakpoint}
+use Rattle.rv_monitor.specs.Stops.{may_step, steps_between}
 use Rattle.rv_monitor.proofs.Sets.{no_member}
 use Rattle.rv_monitor.proofs.Steps.{after_more, after_none, in_time_after}
 use Rattle.rv_recording.specs.Recording.{RecordingState, with_timed}
-use Rattle.rv_recording.specs.Until.{HasRun, comes}
-use Rattle.rv_recording.specs.Out.{open_at}
-use Rattle.rv_recording.specs.declared.until.Condition.{Condition}
+use Rattle.rv_recording.specs.Until.{HasRun, step_ends, steps_of}
 use Rattle.rv_recording.specs.declared.until.End.{End}
-use Rattle.rv_lists.specs.declared.input.Input.{Input}
-use Rattle.rv_lab.specs.State.{LabState, timed}
-use Rattle.rv_lab.specs.Commands.{GoesOn, InSession, RunsFor, Steps, With, begun, with_inputs, with_session}
-use Rattle.rv_lab.specs.Support.Short.{Traced, stepped, stepped_by}
+use Rattle.rv_recording.specs.declared.until.End.TheVariants.{Halted, Reached, Breakpoint, Limit, Stuck}
+use Rattle.rv_recording.proofs.Counting.{all_steps, joins, joins_over, over_at, over_or_all, same_steps}
+use Rattle.rv_timeline.specs.declared.input.Input.{Input}
+use Rattle.rv_lab.specs.State.{LabState, sent, timed}
+use Rattle.rv_lab.specs.Commands.{Steps, Traces, With, begun, follows, goal_after, gone_on, next_of, piece_steps, plan_after, run_ends, with_console, with_inputs, with_piece, with_session, with_steps}
+use Rattle.rv_lab.specs.Support.Short.{Traced, rest_of, stepped, stepped_by}
+use Rattle.rv_lab.specs.declared.command.Command.{Command}
+use Rattle.rv_lab.specs.declared.command.Command.TheVariants.{Step, Over, Moves, Save, Monitor, Quit, Again}
+use Rattle.rv_lab.specs.declared.lab.Next.TheVariants as next
 use Rattle.rv_lab.specs.declared.plan.Plan.{Plan}
 use Rattle.rv_lab.specs.declared.plan.Goal.{Goal}
 use Rattle.rv_lab.specs.declared.plan.Goal.TheVariants as goal
 
-pub ran_until : (condition : Condition) (n : ℕ) (old new : SessionState) (r : Result End NoMemory)
-    → IfOk r (HasRun (comes condition old.timed) n old new) → OnOk r (RunsFor (goal.Until condition) n old new)
-ran_until condition n old new (Ok end) h = (end, h)
-ran_until condition n old new (Err why) h = tt
+-- ---- a call of a run
 
-pub went_out : (g : Goal) (calls n : ℕ) (inside old new : SessionState) (end : End) → g ≡ goal.Out calls
-    → inside ≡ old → HasRun (λ i. open_at calls inside.timed i == 0) n inside new end → RunsFor g n old new
-went_out g calls n inside old new end is same h =
-    subst (λ (k : Goal). RunsFor k n old new) (sym is)
-    (subst (λ (s : SessionState). RunsFor (goal.Out calls) n s new) same (end, h))
+abbrev pub end_is : Option ℕ → Bool → Bool → Bool → Option End
+end_is h r b l = if is_some h then Some Halted
+    else (if r then Some Reached else (if b then Some Breakpoint else (if l then None else Some Stuck)))
+
+rest_by : (p : Plan) (g : Goal) (n : ℕ) (h : Option ℕ) (r b l : Bool)
+    → rest_of p g (unwrap_or (end_is h r b l) Limit) n
+    ≡ (if is_none (end_is h r b l) && nat_lt n p.left then Some (record p { goal = g; left = p.left - n }) else None)
+rest_by p g n (Some code) r b l = refl
+rest_by p g n None true b l = refl
+rest_by p g n None false true l = refl
+rest_by p g n None false false true = refl
+rest_by p g n None false false false = refl
+
+rest_is : (p : Plan) (g : Goal) (s : SessionState) (n : ℕ)
+    → rest_of p (goal_after p.goal s.timed n) (unwrap_or (run_ends g s n) Limit) n
+    ≡ (if is_none (run_ends g s n) && nat_lt n p.left
+    then Some (record p { goal = goal_after p.goal s.timed n; left = p.left - n }) else None)
+rest_is p goal.Count s n = rest_by p (goal_after p.goal s.timed n) n (halted_of (after s.timed n).board) _ _ _
+rest_is p goal.Break s n = rest_by p (goal_after p.goal s.timed n) n (halted_of (after s.timed n).board) _ _ _
+rest_is p (goal.Out calls) s n = rest_by p (goal_after p.goal s.timed n) n (halted_of (after s.timed n).board) _ _ _
+rest_is p (goal.Until condition) s n = rest_by p (goal_after p.goal s.timed n) n (halted_of (after s.timed n).board) _ _ _
+
+plan_is : (p : Plan) (s : SessionState) (n : ℕ)
+    → rest_of p (goal_after p.goal s.timed n) (unwrap_or (run_ends p.goal s n) Limit) n ≡ plan_after p s n
+unfolding plan_after
+plan_is p s n = rest_is p p.goal s n
+
+pub taken_after : (s : TimedState) (n : ℕ) → (after s n).taken ≡ s.taken + n
+unfolding after
+taken_after s n = refl
+
+-- what the steps of a call leave
+module _ (p : Plan) (old : LabState) where
+  abbrev s : SessionState
+  s = old.recording.session
+
+  has_taken : (n : ℕ) (t : SessionState) (end : End) (g : Goal) (done : ℕ)
+      → t ≡ record s { timed = after s.timed n } → end ≡ unwrap_or (run_ends p.goal s n) Limit
+      → g ≡ goal_after p.goal s.timed (steps_between s.timed t.timed) → done ≡ t.timed.taken - s.timed.taken
+      → record (with_session old t) { plan = rest_of p g end done }
+      ≡ record (with_steps n old) { plan = plan_after p s n }
+  has_taken n t end g done state ended goal_is done_is =
+      let now = ap (λ (u : SessionState). u.timed.taken) state in
+      let between : steps_between s.timed t.timed ≡ n = omega (arith, now, taken_after s.timed n) in
+      let all : done ≡ n = done_is ∙ between in
+      ap (λ (u : SessionState). record (with_session old u) { plan = rest_of p g end done }) state
+      ∙ (ap (λ (h : Goal). record (with_steps n old) { plan = rest_of p h end done }) goal_is
+      ∙ (ap (λ (k : ℕ). record (with_steps n old) { plan = rest_of p (goal_after p.goal s.timed k) end done }) between
+      ∙ (ap (λ (k : ℕ). record (with_steps n old) { plan = rest_of p (goal_after p.goal s.timed n) end k }) all
+      ∙ (ap (λ (e : End). record (with_steps n old) { plan = rest_of p (goal_after p.goal s.timed n) e n }) ended
+      ∙ ap (λ (q : Option Plan). record (with_steps n old) { plan = q }) (plan_is p s n)))))
+
+pub took_piece : (p : Plan) (g : Goal) (end : End) (old at_first mid new : LabState) (most done : ℕ)
+    → at_first ≡ record old { plan = None }
+    → HasRun (run_ends p.goal at_first.recording.session) most at_first.recording.session mid.recording.session end
+    → g ≡ goal_after p.goal (timed at_first) (steps_between (timed at_first) (timed mid))
+    → mid ≡ with_session at_first mid.recording.session → most ≡ min p.left (max old.piece 1)
+    → done ≡ (timed mid).taken - (timed old).taken → new ≡ record mid { plan = rest_of p g end done }
+    → new ≡ with_piece p old
+took_piece p g end old at_first mid new most done is run goal_is others most_is done_is e =
+    let same : at_first.recording ≡ old.recording = ap (λ (l : LabState). l.recording) is in
+    let ran : HasRun (run_ends p.goal old.recording.session) most old.recording.session mid.recording.session end =
+    subst (λ (r : RecordingState). HasRun (run_ends p.goal r.session) most r.session mid.recording.session end) same run in
+    let goal_now = goal_is
+    ∙ ap (λ (r : RecordingState). goal_after p.goal r.session.timed (steps_between r.session.timed (timed mid))) same in
+    let from_old : mid ≡ with_session (record old { plan = None }) mid.recording.session =
+    others ∙ ap (λ (l : LabState). with_session l mid.recording.session) is in
+    e ∙ (ap (λ (l : LabState). record l { plan = rest_of p g end done }) from_old
+    ∙ (has_taken p old (steps_of (run_ends p.goal old.recording.session) most) mid.recording.session end g done ran.state
+    ran.ended goal_now done_is
+    ∙ ap (λ (m : ℕ). record (with_steps (steps_of (run_ends p.goal old.recording.session) m) old) {
+      plan = plan_after p old.recording.session (steps_of (run_ends p.goal old.recording.session) m);
+    }) most_is))
+
+-- ---- the console
+
+monitored_as : (p rest : Plan) (s : SessionState) (n : ℕ) → plan_after p s n ≡ Some rest
+    → rest.is_monitored ≡ p.is_monitored
+unfolding plan_after
+monitored_as p rest s n e = as_planned (is_none (run_ends p.goal s n) && nat_lt n p.left) e
+  where
+    as_planned : (b : Bool) → (if b
+        then Some (record p { goal = goal_after p.goal s.timed n; left = p.left - n }) else None) ≡ Some rest
+        → rest.is_monitored ≡ p.is_monitored
+    as_planned true h = cc
+    as_planned false h = absurd cc
+
+kept_told : (m b : Bool) (o : Option Plan) (x : LabState) (t : ℕ) → m ≡ b → is_some o ≡ true → t ≡ x.told
+    → (if b then x else with_console x) ≡ record x { told = if m && is_some o then t else sent x }
+kept_told m b None x t e s h = absurd (false≢true s)
+kept_told true true (Some r) x t e s h = ap (λ n. record x { told = n }) (sym h)
+kept_told false false (Some r) x t e s h = refl
+kept_told true false (Some r) x t e s h = absurd (false≢true (sym e))
+kept_told false true (Some r) x t e s h = absurd (false≢true e)
+
+all_told : (m : Bool) (o : Option Plan) (x : LabState) (t : ℕ) → is_some o ≡ false
+    → with_console x ≡ record x { told = if m && is_some o then t else sent x }
+all_told m (Some r) x t s = absurd (false≢true (sym s))
+all_told true None x t s = refl
+all_told false None x t s = refl
+
+pub told_piece : (p rest : Plan) (kept : Option Plan) (old mid new : LabState) → mid ≡ with_piece p old
+    → kept ≡ mid.plan → kept ≡ Some rest → new ≡ (if rest.is_monitored then mid else with_console mid)
+    → new ≡ gone_on p old
+told_piece p rest kept old mid new is now e told =
+    let plan_now : (with_piece p old).plan ≡ Some rest = sym (ap (λ (l : LabState). l.plan) is) ∙ (sym now ∙ e) in
+    let same : rest.is_monitored ≡ p.is_monitored =
+    monitored_as p rest old.recording.session (piece_steps p old) plan_now in
+    told ∙ (ap (λ (l : LabState). if rest.is_monitored then l else with_console l) is
+    ∙ kept_told p.is_monitored rest.is_monitored (with_piece p old).plan (with_piece p old) old.told (sym same)
+    (ap is_some plan_now) refl)
+
+pub told_end : (p : Plan) (kept : Option Plan) (old mid new : LabState) → mid ≡ with_piece p old
+    → kept ≡ mid.plan → kept ≡ None → new ≡ with_console mid → new ≡ gone_on p old
+told_end p kept old mid new is now e told =
+    let none : (with_piece p old).plan ≡ None = sym (ap (λ (l : LabState). l.plan) is) ∙ (sym now ∙ e) in
+    told ∙ (ap with_console is ∙ all_told p.is_monitored (with_piece p old).plan (with_piece p old) old.told (ap is_some none))
+
+-- ---- what follows
+
+pub more_next : (l : LabState) → l.plan ≡ None → next.More ≡ next_of l
+more_next l e = rw e refl
+
+plan_told : (b : Bool) (mid : LabState) → (if b then mid else with_console mid).plan ≡ mid.plan
+plan_told true mid = refl
+plan_told false mid = refl
+
+pub running_next : (kept : Option Plan) (rest : Plan) (mid new : LabState) → kept ≡ mid.plan → kept ≡ Some rest
+    → new ≡ (if rest.is_monitored then mid else with_console mid) → next.Running ≡ next_of new
+running_next kept rest mid new now e told =
+    let is : new.plan ≡ Some rest =
+    ap (λ (l : LabState). l.plan) told ∙ (plan_told rest.is_monitored mid ∙ (sym now ∙ e)) in
+    rw is refl
+
+pub ended_next : (kept : Option Plan) (mid new : LabState) → kept ≡ mid.plan → kept ≡ None
+    → new ≡ with_console mid → next.More ≡ next_of new
+ended_next kept mid new now e told =
+    more_next new (ap (λ (l : LabState). l.plan) told ∙ (sym now ∙ e))
+
+pub more_follows : (c : Command) (text : List ℕ) (s : SessionState) (new : LabState) → c ≢ Quit → c ≢ Save
+    → c ≢ Monitor → new.plan ≡ None → next.More ≡ follows c text s new
+more_follows Quit text s new a b d e = absurd (a refl)
+more_follows Save text s new a b d e = absurd (b refl)
+more_follows Monitor text s new a b d e = absurd (d refl)
+more_follows Step text s new a b d e = rw e refl
+more_follows Over text s new a b d e = rw e refl
+more_follows (Moves m) text s new a b d e = rw e refl
+more_follows Again text s new a b d e = rw e refl
+more_follows _ text s new a b d e = refl
 
 -- ---- a trace
 
@@ -74,165 +216,151 @@ pub traced_all : {A : Type 0} (r : Result A NoMemory) (n : ℕ) (old mid new : L
 traced_all (Ok a) n old mid new h e t = traced_more n old mid new h e t
 traced_all (Err why) n old mid new h e t = tt
 
--- ---- single steps, as a call for several takes them
+-- ---- single steps, as a run takes them
 
--- where there are no breakpoints, a call ends on a board after any number of steps, or after none
-halted_by : (h : Option ℕ) (b c : Bool) → b ≡ false
-    → (if is_some h then Some Halted else (if c && b then Some Breakpoint else None))
-    ≡ (if is_some h then Some Halted else None)
-halted_by (Some code) b c e = refl
-halted_by None b true e = rw e refl
-halted_by None b false e = refl
+step_end_is : (b : Bool) (h : Option ℕ) (z l : Bool) → b ≡ false
+    → is_none (end_is h (z && false) (z && b) l) ≡ (is_none h && l)
+step_end_is b (Some code) z l e = refl
+step_end_is b None true true e = rw e refl
+step_end_is b None true false e = rw e refl
+step_end_is b None false true e = refl
+step_end_is b None false false e = refl
 
-stop_is : (b : BoardState) (n : ℕ)
-    → stop_after set.empty b n ≡ (if is_some (halted_of b) then Some Halted else None)
-unfolding stop_after
-stop_is b n = halted_by (halted_of b) (set.contains set.empty (pc_of b)) (nat_lt 0 n) (sym (no_member (pc_of b)))
+-- steps past any breakpoint are over where none may be taken
+pub goes_while : (s : SessionState) (n : ℕ) → is_none (step_ends s n) ≡ may_step (record s { timed = after s.timed n })
+goes_while s n =
+    let b = (after s.timed n).board in
+    step_end_is (set.contains set.empty (pc_of b)) (halted_of b) (nat_lt 0 n) (nat_lt (after s.timed n).taken s.limit)
+    (sym (no_member (pc_of b)))
 
-same_stop : (b : BoardState) (m n : ℕ) → stop_after set.empty b m ≡ stop_after set.empty b n
-same_stop b m n = stop_is b m ∙ sym (stop_is b n)
+is_over : {A : Type 0} (o : Option A) (b : Bool) → is_none o ≡ b → is_some o ≡ (if b then false else true)
+is_over None true h = refl
+is_over (Some x) true h = absurd (false≢true h)
+is_over None false h = absurd (false≢true (sym h))
+is_over (Some x) false h = refl
 
--- a session that may take a step has not halted, and has steps left
-running : (h : Option ℕ) (b : Bool) → (is_none h && b) ≡ true
-    → (if is_some h then Some Halted else None) ≡ None
-running None b e = refl
-running (Some code) b e = absurd (false≢true e)
+over_at_first : (s : SessionState) (b : Bool) → IsInTime s.timed → may_step s ≡ b
+    → is_some (step_ends s 0) ≡ (if b then false else true)
+over_at_first s b h e =
+    is_over (step_ends s 0) b
+    (goes_while s 0 ∙ (ap (λ (t : TimedState). may_step (record s { timed = t })) (after_none s.timed h) ∙ e))
 
-left_by : (h : Option ℕ) (m n : ℕ) → (is_none h && nat_lt m n) ≡ true → m < n
-left_by None m n e = grind (arith, nat_tests)
-left_by (Some code) m n e = absurd (false≢true e)
+-- the steps of a run of steps, one by one
+none_takes : (s : SessionState) (n : ℕ) → IsInTime s.timed → may_step s ≡ false → steps_of (step_ends s) n ≡ 0
+none_takes s n h e =
+    over_at (step_ends s) 0 n (omega arith) (λ i l. absurd (omega (arith, l))) (over_at_first s false h e)
 
--- one that may take none has halted, or has no steps left
-over_by : (h : Option ℕ) (m n : ℕ) → (is_none h && nat_lt m n) ≡ false → m < n
-    → is_some (if is_some h then Some Halted else None) ≡ true
-over_by (Some code) m n e l = refl
-over_by None m n e l =
-    let less : nat_lt m n ≡ true = grind (arith, nat_tests) in absurd (false≢true (sym e ∙ less))
+first_goes : (s : SessionState) → IsInTime s.timed → may_step s ≡ true → steps_of (step_ends s) 1 ≡ 1
+first_goes s h e =
+    all_steps (step_ends s) 1 (λ i l.
+    let same : i ≡ 0 = omega (arith, l) in ap (step_ends s) same ∙ none_of (step_ends s 0) (over_at_first s true h e))
+  where
+    none_of : (o : Option End) → is_some o ≡ false → o ≡ None
+    none_of None is = refl
+    none_of (Some end) is = absurd (false≢true (sym is))
 
-none_took : (n : ℕ) (s : SessionState) → IsInTime s.timed
-    → (0 < most_of s n → is_some (stop_after set.empty s.timed.board 0) ≡ true) → Took set.empty n s s
-none_took n s h least = record {
-  count = 0;
-  within = omega arith;
-  going = λ i l. absurd (omega (arith, l));
-  least = least;
-  state = ap (λ (t : TimedState). record s { timed = t }) (sym (after_none s.timed h));
-}
+-- whether the steps after the first are over
+later_ends : (s : SessionState) (i : ℕ) → IsInTime s.timed
+    → is_some (step_ends s (1 + i)) ≡ is_some (step_ends (record s { timed = after s.timed 1 }) i)
+later_ends s i h =
+    is_over (step_ends s (1 + i)) _ (goes_while s (1 + i)) ∙
+    sym (is_over (step_ends (record s { timed = after s.timed 1 }) i) _
+    (goes_while (record s { timed = after s.timed 1 }) i
+    ∙ ap (λ (t : TimedState). may_step (record s { timed = t })) (after_more s.timed 1 i h.rising)))
 
-module _ (k : ℕ) (s : SessionState) (h : IsInTime s.timed) (may : may_step s ≡ true) where
-  abbrev next : SessionState
-  next = record s { timed = after s.timed 1 }
+over_first : (s : SessionState) (k : ℕ) → IsInTime s.timed → may_step s ≡ true → (b : Bool)
+    → is_some (step_ends s 1) ≡ b
+    → steps_of (step_ends s) (1 + k) ≡ 1 + steps_of (step_ends (record s { timed = after s.timed 1 })) k
+over_first s k h e true is =
+    let one : steps_of (step_ends s) 1 ≡ 1 = first_goes s h e in
+    let over : is_some (step_ends s (steps_of (step_ends s) 1)) ≡ true = rw one is in
+    let none : steps_of (step_ends (record s { timed = after s.timed 1 })) k ≡ 0 =
+    over_at (step_ends (record s { timed = after s.timed 1 })) 0 k (omega arith) (λ i l. absurd (omega (arith, l)))
+    (sym (later_ends s 0 h) ∙ is) in
+    let all : steps_of (step_ends s) (1 + k) ≡ 1 = joins_over (step_ends s) 1 k over ∙ one in
+    omega (arith, all, none)
+over_first s k h e false is =
+    let one : steps_of (step_ends s) 1 ≡ 1 = first_goes s h e in
+    let goes : is_some (step_ends s (steps_of (step_ends s) 1)) ≡ false = rw one is in
+    let all : steps_of (step_ends s) (1 + k) ≡ 1 + steps_of (λ i. step_ends s (1 + i)) k =
+    subst (λ (n : ℕ). steps_of (step_ends s) (1 + k) ≡ n + steps_of (λ i. step_ends s (n + i)) k) one
+    (joins (step_ends s) 1 k goes) in
+    all ∙ ap (λ n. 1 + n) (same_steps (λ i. step_ends s (1 + i)) (step_ends (record s { timed = after s.timed 1 }))
+    (λ i. later_ends s i h) k)
 
-  taken_is : next.timed.taken ≡ s.timed.taken + 1
-  unfolding after
-  taken_is = refl
+one_more_step : (b : Bool) (k : ℕ) (r : RecordingState) → IsInTime r.session.timed → may_step r.session ≡ b
+    → ((q : RecordingState) → IsInTime q.session.timed
+    → stepped_by k q ≡ with_timed q (after q.session.timed (steps_of (step_ends q.session) k)))
+    → stepped_by (suc k) r ≡ with_timed r (after r.session.timed (steps_of (step_ends r.session) (1 + k)))
+one_more_step true k r h e earlier =
+    let first : stepped r ≡ with_timed r (after r.session.timed 1) = rw e refl in
+    ap (λ (q : RecordingState). stepped_by k q) first
+    ∙ (earlier (with_timed r (after r.session.timed 1)) (in_time_after r.session.timed 1 h)
+    ∙ (ap (with_timed r) (after_more r.session.timed 1 _ h.rising)
+    ∙ ap (λ (n : ℕ). with_timed r (after r.session.timed n))
+    (sym (over_first r.session k h e (is_some (step_ends r.session 1)) refl))))
+one_more_step false k r h e earlier =
+    still (suc k) r e
+    ∙ (ap (with_timed r) (sym (after_none r.session.timed h))
+    ∙ ap (λ (n : ℕ). with_timed r (after r.session.timed n)) (sym (none_takes r.session (1 + k) h e)))
 
-  less : s.timed.taken < s.limit
-  less = left_by (halted_of s.timed.board) s.timed.taken s.limit may
+pub steps_ran : (n : ℕ) (r : RecordingState) → IsInTime r.session.timed
+    → stepped_by n r ≡ with_timed r (after r.session.timed (steps_of (step_ends r.session) n))
+unfolding steps_of
+steps_ran zero r h = ap (with_timed r) (sym (after_none r.session.timed h))
+steps_ran (suc k) r h =
+    let all : 1 + k ≡ suc k = omega arith in
+    one_more_step (may_step r.session) k r h refl (λ q g. steps_ran k q g)
+    ∙ ap (λ (n : ℕ). with_timed r (after r.session.timed (steps_of (step_ends r.session) n))) all
 
-  joined : (j : ℕ) → after (after s.timed 1) j ≡ after s.timed (1 + j)
-  joined j = after_more s.timed 1 j h.rising
+-- steps one by one are a run
+pub traced_runs : (n : ℕ) (old new : LabState) → IsInTime (timed old) → Traced n (begun old) new
+    → Traces n old (with_console new)
+traced_runs n old new h e =
+    ap with_console (e ∙ ap (λ (r : RecordingState). record (begun old) { recording = r }) (steps_ran n old.recording h))
 
-  none_yet : (i : ℕ) → i ≡ 0 → stop_after set.empty (after s.timed i).board i ≡ None
-  none_yet i e =
-      ap (λ (n : ℕ). stop_after set.empty (after s.timed n).board n) e
-      ∙ (ap (λ (t : TimedState). stop_after set.empty t.board 0) (after_none s.timed h)
-      ∙ (stop_is s.timed.board 0 ∙ running (halted_of s.timed.board) _ may))
+-- ---- a plan
 
-  none_later : (i j : ℕ) → i ≡ 1 + j → stop_after set.empty (after next.timed j).board j ≡ None
-      → stop_after set.empty (after s.timed i).board i ≡ None
-  none_later i j e stop =
-      ap (λ (n : ℕ). stop_after set.empty (after s.timed n).board n) e
-      ∙ (ap (λ (t : TimedState). stop_after set.empty t.board (1 + j)) (sym (joined j))
-      ∙ (same_stop (after next.timed j).board (1 + j) j ∙ stop))
+spent_by : (q : Plan) (o : Option End) (b : Bool) → (b ≡ true → is_some o ≡ true)
+    → (if is_none o && b then Some q else None) ≡ None
+spent_by q (Some end) b h = refl
+spent_by q None false h = refl
+spent_by q None true h = absurd (false≢true (h refl))
 
-  module _ (new : SessionState) (t : Took set.empty k next new) where
-    none_at : (i : ℕ) → i < 1 + t.count → stop_after set.empty (after s.timed i).board i ≡ None
-    none_at zero l = none_yet zero refl
-    none_at (suc j) l = none_later (suc j) j (omega arith) (t.going j (omega (arith, l)))
-
-    one_took : Took set.empty (suc k) s new
-    one_took = record {
-      count = 1 + t.count;
-      within = omega (arith, t.within, taken_is, less);
-      going = none_at;
-      least = λ l. ap is_some (same_stop new.timed.board (1 + t.count) t.count)
-          ∙ t.least (omega (arith, l, taken_is, less));
-      state = t.state ∙ ap (λ (u : TimedState). record s { timed = u }) (joined t.count);
-    }
-
-stepped_on : (b : Bool) (r : RecordingState) → may_step r.session ≡ b
-    → stepped r ≡ (if b then with_timed r (after r.session.timed 1) else r)
-stepped_on b r e = rw e refl
-
-more_took : (k : ℕ) (r : RecordingState) → IsInTime r.session.timed
-    → ((q : RecordingState) → IsInTime q.session.timed → Took set.empty k q.session (stepped_by k q).session)
-    → (b : Bool) → may_step r.session ≡ b → Took set.empty (suc k) r.session (stepped_by (suc k) r).session
-more_took k r h earlier true may =
-    subst (λ (q : RecordingState). Took set.empty (suc k) r.session (stepped_by k q).session)
-    (sym (stepped_on true r may))
-    (one_took k r.session h may _
-    (earlier (with_timed r (after r.session.timed 1)) (in_time_after r.session.timed 1 h)))
-more_took k r h earlier false may =
-    subst (λ (q : RecordingState). Took set.empty (suc k) r.session q.session) (sym (still (suc k) r may))
-    (none_took (suc k) r.session h (λ l.
-    ap is_some (stop_is r.session.timed.board 0)
-    ∙ over_by (halted_of r.session.timed.board) r.session.timed.taken r.session.limit may (omega (arith, l))))
-
-steps_took : (n : ℕ) (r : RecordingState) → IsInTime r.session.timed
-    → Took set.empty n r.session (stepped_by n r).session
-steps_took zero r h = none_took zero r.session h (λ l. absurd (omega (arith, l)))
-steps_took (suc k) r h = more_took k r h (λ q g. steps_took k q g) (may_step r.session) refl
-
-one_place : (b : Bool) (r : RecordingState) (s : SessionState)
-    → record (if b then with_timed r (after r.session.timed 1) else r) { session = s } ≡ record r { session = s }
-one_place true r s = refl
-one_place false r s = refl
-
-steps_place : (n : ℕ) (r : RecordingState) → stepped_by n r ≡ record r { session = (stepped_by n r).session }
-steps_place zero r = refl
-steps_place (suc k) r =
-    steps_place k (stepped r) ∙ one_place (may_step r.session) r (stepped_by k (stepped r)).session
-
--- steps one by one are a call of a run
-pub traced_runs : (n : ℕ) (old new : LabState) → IsInTime (timed old) → Traced n old new
-    → InSession (RunsFor goal.Count n) old new
-traced_runs n old new h e = (
-  e ∙ (ap (λ (r : RecordingState). record old { recording = r }) (steps_place n old.recording)
-      ∙ sym (ap (λ (l : LabState). with_session old l.recording.session) e)),
-  subst (λ (l : LabState). Took set.empty n old.recording.session l.recording.session) (sym e)
-      (steps_took n old.recording h),
-)
-
-if_none : {A : Type 0} (o : Option A) (P : A → Type 0) → o ≡ None → IfSome o P
-if_none None P e = tt
-if_none (Some x) P e = absurd cc
-
--- a call with which a run is over
-pub goes_over : (p : Plan) (n : ℕ) (old new : LabState) → n ≡ min p.left (max old.piece 1) → new.plan ≡ None
-    → InSession (RunsFor p.goal n) (record old { plan = None }) new → GoesOn p old new
-goes_over p n old new most none h = (
-  subst (λ (q : Option Plan). InSession (RunsFor p.goal (min p.left (max old.piece 1))) (record old { plan = q }) new)
-      (sym none)
-      (subst (λ (m : ℕ). InSession (RunsFor p.goal m) (record old { plan = None }) new) most h),
-  if_none new.plan _ none,
-)
+-- no plan is left once as many steps were taken as the run takes
+pub spent : (p : Plan) (s : SessionState) → plan_after p s (steps_of (run_ends p.goal s) p.left) ≡ None
+unfolding plan_after
+spent p s =
+    let n = steps_of (run_ends p.goal s) p.left in
+    spent_by _ (run_ends p.goal s n) (nat_lt n p.left) (λ less. over_or_all (run_ends p.goal s) p.left (below n p.left less))
+  where
+    below : (m n : ℕ) → nat_lt m n ≡ true → m < n
+    below m n less = grind (arith, nat_tests)
 
 -- a single step is a run
-single : (old new : LabState) → IsInTime (timed old)
-    → new ≡ record (begun (record old { count = 1; plan = None })) { recording = stepped old.recording }
+pub single : (old new : LabState) → IsInTime (timed old)
+    → new ≡ with_console (record (begun (record old { count = 1; plan = None })) { recording = stepped old.recording })
     → Steps 1 old new
 single old new h e =
-    goes_over (record { goal = goal.Count; left = 1; is_monitored = false }) 1 (begun (record old { count = 1 })) new (omega arith)
-    (ap (λ (l : LabState). l.plan) e) (traced_runs 1 (begun (record old { count = 1; plan = None })) new h e)
+    let base = begun (record old { count = 1 }) in
+    let s = old.recording.session in
+    let p : Plan = record { goal = goal.Count; left = 1; is_monitored = false } in
+    let one : stepped old.recording ≡ with_timed old.recording (after s.timed (steps_of (step_ends s) 1)) =
+    steps_ran 1 old.recording h in
+    let most : 1 ≡ min 1 (max old.piece 1) = omega arith in
+    e ∙ (ap (λ (r : RecordingState). with_console (record base { recording = r; plan = None })) one
+    ∙ (ap (λ (q : Option Plan). with_console (record (with_steps (steps_of (step_ends s) 1) base) { plan = q })) (sym (spent p s))
+    ∙ ap (λ (m : ℕ). with_console (record (with_steps (steps_of (step_ends s) m) base) {
+      plan = plan_after p s (steps_of (step_ends s) m);
+    })) most))
 
 pub single_step : (n : ℕ) (old mid new : LabState) → n ≡ 1 → IsInTime (timed old)
     → mid ≡ record old { count = n; plan = None }
-    → new ≡ record (begun mid) { recording = stepped mid.recording } → Steps n old new
+    → new ≡ with_console (record (begun mid) { recording = stepped mid.recording }) → Steps n old new
 single_step n old mid new one h is e =
     subst (λ (m : ℕ). Steps m old new) (sym one)
     (single old new h
-    (e ∙ ap (λ (l : LabState). record (begun l) { recording = stepped l.recording })
+    (e ∙ ap (λ (l : LabState). with_console (record (begun l) { recording = stepped l.recording }))
     (is ∙ ap (λ (m : ℕ). record old { count = m; plan = None }) one)))
 
 -- what was read is done
@@ -241,12 +369,12 @@ pub read_as : {A : Type 0} (meaning : Option A) (x : A) (Does : A → LabState �
 read_as {A = A} meaning x Does old new e h = subst (λ (o : Option A). With o Does old new) (sym e) h
 
 pub trace_runs : (meaning : Option ℕ) (n : ℕ) (old mid new told : LabState) → meaning ≡ Some n
-    → IsInTime (timed old) → mid ≡ begun old → Traced n mid new → told ≡ new
-    → With meaning (λ m l. InSession (RunsFor goal.Count m) (begun l)) old told
+    → IsInTime (timed old) → mid ≡ begun old → Traced n mid new → told ≡ with_console new
+    → With meaning Traces old told
 trace_runs meaning n old mid new told e h is t same =
-    subst (With meaning (λ m l. InSession (RunsFor goal.Count m) (begun l)) old) (sym same)
-    (read_as meaning n (λ m l. InSession (RunsFor goal.Count m) (begun l)) old new e
-    (traced_runs n (begun old) new h (subst (λ (l : LabState). Traced n l new) is t)))
+    subst (With meaning Traces old) (sym same)
+    (read_as meaning n Traces old (with_console new) e
+    (traced_runs n old new h (subst (λ (l : LabState). Traced n l new) is t)))
 
 -- ---- inputs
 

@@ -1,28 +1,21 @@
 -- Calls that stopped short, for memory, of what they do.
 use Rattle.std.proofs.Common.{◌≡◌, ◌≢◌, ◌∙◌, ℕ, zero, suc, ◌+◌, ◌-◌, ◌<◌, ◌≤◌, true, List, [], ◌∷◌, length, take, drop, get_or, refl, sym, ap, subst, arith, inr}
 use Rattle.std.proofs.lemmas.List.{take_all}
-use Rattle.std.specs.Prelude.{◌==◌, min, fold, Bool, false, if◌then◌else◌, Option, Some, None, Result, Ok, Err, OnErr, OnOk, MatchOption, max, unwrap_or}
-use Rattle.std.specs.FinSet as set
+use Rattle.std.specs.Prelude.{min, fold, Bool, false, if◌then◌else◌, Option, Some, None, Result, Ok, Err, OnErr, OnOk, MatchOption, max, unwrap_or}
 use Rattle.rv_base.specs.declared.memory.NoMemory.{NoMemory}
-use Rattle.rv_lists.specs.Timed.{never_falls}
-use Rattle.rv_lists.specs.declared.input.Input.{Input}
+use Rattle.rv_timeline.specs.Timed.{never_falls}
+use Rattle.rv_timeline.specs.declared.input.Input.{Input}
 use Rattle.rv_monitor.specs.Commands as monitor
 use Rattle.rv_monitor.specs.Commands.{command_in}
-use Rattle.rv_monitor.specs.State.{Addresses, IsInTime, SessionState, TimedState, after, given, with_due}
-use Rattle.rv_monitor.specs.Stops.{TakesStep, WasRefused, may_step, steps_between}
-use Rattle.rv_monitor.specs.Stops as stops
+use Rattle.rv_monitor.specs.State.{IsInTime, SessionState, TimedState, after, given, with_due}
+use Rattle.rv_monitor.specs.Stops.{TakesStep, may_step, steps_between}
 use Rattle.rv_monitor.proofs.Steps.{after_due, after_more, after_rises}
 use Rattle.rv_recording.specs.Recording.{RecordingState, with_timed}
-use Rattle.rv_recording.specs.Until.{HasRun, comes}
 use Rattle.rv_recording.specs.Support.Refused.{IsRefusedIn}
-use Rattle.rv_recording.specs.Out.{open_at}
-use Rattle.rv_recording.specs.declared.until.Condition.{Condition}
-use Rattle.rv_recording.specs.declared.until.End.{End}
-use Rattle.rv_recording.proofs.Ahead.{runs_from, takes_from}
 use Rattle.rv_lab.specs.Commands as lab
-use Rattle.rv_lab.specs.Commands.{Begins, InSession, Repeats, RunsFor, Starts, Steps, With, begun, monitored_run, ready, with_inputs, with_session}
+use Rattle.rv_lab.specs.Commands.{Begins, InSession, Repeats, Starts, Steps, Traces, With, begun, monitored_run, ready, run_ends, with_console, with_inputs, with_session}
 use Rattle.rv_lab.specs.Refusals.{Leads, RunsOut, StopsShort, by_hand, due, nowhere, steps}
-use Rattle.rv_lab.specs.Support.Short.{Changes, Gives, IsOnWay, IsShort, RunsShort, Traced, stepped, stepped_by}
+use Rattle.rv_lab.specs.Support.Short.{Changes, Gives, IsOnWay, Traced, stepped, stepped_by}
 use Rattle.rv_lab.specs.State.{LabState, timed}
 use Rattle.rv_lab.specs.Words.{line_command}
 use Rattle.rv_operands.specs.Operands.{bytes_inputs, operand_text}
@@ -30,9 +23,8 @@ use Rattle.rv_lab.specs.declared.command.Command.{Command}
 use Rattle.rv_lab.specs.declared.command.Command.TheVariants.{Again, Monitor, Moves, Over, Receive, Step}
 use Rattle.rv_lab.specs.declared.command.Move.{Move}
 use Rattle.rv_lab.specs.declared.plan.Plan.{Plan}
-use Rattle.rv_lab.specs.declared.plan.Goal.{Goal}
 use Rattle.rv_lab.specs.declared.plan.Goal.TheVariants as goal
-use Rattle.rv_lab.proofs.Runs.{one_and_more, single_step, traced_more, traced_runs}
+use Rattle.rv_lab.proofs.Runs.{one_and_more, single, traced_more, traced_runs}
 
 -- what holds in any case holds where memory ran out
 pub on_err : {A : Type 0} (r : Result A NoMemory) (P : Type 0) → P → OnErr r P
@@ -69,105 +61,45 @@ from_due s k m l rising =
 
 -- ---- runs
 
--- steps of a session stopped short
-abbrev TookShort : Addresses → ℕ → SessionState → SessionState → Type 0
-TookShort a n s new = IsShort (stops.Took a n) s new
+module _ (p : Plan) (old new : LabState) (rising : never_falls (timed old).inputs ≡ true) where
+  abbrev count : ℕ
+  count = steps_between (timed old) (timed new)
 
-module _ (a : Addresses) (n : ℕ) (s new : SessionState) (rising : never_falls s.timed.inputs ≡ true) where
-  some_taken : WasRefused a n s new → TookShort a n s new
-  some_taken w =
-      let is = ap (λ (u : SessionState). u.timed) w.state in
-      let t = takes_from a n s (w.count + 1) (omega (arith, w.within)) (λ i l. w.going i (omega (arith, l))) in (
-        record s { timed = after s.timed t.0 },
-        t.2,
-        subst (Leads s.timed) (sym is) (to_due s.timed w.count),
-        subst (λ (u : TimedState). Leads u (after s.timed t.0)) (sym is)
-            (from_due s.timed w.count t.0 (omega (arith, t.1)) rising),
-        w.state ∙ ap (λ (u : TimedState). record s { timed = u }) (sym is),
-      )
+  module _ (r : IsRefusedIn (run_ends p.goal old.recording.session) (min p.left (max old.piece 1))
+      old.recording.session new.recording.session)
+      (others : new ≡ with_session (record old { plan = None }) new.recording.session) where
+    timed_due : timed new ≡ with_due (after (timed old) count)
+    timed_due = ap (λ (s : SessionState). s.timed) r.state
 
-module _ (n : ℕ) (old new : SessionState) (rising : never_falls old.timed.inputs ≡ true) where
-  step_short : WasRefused set.empty n old new → RunsShort goal.Count n old new
-  step_short w = some_taken set.empty n old new rising w
+    session_is : new.recording.session ≡ record old.recording.session { timed = timed new }
+    session_is = r.state ∙ ap (λ (t : TimedState). record old.recording.session { timed = t }) (sym timed_due)
 
-  go_short : WasRefused old.breakpoints.addresses n old new → RunsShort goal.Break n old new
-  go_short w = some_taken old.breakpoints.addresses n old new rising w
+    told_is : old.told ≡ new.told
+    told_is = sym (ap (λ (l : LabState). l.told) others)
 
-  module _ (reached : ℕ → Bool) (w : IsRefusedIn reached n old new) where
-    abbrev count : ℕ
-    count = steps_between old.timed new.timed
-
-    timed_due : new.timed ≡ with_due (after old.timed count)
-    timed_due = ap (λ (s : SessionState). s.timed) w.state
-
-    run : (m : ℕ) × (count < m) × (end : End) × HasRun reached n old (record old { timed = after old.timed m }) end
-    run = runs_from reached n old count w.within w.going
-
-    run_short : (d : SessionState) × ((end : End) × HasRun reached n old d end) × Leads old.timed new.timed
-        × Leads new.timed d.timed × (new ≡ record old { timed = new.timed })
-    run_short = (
-      record old { timed = after old.timed run.0 },
-      (run.2, run.3),
-      subst (Leads old.timed) (sym timed_due) (to_due old.timed count),
-      subst (λ (s : TimedState). Leads s (after old.timed run.0)) (sym timed_due)
-          (from_due old.timed count run.0 run.1 rising),
-      w.state ∙ ap (λ (t : TimedState). record old { timed = t }) (sym timed_due),
+    piece_short : StopsShort (lab.GoesOn p) old new
+    piece_short = (
+      lab.gone_on p old,
+      refl,
+      subst (Leads (timed old)) (sym timed_due) (to_due (timed old) count),
+      subst (λ (t : TimedState). Leads t (after (timed old) (lab.piece_steps p old))) (sym timed_due)
+          (from_due (timed old) count (lab.piece_steps p old) r.within rising),
+      others ∙ (ap (λ (u : SessionState). with_session (record old { plan = None }) u) session_is
+          ∙ ap (λ (n : ℕ). record old { recording = with_timed old.recording (timed new); plan = None; told = n }) told_is),
     )
 
-  until_short : (condition : Condition) → IsRefusedIn (comes condition old.timed) n old new
-      → RunsShort (goal.Until condition) n old new
-  until_short condition w = run_short (comes condition old.timed) w
-
-  out_short : (calls : ℕ) → IsRefusedIn (λ i. open_at calls old.timed i == 0) n old new
-      → RunsShort (goal.Out calls) n old new
-  out_short calls w = run_short (λ i. open_at calls old.timed i == 0) w
-
--- ---- a call of a run
-
-module _ (g : Goal) (n : ℕ) (inside old new : SessionState) (same : inside ≡ old)
-    (rising : never_falls inside.timed.inputs ≡ true) where
-  moved : (h : Goal) → g ≡ h → RunsShort h n inside new → RunsShort g n old new
-  moved h is s =
-      subst (λ (r : SessionState). RunsShort g n r new) same
-      (subst (λ (k : Goal). RunsShort k n inside new) (sym is) s)
-
-  pub counted : g ≡ goal.Count → WasRefused set.empty n inside new → RunsShort g n old new
-  counted is w = moved goal.Count is (step_short n inside new rising w)
-
-  pub broken : g ≡ goal.Break → WasRefused inside.breakpoints.addresses n inside new → RunsShort g n old new
-  broken is w = moved goal.Break is (go_short n inside new rising w)
-
-  pub gone_out : (calls : ℕ) → g ≡ goal.Out calls → IsRefusedIn (λ i. open_at calls inside.timed i == 0) n inside new
-      → RunsShort g n old new
-  gone_out calls is w = moved (goal.Out calls) is (out_short n inside new rising calls w)
-
-  pub waited : (condition : Condition) (r : Result End NoMemory) → g ≡ goal.Until condition
-      → OnErr r (IsRefusedIn (comes condition inside.timed) n inside new) → OnErr r (RunsShort g n old new)
-  waited condition (Ok end) is w = tt
-  waited condition (Err why) is w =
-      moved (goal.Until condition) is (until_short n inside new rising condition w)
-
-piece_short : (p : Plan) (old new : LabState)
-    → RunsShort p.goal (min p.left (max old.piece 1)) old.recording.session new.recording.session
-    → new ≡ with_session (record old { plan = None }) new.recording.session → StopsShort (lab.GoesOn p) old new
-piece_short p old new s others = (
-  with_session (record old { plan = None }) s.0,
-  ((refl, s.1), tt),
-  s.2,
-  s.3,
-  others ∙ ap (λ (u : SessionState). with_session (record old { plan = None }) u) s.4,
-)
-
-pub piece_err : {A : Type 0} (r : Result A NoMemory) (p : Plan) (n : ℕ) (old mid new : LabState)
-    → n ≡ min p.left (max old.piece 1) → mid ≡ record old { plan = None }
-    → RunsShort p.goal n mid.recording.session new.recording.session
-    → new ≡ with_session mid new.recording.session → OnErr r (StopsShort (lab.GoesOn p) old new)
-piece_err r p n old mid new most is s others =
-    let runs : RunsShort p.goal (min p.left (max old.piece 1)) old.recording.session new.recording.session =
-    subst (λ (m : ℕ). RunsShort p.goal m old.recording.session new.recording.session) most
-    (subst (λ (l : LabState). RunsShort p.goal n l.recording.session new.recording.session) is s) in
+pub piece_err : {A : Type 0} (r : Result A NoMemory) (p : Plan) (most : ℕ) (old at_first new : LabState)
+    → never_falls (timed old).inputs ≡ true → most ≡ min p.left (max old.piece 1)
+    → at_first ≡ record old { plan = None }
+    → IsRefusedIn (run_ends p.goal at_first.recording.session) most at_first.recording.session new.recording.session
+    → new ≡ with_session at_first new.recording.session → OnErr r (StopsShort (lab.GoesOn p) old new)
+piece_err r p most old at_first new rising most_is is refused others =
+    let same : at_first.recording ≡ old.recording = ap (λ (l : LabState). l.recording) is in
     on_err r (StopsShort (lab.GoesOn p) old new)
-    (piece_short p old new runs (others ∙ ap (λ (l : LabState). with_session l new.recording.session) is))
+    (piece_short p old new rising
+    (subst (λ (n : ℕ). IsRefusedIn (run_ends p.goal old.recording.session) n old.recording.session new.recording.session) most_is
+    (subst (λ (q : RecordingState). IsRefusedIn (run_ends p.goal q.session) most q.session new.recording.session) same refused))
+    (others ∙ ap (λ (l : LabState). with_session l new.recording.session) is))
 
 pub starts_short : {A : Type 0} (r : Result A NoMemory) (p : Plan) (old mid new : LabState) → mid ≡ begun old
     → OnErr r (StopsShort (lab.GoesOn p) mid new) → OnErr r (StopsShort (Starts p) old new)
@@ -326,13 +258,15 @@ once : (old new : LabState) → IsInTime (timed old)
     → new ≡ record (begun (record old { count = 1; plan = None })) { recording = new.recording }
     → StopsShort (Steps 1) old new
 once old new h way others =
-    let base = begun (record old { count = 1; plan = None }) in (
-      record base { recording = stepped old.recording },
-      single_step 1 old (record old { count = 1; plan = None }) (record base { recording = stepped old.recording })
-          refl h refl refl,
+    let base = begun (record old { count = 1; plan = None }) in
+    let done = with_console (record base { recording = stepped old.recording }) in (
+      done,
+      single old done h refl,
       way.0,
       way.1,
-      others ∙ ap (λ (r : RecordingState). record base { recording = r }) way.2,
+      others ∙ (ap (λ (r : RecordingState). record base { recording = r }) way.2
+          ∙ ap (λ (n : ℕ). record base { recording = with_timed old.recording (timed new); told = n })
+          (sym (ap (λ (l : LabState). l.told) others))),
     )
 
 pub one_short : {A : Type 0} (r : Result A NoMemory) (n : ℕ) (old mid new : LabState) → n ≡ 1
@@ -376,10 +310,10 @@ same_others : (b : Bool) (r : RecordingState) (t : TimedState)
 same_others true r t = refl
 same_others false r t = refl
 
-pub traced_short : (n : ℕ) (old new : LabState) → 0 < n
+pub traced_short : (n : ℕ) (old new : LabState) → 0 < n → old.plan ≡ None
     → IsOnWay old.recording new.recording (stepped old.recording)
     → new ≡ record old { recording = new.recording } → StopsShort (Traced n) old new
-traced_short n old new h way others = (
+traced_short n old new h none way others = (
   record old { recording = stepped_by n old.recording },
   refl,
   way.0,
@@ -387,7 +321,10 @@ traced_short n old new h way others = (
       (joined (timed new) (stepped old.recording).session.timed
       (stepped_by (n - 1) (stepped old.recording)).session.timed way.1
       (leads_steps (n - 1) (stepped old.recording))),
-  others ∙ ap (λ (r : RecordingState). record old { recording = r }) way.2,
+  others ∙ (ap (λ (r : RecordingState). record old { recording = r }) way.2
+      ∙ (ap (λ (q : Option Plan). record old { recording = with_timed old.recording (timed new); plan = q }) none
+      ∙ ap (λ (k : ℕ). record old { recording = with_timed old.recording (timed new); plan = None; told = k })
+      (sym (ap (λ (l : LabState). l.told) others)))),
 )
 
 further_short : (n : ℕ) (old mid new : LabState) → 0 < n
@@ -399,7 +336,7 @@ further_short n old mid new h e s = (
   joined (timed old) (timed mid) (timed new)
       (subst (λ (l : LabState). Leads (timed old) (timed l)) (sym e) (leads_step old.recording)) s.2,
   s.3,
-  s.4 ∙ ap (λ (r : RecordingState). record s.0 { recording = r })
+  s.4 ∙ ap (λ (r : RecordingState). record s.0 { recording = r; plan = None; told = new.told })
       (ap (λ (l : LabState). with_timed l.recording (timed new)) e
       ∙ same_others (may_step old.recording.session) old.recording (timed new)),
 )
@@ -410,17 +347,17 @@ pub traced_further : {A : Type 0} (r : Result A NoMemory) (n : ℕ) (old mid new
 traced_further (Ok a) n old mid new h e s = tt
 traced_further (Err why) n old mid new h e s = further_short n old mid new h e s
 
--- a trace is a call of a run
-run_of_steps : (n : ℕ) (old new : LabState) → IsInTime (timed old) → StopsShort (Traced n) old new
-    → StopsShort (InSession (RunsFor goal.Count n)) old new
-run_of_steps n old new h s = (s.0, traced_runs n old s.0 h s.1, s.2, s.3, s.4)
+-- a trace is a run
+run_of_steps : (n : ℕ) (old new : LabState) → IsInTime (timed old) → StopsShort (Traced n) (begun old) new
+    → StopsShort (Traces n) old new
+run_of_steps n old new h s = (with_console s.0, traced_runs n old s.0 h s.1, s.2, s.3, s.4)
 
 pub trace_short : (meaning : Option ℕ) (n : ℕ) (old mid new : LabState) → meaning ≡ Some n
     → IsInTime (timed old) → mid ≡ begun old → StopsShort (Traced n) mid new
-    → RunsOut (With meaning (λ m l. InSession (RunsFor goal.Count m) (begun l))) old new
+    → RunsOut (With meaning Traces) old new
 trace_short meaning n old mid new e h is s =
-    reads_short meaning n (λ m l. InSession (RunsFor goal.Count m) (begun l)) old new e
-    (run_of_steps n (begun old) new h (subst (λ (l : LabState). StopsShort (Traced n) l new) is s))
+    reads_short meaning n Traces old new e
+    (run_of_steps n old new h (subst (λ (l : LabState). StopsShort (Traced n) l new) is s))
 
 -- ---- inputs by hand
 
@@ -429,10 +366,16 @@ leads_inputs [] s = nowhere
 leads_inputs (x ∷ xs) s =
     joined s (given s x) (fold given (given s x) xs) (by_hand s x nowhere) (leads_inputs xs (given s x))
 
-pub gave_nothing : (old new : LabState) (inputs : List Input) → new ≡ old → StopsShort (Gives inputs) old new
-gave_nothing old new inputs e =
-    subst (StopsShort (Gives inputs) old) (sym e)
-    (with_inputs old inputs, refl, nowhere, leads_inputs inputs (timed old), refl)
+pub gave_nothing : (old new : LabState) (inputs : List Input) → old.plan ≡ None → new ≡ old
+    → StopsShort (Gives inputs) old new
+gave_nothing old new inputs none e =
+    subst (StopsShort (Gives inputs) old) (sym e) (
+      with_inputs old inputs,
+      refl,
+      nowhere,
+      leads_inputs inputs (timed old),
+      ap (λ (q : Option Plan). record old { plan = q }) none,
+    )
 
 gave_one : (old new : LabState) (input : Input) (more : List Input)
     → StopsShort (Gives more) (with_inputs old (input ∷ [])) new → StopsShort (Gives (input ∷ more)) old new

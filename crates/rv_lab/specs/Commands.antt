@@ -1,31 +1,32 @@
 -- To audit: public contracts cite this.
 -- What each command leaves of a lab (this project's own: docs/LAB.md).
-use Rattle.std.specs.Prelude.{◌≡◌, ℕ, ◌+◌, ◌-◌, ◌<◌, ◌≤◌, ◌==◌, true, false, max, min, List, [], fold, Option, Some, None, IfSome, MatchOption, unwrap_or}
-use Rattle.std.specs.FinSet as set
+use Rattle.std.specs.Prelude.{◌≡◌, ℕ, ◌+◌, ◌-◌, ◌≤◌, ◌&&◌, true, false, if◌then◌else◌, is_none, is_some, max, min, nat_lt, List, [], fold, Option, Some, None, MatchOption, unwrap_or}
 use Rattle.rv_base.specs.Words.{words}
-use Rattle.rv_lists.specs.Timed.{driven}
-use Rattle.rv_lists.specs.declared.input.Input.{Input}
+use Rattle.rv_timeline.specs.Timed.{driven}
+use Rattle.rv_timeline.specs.declared.input.Input.{Input}
 use Rattle.rv_monitor.specs.Commands.{command_in}
 use Rattle.rv_monitor.specs.Commands as monitor
 use Rattle.rv_commands.specs.declared.command.Command as commands
 use Rattle.rv_commands.specs.declared.command.Command.TheVariants as monitored
-use Rattle.rv_monitor.specs.State.{SessionState, TimedState, given, with_break, without_break}
-use Rattle.rv_monitor.specs.Stops.{Took, steps_between}
+use Rattle.rv_monitor.specs.State.{SessionState, TimedState, after, given, with_break, without_break}
 use Rattle.rv_recording.specs.Recording.{gone_back, last_step, with_timed}
-use Rattle.rv_recording.specs.Until.{HasRun, comes}
-use Rattle.rv_recording.specs.Out.{open_at}
+use Rattle.rv_recording.specs.Until.{break_ends, step_ends, steps_of, until_ends}
+use Rattle.rv_recording.specs.Out.{open_at, out_ends}
 use Rattle.rv_recording.specs.declared.until.End.{End}
 use Rattle.rv_operands.specs.Operands.{break_address, bytes_inputs, condition, operand_text}
-use Rattle.rv_lab.specs.State.{LabState, board, listing, registers_of, timed}
+use Rattle.rv_lab.specs.State.{LabState, board, listing, registers_of, sent, timed}
+use Rattle.rv_lab.specs.declared.lab.Next.{Next}
+use Rattle.rv_lab.specs.declared.lab.Next.TheVariants as next
 use Rattle.rv_lab.specs.declared.plan.Plan.{Plan}
 use Rattle.rv_lab.specs.declared.plan.Goal.{Goal}
 use Rattle.rv_lab.specs.declared.plan.Goal.TheVariants as goal
 use Rattle.rv_lab.specs.declared.command.Command.{Command}
-use Rattle.rv_lab.specs.declared.command.Command.TheVariants.{Step, Over, Moves, Break, Clear, Receive, Line, Monitor, Again, StepOnce}
+use Rattle.rv_lab.specs.declared.command.Command.TheVariants.{Step, Over, Moves, Break, Clear, Receive, Line, Save, Monitor, Quit, Again, StepOnce}
 use Rattle.rv_lab.specs.declared.command.Command.TheVariants as command
 use Rattle.rv_lab.specs.declared.command.Move.TheVariants.{Go, Finish, Until, Trace, Back}
 use Rattle.rv_lab.specs.Lines.{excerpt, next_excerpt, with_listed}
-use Rattle.rv_lab.specs.Words.{count_of, line_command, repeated}
+use Rattle.rv_lab.specs.Saved.{name_in}
+use Rattle.rv_lab.specs.Words.{count_of, line_command, most_steps, most_traced, repeated, usual_steps}
 
 -- ---- changes of a session
 
@@ -40,32 +41,61 @@ InSession Does old new =
 
 -- ---- runs
 
--- a call of a run, of at most n steps
-abbrev pub RunsFor : Goal → ℕ → SessionState → SessionState → Type 0
-RunsFor goal.Count n old new = Took set.empty n old new
-RunsFor goal.Break n old new = Took old.breakpoints.addresses n old new
-RunsFor (goal.Out calls) n old new = (end : End) × HasRun (λ i. open_at calls old.timed i == 0) n old new end
-RunsFor (goal.Until condition) n old new = (end : End) × HasRun (comes condition old.timed) n old new end
+-- why a run from a session on is over after some of its steps, if it is, by what it goes on for
+abbrev pub run_ends : Goal → SessionState → ℕ → Option End
+run_ends goal.Count s = step_ends s
+run_ends goal.Break s = break_ends s
+run_ends (goal.Out calls) s = out_ends calls s
+run_ends (goal.Until condition) s = until_ends condition s
 
 -- what the run goes on for after n steps
 abbrev pub goal_after : Goal → TimedState → ℕ → Goal
 goal_after (goal.Out calls) s n = goal.Out (open_at calls s n)
 goal_after other s n = other
 
--- a call of the run that isn't over; if it isn't over then, it was for more than one step, and its plan has
--- those that are left
+-- the plan of a run after n steps: there is one exactly while the run isn't over and steps are left
+unfoldable pub plan_after : Plan → SessionState → ℕ → Option Plan
+plan_after p s n =
+    if is_none (run_ends p.goal s n) && nat_lt n p.left
+    then Some (record p { goal = goal_after p.goal s.timed n; left = p.left - n }) else None
+
+-- the lab with n steps taken
+abbrev pub with_steps : ℕ → LabState → LabState
+with_steps n l = record l { recording = with_timed l.recording (after (timed l) n) }
+
+-- the lab whose console was told
+abbrev pub with_console : LabState → LabState
+with_console l = record l { told = sent l }
+
+-- the steps of a call of a run, which takes at most a piece
+abbrev pub piece_steps : Plan → LabState → ℕ
+piece_steps p l = steps_of (run_ends p.goal l.recording.session) (min p.left (max l.piece 1))
+
+-- the lab after that call, before its console is told
+abbrev pub with_piece : Plan → LabState → LabState
+with_piece p l =
+    record (with_steps (piece_steps p l) l) { plan = plan_after p l.recording.session (piece_steps p l) }
+
+-- the lab after it: the console was told, but for a run of the monitor, of which it is told at the end
+abbrev pub gone_on : Plan → LabState → LabState
+gone_on p l =
+    let done = with_piece p l in
+    record done { told = if p.is_monitored && is_some done.plan then l.told else sent done }
+
 abbrev pub GoesOn : Plan → LabState → LabState → Type 0
-GoesOn p old new =
-    let n = steps_between (timed old) (timed new) in
-    InSession (RunsFor p.goal (min p.left (max old.piece 1))) (record old { plan = new.plan }) new
-    × IfSome new.plan (λ q. (1 < p.left) × (q.left ≡ p.left - n) × (q.goal ≡ goal_after p.goal (timed old) n)
-    × (q.is_monitored ≡ p.is_monitored))
+GoesOn p old new = new ≡ gone_on p old
+
+-- a run in calls of any sizes, from a lab on to one where it is over
+pub data InPieces (end : LabState) : LabState → Type 0 where
+  ended : end.plan ≡ None → InPieces end end
+  cut : (l : LabState) (p : Plan) (n : ℕ) → l.plan ≡ Some p → InPieces end (gone_on p (record l { piece = n }))
+      → InPieces end l
 
 -- ---- commands that move the board
 
 -- a lab as a command that moves the board begins: the next is compared with it
 abbrev pub begun : LabState → LabState
-begun l = record l { registers = registers_of (board l); before = (timed l).taken }
+begun l = record l { registers = registers_of (board l); before = (timed l).taken; told = sent l }
 
 -- a run that begins, with its first call
 abbrev pub Starts : Plan → LabState → LabState → Type 0
@@ -77,6 +107,10 @@ Begins goal most old new = Starts (record { goal = goal; left = most; is_monitor
 -- `s`
 abbrev pub Steps : ℕ → LabState → LabState → Type 0
 Steps n old new = Begins goal.Count n (record old { count = n }) new
+
+-- `trace`: steps past any breakpoint
+abbrev pub Traces : ℕ → LabState → LabState → Type 0
+Traces n old new = new ≡ with_console (with_steps (steps_of (step_ends old.recording.session) n) (begun old))
 
 -- ---- a command
 
@@ -113,24 +147,24 @@ Breaks changed text old new = With (break_address (listing old) (board old) (wor
 abbrev pub Repeats : Command → LabState → LabState → Type 0
 Repeats Step old new = Steps old.count old new
 Repeats StepOnce old new = Steps 1 old new
-Repeats Over old new = Begins (goal.Out 0) 1000000 old new
+Repeats Over old new = Begins (goal.Out 0) usual_steps old new
 Repeats command.List old new = new ≡ with_listed old (next_excerpt old)
 Repeats _ old new = new ≡ old
 
 -- the lab that a command leaves, by the text of its operands; those without a row only look
 abbrev pub Leaves : Command → List ℕ → LabState → LabState → Type 0
-Leaves Step text old new = With (count_of 1 1000000000 (words text)) Steps old new
-Leaves (Moves Go) text old new = With (count_of 1000000 1000000000 (words text)) (Begins goal.Break) old new
-Leaves Over text old new = Begins (goal.Out 0) 1000000 old new
-Leaves (Moves Finish) text old new = Begins (goal.Out 1) 1000000 old new
+Leaves Step text old new = With (count_of 1 most_steps (words text)) Steps old new
+Leaves (Moves Go) text old new = With (count_of usual_steps most_steps (words text)) (Begins goal.Break) old new
+Leaves Over text old new = Begins (goal.Out 0) usual_steps old new
+Leaves (Moves Finish) text old new = Begins (goal.Out 1) usual_steps old new
 Leaves (Moves Until) text old new =
-    With (condition (listing old) (board old) (words text)) (λ c. Begins (goal.Until c) 1000000) old new
+    With (condition (listing old) (board old) (words text)) (λ c. Begins (goal.Until c) usual_steps) old new
 Leaves (Moves Trace) text old new =
-    With (count_of 10 1000 (words text)) (λ n l. InSession (RunsFor goal.Count n) (begun l)) old new
+    With (count_of 10 most_traced (words text)) Traces old new
 Leaves (Moves Back) text old new =
     With (count_of ((timed old).taken - old.before) last_step (words text)) (λ n before after.
     let to = (timed before).taken - n in
-    after ≡ record (begun before) { recording = gone_back before.recording to; before = to }) old new
+    after ≡ with_console (record (begun before) { recording = gone_back before.recording to; before = to })) old new
 Leaves command.List text old new =
     With (excerpt old (words text)) (λ e before after. after ≡ with_listed before e) old new
 Leaves Again text old new = Repeats old.again old new
@@ -149,11 +183,37 @@ ready command l = record l { plan = None; again = repeated command l.again }
 abbrev pub Obeys : List ℕ → LabState → LabState → Type 0
 Obeys line old new = Leaves (line_command line) (operand_text line) (ready (line_command line) old) new
 
+-- ---- what follows
+
+-- the run that isn't over, or another command
+abbrev pub next_of : LabState → Next
+next_of l = if is_some l.plan then next.Running else next.More
+
+-- what follows a command of the monitor
+abbrev pub monitor_next : Option commands.Command → LabState → Next
+monitor_next (Some monitored.Quit) new = next.Quit
+monitor_next c new = next_of new
+
+-- what follows a command, by the text of its operands, the session before it, and the lab that it left
+abbrev pub follows : Command → List ℕ → SessionState → LabState → Next
+follows Step text s new = next_of new
+follows Over text s new = next_of new
+follows (Moves m) text s new = next_of new
+follows Again text s new = next_of new
+follows Monitor text s new = monitor_next (command_in text s) new
+follows Save text s new = if is_some (name_in text) then next.Save else next.More
+follows Quit text s new = next.Quit
+follows _ text s new = next.More
+
+-- what follows a line
+abbrev pub next_after : List ℕ → SessionState → LabState → Next
+next_after line s new = follows (line_command line) (operand_text line) s new
+
 -- ---- the steps of a call
 
 -- the most steps of a call for a command, of a lab with pieces of so many: a piece, or for `trace` its 1,000
 abbrev pub call_limit : Command → ℕ → ℕ
-call_limit (Moves Trace) piece = 1000
+call_limit (Moves Trace) piece = most_traced
 call_limit command piece = max piece 1
 
 -- a call took n steps at most

@@ -1,17 +1,12 @@
 -- To audit: public contracts cite this.
--- The lines of a lab's source by their addresses, and the texts that `i` and `l` answer (this project's own:
--- docs/LAB.md).
-use Rattle.std.specs.Prelude.{ℕ, ◌+◌, ◌-◌, ◌/◌, ◌==◌, ◌&&◌, false, List, [], ◌∷◌, ◌++◌, codes, filter, find, get_or, if◌then◌else◌, length, max, min, nat_le, nat_lt, Option, Some, None, option_and_then, unwrap_or}
+-- The lines of a lab's source by their addresses, and which of them `l` lists (this project's own: docs/LAB.md).
+use Rattle.std.specs.Prelude.{ℕ, ◌+◌, ◌-◌, ◌/◌, ◌==◌, ◌&&◌, false, List, [], ◌∷◌, find, get_or, if◌then◌else◌, length, max, min, nat_le, nat_lt, Option, Some, None, option_and_then, unwrap_or}
 use Rattle.std.specs.FinSet as set
-use Rattle.std.specs.Fmt.{decimal}
-use Rattle.std.specs.List.{flat_map, last_or, range_with_len}
+use Rattle.std.specs.List.{range_with_len}
 use Rattle.std.specs.Option.{option_map, option_map_or, option_or}
-use Rattle.rv_base.specs.Digits.{hex}
-use Rattle.rv_base.specs.Lines.{lines}
 use Rattle.rv_asm.specs.Lines.{Listed, address_of, bytes_of}
 use Rattle.rv_monitor.specs.Views.{word_at}
 use Rattle.rv_operands.specs.Operands.{address, line_number}
-use Rattle.rv_answers.specs.Places.{instruction_text, row_text}
 use Rattle.rv_answers.specs.declared.rows.Row.{Row}
 use Rattle.rv_lab.specs.declared.source.Excerpt.{Excerpt}
 use Rattle.rv_lab.specs.State.{LabState, board, listing}
@@ -25,25 +20,6 @@ line_at l a =
     find (λ n. nat_le (get_or l.addresses (n - 1) 0) a && nat_lt a (get_or l.addresses n 0))
     (range_with_len 1 (length l.addresses - 1))
 
--- the last label at an address of the image or before it, with the distance from it: ` <loop+8>`
-unfoldable pub label_text : Listed → ℕ → List ℕ
-label_text l a =
-    option_map_or (λ label. codes " <" ++ label.0
-    ++ (if a - label.1 == 0 then [] else codes "+" ++ decimal (a - label.1)) ++ codes ">")
-    (option_and_then (λ line. last_or None (filter (λ label. nat_le label.1 a) l.labels)) (line_at l a)) []
-
--- ---- `i`
-
--- an address with its label, and the instruction there
-unfoldable pub instruction_at : LabState → ℕ → List ℕ
-instruction_at l a =
-    hex 8 a ++ label_text (listing l) a ++ codes "  " ++ instruction_text (word_at (board l) a) ++ codes "\n"
-
--- of pc, or of the address of a word
-unfoldable pub instruction_told : LabState → List (List ℕ) → Option (List ℕ)
-instruction_told l [] = Some (instruction_at l (board l).machine.pc)
-instruction_told l (word ∷ more) = option_map (instruction_at l) (address (listing l) (board l) word)
-
 -- ---- `l`
 
 -- the address of line n, if it has bytes
@@ -54,6 +30,7 @@ bytes_at l n = if length (bytes_of l n) == 0 then None else address_of l n
 -- address if it has bytes, its first word if it has four bytes, and whether it has more
 unfoldable pub row_of : LabState → ℕ → Row
 row_of l n = record {
+  number = n;
   is_here = option_map_or (λ here. here == n) (line_at (listing l) (board l).machine.pc) false;
   is_marked = option_map_or (set.contains l.recording.session.breakpoints.addresses) (bytes_at (listing l) n) false;
   address = bytes_at (listing l) n;
@@ -62,19 +39,9 @@ row_of l n = record {
   has_more = nat_lt 4 (length (bytes_of (listing l) n));
 }
 
--- its row, with its text
-unfoldable pub line_row : LabState → ℕ → List ℕ
-line_row l n = row_text (row_of l n) n (get_or (lines l.source) (n - 1) [])
-
 -- the number of lines
 abbrev pub line_count : Listed → ℕ
 line_count l = length l.addresses - 1
-
--- the rows of an excerpt, of those lines that the source has, or a text where it would begin behind the last
-abbrev pub rows_or : List ℕ → LabState → Excerpt → List ℕ
-rows_or text l e =
-    if nat_lt (line_count (listing l)) e.first then text
-    else flat_map (line_row l) (range_with_len e.first (min e.count (length (lines l.source) + 1 - e.first)))
 
 -- ---- which lines are listed
 

@@ -1,7 +1,7 @@
 -- To audit: public contracts cite this.
 -- The lab where memory ran out in a call (this project's own: docs/LAB.md).
-use Rattle.std.specs.Prelude.{◌≡◌, ◌⊎◌, ℕ}
-use Rattle.rv_lists.specs.declared.input.Input.{Input}
+use Rattle.std.specs.Prelude.{◌≡◌, ◌⊎◌, ℕ, None}
+use Rattle.rv_timeline.specs.declared.input.Input.{Input}
 use Rattle.rv_monitor.specs.State.{TimedState, after, with_due, given}
 use Rattle.rv_recording.specs.Recording.{with_timed}
 use Rattle.rv_lab.specs.State.{LabState, timed}
@@ -13,11 +13,12 @@ pub data Leads (old : TimedState) : TimedState → Type 0 where
   due : (s : TimedState) → Leads old s → Leads old (with_due s)
   by_hand : (s : TimedState) (input : Input) → Leads old s → Leads old (given s input)
 
--- a call stopped short: it took some of the steps, and gave some of the inputs, that lead to what it does
+-- a call stopped short: it took some of the steps, and gave some of the inputs, that lead to what it does, and
+-- its run is over
 abbrev pub StopsShort : (LabState → LabState → Type 0) → LabState → LabState → Type 0
 StopsShort Does old new =
     (done : LabState) × Does old done × Leads (timed old) (timed new) × Leads (timed new) (timed done)
-    × (new ≡ record done { recording = with_timed old.recording (timed new) })
+    × (new ≡ record done { recording = with_timed old.recording (timed new); plan = None; told = new.told })
 
 -- memory ran out in a call: it did nothing, or all that it does but for the end of its answer, or it stopped
 -- short

@@ -1,6 +1,6 @@
 -- To audit: public contracts cite this.
 -- The state of a lab.
-use Rattle.std.specs.Prelude.{ℕ, List, Option, map, slice_index}
+use Rattle.std.specs.Prelude.{ℕ, List, Option, length, map, slice_index}
 use Rattle.rv_program.specs.Program.{Assembly}
 use Rattle.std.specs.List.{range_with_len}
 use Rattle.rv_board.specs.BoardState.{BoardState}
@@ -15,14 +15,16 @@ abbrev pub registers_of : BoardState → List ℕ
 registers_of b = map (slice_index b.machine.registers) (range_with_len 0 32)
 
 -- a source with the places of its lines and the recording of its program; the registers and the number of steps
--- before the last command that moved the board; what an empty line repeats, the steps of the last `s`, and the
--- last line of the last `l`; the run that isn't over; and the most steps of a call
+-- before the last command that moved the board, and the bytes of the console that were told; what an empty line
+-- repeats, the steps of the last `s`, and the last line of the last `l`; the run that isn't over; and the most
+-- steps of a call
 pub record LabState : Type 0 where
   pub source : List ℕ
   pub places : Located
   pub recording : RecordingState
   pub registers : List ℕ
   pub before : ℕ
+  pub told : ℕ
   pub again : Command
   pub count : ℕ
   pub listed : ℕ
@@ -44,3 +46,7 @@ timed l = l.recording.session.timed
 
 abbrev pub board : LabState → BoardState
 board l = (timed l).board
+
+-- the bytes that the console has got
+abbrev pub sent : LabState → ℕ
+sent l = length (board l).machine.bus.serial.sent

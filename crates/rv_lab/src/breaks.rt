@@ -1,16 +1,14 @@
 //! Breakpoints.
-ghost use Rattle.std.specs.Prelude.{◌≡◌, ◌++◌, ◌^◌, codes, OnOk, OnErr};
+ghost use Rattle.std.specs.Prelude.{◌≡◌, IfOk, OnOk, OnErr};
+ghost use Rattle.rv_lab.specs.declared.lab.Next.TheVariants as after;
 ghost use Rattle.rv_base.specs.Words.{words};
 ghost use Rattle.rv_lab.specs.declared.command.Command.TheVariants as command;
 ghost use Rattle.rv_operands.specs.Operands.{break_address};
 ghost use Rattle.rv_lab.specs.Commands.{Leaves};
-ghost use Rattle.rv_answers.specs.Answer.{Appended};
 ghost use Rattle.rv_lab.specs.State.{board, listing, setup};
-ghost use Rattle.rv_lab.specs.Looks.{break_rows, breaks_told, place};
-ghost use Rattle.rv_lab.specs.Support.Rows.{Tells};
 
 use crate::lab::{Lab, Next};
-use rv_answers::Answer;
+use rv_answers::Printer;
 use rv_base::{NoMemory, has_word};
 use rv_operands::{line_number, only_word};
 
@@ -23,7 +21,7 @@ impl Lab {
     }
 
     /// Says why some operands are no address of a breakpoint.
-    fn refuse_place(&self, command: &str, operands: &[u8], answer: &mut Answer) {
+    fn refuse_place(&self, command: &str, operands: &[u8], answer: &mut Printer) {
         let Some(word) = only_word(operands) else {
             answer.say(command);
             return answer.say(": one line, address or name is wanted\n");
@@ -36,23 +34,20 @@ impl Lab {
         answer.fill(form, &[count, count]);
     }
 
-    /// Executes `b`.
-    #[tactic(auto, using(crate::proofs::Told::not_alone, crate::proofs::Told::is_alone, crate::proofs::Told::has_place))]
+    /// Executes `b`. Alone it changes nothing.
     pub(crate) fn break_command(
         &mut self,
         operands: &[u8],
-        answer: &mut Answer,
+        answer: &mut Printer,
     ) -> Result<Next, NoMemory>
         ensures setup { setup self.new ≡ setup self.old }
+        ensures next { IfOk result (λ next. next ≡ after.More) }
         ensures leaves { OnOk result (Leaves command.Break operands.now self.old self.new) }
-        ensures tells { Tells command.Break operands.now self.old answer.old answer.new }
         ensures err { OnErr result (self.new ≡ self.old) }
     {
         let Some(address) = self.break_address(operands) else {
             if has_word(operands) {
                 self.refuse_place("b", operands, answer);
-            } else {
-                self.list_breaks(answer);
             }
             return Ok(Next::More);
         };
@@ -67,7 +62,7 @@ impl Lab {
     }
 
     /// Executes `d`.
-    pub(crate) fn clear_command(&mut self, operands: &[u8], answer: &mut Answer)
+    pub(crate) fn clear_command(&mut self, operands: &[u8], answer: &mut Printer)
         ensures setup { setup self.new ≡ setup self.old }
         ensures leaves { Leaves command.Clear operands.now self.old self.new }
     {
@@ -82,44 +77,5 @@ impl Lab {
         });
         self.append_short_place(address, answer);
         answer.end();
-    }
-
-    /// Appends the row of a breakpoint.
-    #[tactic(auto, using(rv_answers::proofs::Pieces::then))]
-    fn append_break(&self, address: u32, answer: &mut Answer)
-        ensures { Appended answer.old answer.new (place self.now address ++ codes "\n") }
-    {
-        self.append_place(address, answer);
-        answer.end();
-    }
-
-    /// Appends the rows of the breakpoints.
-    #[tactic(auto, using(crate::proofs::BreakRows::no_rows_yet))]
-    fn append_breaks(&self, answer: &mut Answer)
-        ensures { Appended answer.old answer.new (break_rows self.now (2 ^ 32)) }
-    {
-        let mut from = 0;
-        loop {
-            let Some(address) = self.recording.next_break(from) else {
-                return;
-            };
-            self.append_break(address, answer);
-            if address == u32::MAX {
-                return;
-            }
-            from = address + 1;
-        }
-    }
-
-    /// Appends the breakpoints, or that there are none.
-    #[tactic(auto, using(crate::proofs::Told::no_breaks, crate::proofs::Told::some_breaks))]
-    fn list_breaks(&self, answer: &mut Answer)
-        ensures { Appended answer.old answer.new (breaks_told self.now) }
-    {
-        let before = answer.bytes().len();
-        self.append_breaks(answer);
-        if answer.bytes().len() == before {
-            answer.say("no breakpoints; `help b` shows how to set one\n");
-        }
     }
 }

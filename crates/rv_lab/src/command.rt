@@ -5,11 +5,11 @@ ghost use Rattle.std.specs.Option.{option_map};
 ghost use Rattle.std.specs.Str.{bytes_eq};
 ghost use Rattle.rv_base.specs.Words.{words};
 ghost use Rattle.rv_operands.specs.Operands.{operand_text};
-ghost use Rattle.rv_lab.specs.Support.Rows.{IsQuiet, named, named_in, word_command};
+ghost use Rattle.rv_lab.specs.Support.Rows.{named, named_in, word_command};
 ghost use Rattle.rv_lab.specs.Words.{commands, repeated, line_command};
 
 use crate::nearest::Nearest;
-use rv_answers::Answer;
+use rv_answers::Printer;
 use rv_base::{LINE_LIMIT, begins_comment, first_word};
 use rv_operands::operands_of;
 use std::alloc::Global;
@@ -367,7 +367,7 @@ fn offer_words(text: &'static [u8], nearest: &mut Nearest<'_>) {
 }
 
 /// Says that a word is no command, and which is the nearest.
-fn refuse_word(word: &[u8], nearest: &mut Nearest<'_>, answer: &mut Answer) {
+fn refuse_word(word: &[u8], nearest: &mut Nearest<'_>, answer: &mut Printer) {
     answer.say("`");
     answer.put(word);
     answer.say("` is no command");
@@ -387,11 +387,10 @@ fn refuse_word(word: &[u8], nearest: &mut Nearest<'_>, answer: &mut Answer) {
 pub(crate) fn read_command<'a>(
     line: &'a [u8],
     alloc: Global,
-    answer: &mut Answer,
+    answer: &mut Printer,
 ) -> CommandLine<'a>
     ensures command { result.command ≡ line_command line.now }
     ensures operands { result.operands.now ≡ operand_text line.now }
-    ensures quiet { IsQuiet result.command answer.old answer.new }
 {
     let command = said(line, alloc, answer);
     let operands = operands_of(line);
@@ -400,9 +399,8 @@ pub(crate) fn read_command<'a>(
 
 /// Returns the command of a line.
 #[tactic(auto, using(crate::proofs::Tables::comment_is_nothing), unfolding(crate::specs::Words::line_command, crate::specs::Support::Rows::word_command))]
-fn said(line: &[u8], alloc: Global, answer: &mut Answer) -> Command
+fn said(line: &[u8], alloc: Global, answer: &mut Printer) -> Command
     ensures said { result ≡ line_command line.now }
-    ensures quiet { IsQuiet result answer.old answer.new }
 {
     if line.len() > LINE_LIMIT {
         answer.say("a line has at most 1024 bytes\n");
@@ -418,10 +416,9 @@ fn said(line: &[u8], alloc: Global, answer: &mut Answer) -> Command
 }
 
 /// Returns the command of a word, or `Nothing` where it is no command, which is answered.
-#[tactic(auto, unfolding(crate::specs::Support::Rows::word_command), using(crate::proofs::Told::quiet_still))]
-fn command_of(word: &[u8], alloc: Global, answer: &mut Answer) -> Command
+#[tactic(auto, unfolding(crate::specs::Support::Rows::word_command))]
+fn command_of(word: &[u8], alloc: Global, answer: &mut Printer) -> Command
     ensures command { result ≡ word_command word.now }
-    ensures quiet { IsQuiet result answer.old answer.new }
 {
     match row_of(word) {
         Some(row) => row.command,

@@ -1,28 +1,61 @@
 //! The state of the devices.
-ghost use Rattle.std.specs.Prelude.{◌≡◌, IfSome, unwrap_or};
+ghost use Rattle.std.specs.Prelude.{◌≡◌, ◌<◌, ◌&&◌, unwrap_or};
 ghost use Rattle.rv_base.specs.Words.{words};
+ghost use Rattle.rv_isa.specs.Number.{flag};
+ghost use Rattle.rv_csr.specs.Traps.{pending};
+ghost use Rattle.rv_bus.specs.Access.{lines_of};
 ghost use Rattle.rv_board.specs.BoardState.{csr_of};
-ghost use Rattle.rv_answers.specs.Answer.{Appended};
-ghost use Rattle.rv_lab.specs.Devices.{devices_told, edges_told};
-ghost use Rattle.rv_lab.specs.Support.Rows.{edge_source, pending_text};
+ghost use Rattle.rv_lab.specs.Support.Rows.{edge_source, first_pending};
 
 use crate::control::{MIE, MIP, MSTATUS, csr_word};
-use crate::lab::Lab;
 use crate::operands::count_or;
-use rv_answers::{
-    Answer, Interrupts, append_controller, append_interrupts, append_protection, append_serial,
-    append_timer,
-};
+use rv_answers::{Interrupts, has_bit};
 use rv_board::BootedBoard;
 use rv_plic::Source;
 
+/// Returns whether an interrupt is pending: its bit is 1 in mip and in mie.
+fn is_pending(board: &BootedBoard, place: u32) -> bool
+    requires { place < 32 }
+    ensures { result ≡ (flag (unwrap_or (csr_of board.now 0x344) 0) place && flag (unwrap_or (csr_of board.now 0x304) 0) place) }
+{
+    has_bit(csr_word(board, MIP), place) && has_bit(csr_word(board, MIE), place)
+}
+
+/// Returns the cause of the interrupt that is taken next, if one is, by the words of mstatus, mie and mip.
+#[tactic(auto, unfolding(crate::specs::Support::Rows::first_pending))]
+fn first_pending(board: &BootedBoard) -> Option<u32>
+    ensures { result ≡ first_pending board.now }
+{
+    if board.mode().is_machine() && !has_bit(csr_word(board, MSTATUS), 3) {
+        return None;
+    }
+    if is_pending(board, 11) {
+        Some(0x8000_000b)
+    } else if is_pending(board, 3) {
+        Some(0x8000_0003)
+    } else if is_pending(board, 7) {
+        Some(0x8000_0007)
+    } else {
+        None
+    }
+}
+
+/// Returns the cause of the interrupt that is taken next, if one is.
+#[tactic(auto, using(crate::proofs::Pending::next_is))]
+fn next_interrupt(board: &BootedBoard) -> Option<u32>
+    ensures { result ≡ pending board.now.machine.csrs board.now.machine.mode (lines_of board.now.machine.bus) }
+{
+    first_pending(board)
+}
+
 /// Returns the mode of a board's hart, and what says which interrupts it takes.
-fn interrupts_of(board: &BootedBoard) -> Interrupts
+pub(crate) fn interrupts_of(board: &BootedBoard) -> Interrupts
     ensures { result ≡ record {
       mode = board.now.machine.mode;
       mstatus = unwrap_or (csr_of board.now 0x300) 0;
       mie = unwrap_or (csr_of board.now 0x304) 0;
       mip = unwrap_or (csr_of board.now 0x344) 0;
+      next = pending board.now.machine.csrs board.now.machine.mode (lines_of board.now.machine.bus);
     } }
 {
     Interrupts {
@@ -30,52 +63,17 @@ fn interrupts_of(board: &BootedBoard) -> Interrupts
         mstatus: csr_word(board, MSTATUS),
         mie: csr_word(board, MIE),
         mip: csr_word(board, MIP),
+        next: next_interrupt(board),
     }
 }
 
 /// Reads the number of an edge source, 24 to 31.
 #[tactic(auto, unfolding(crate::specs::Support::Rows::edge_source))]
-fn edge_source(operands: &[u8]) -> Option<Source>
+pub(crate) fn edge_source(operands: &[u8]) -> Option<Source>
     ensures { result ≡ edge_source (words operands.now) }
 {
     match count_or(operands, 0, 31)? {
         source @ 24..=31 => Source::new(source as u8),
         _ => None,
-    }
-}
-
-impl Lab {
-    /// Appends the pending edges of a source.
-    #[tactic(auto, unfolding(crate::specs::Support::Rows::pending_text))]
-    fn append_pending(&self, source: Source, answer: &mut Answer)
-        ensures { Appended answer.old answer.new (pending_text self.now source) }
-    {
-        let edges = self.board().plic().edges(source) as u64;
-        let values = [source.number() as u64, edges, edges];
-        answer.fill("source %d: %d pending edge%{s||s}\n", &values);
-    }
-
-    /// Executes `e`.
-    #[tactic(auto, using(crate::proofs::ControlTold::no_edges, crate::proofs::ControlTold::has_edges))]
-    pub(crate) fn edges_command(&self, operands: &[u8], answer: &mut Answer)
-        ensures { IfSome (edges_told self.now (words operands.now)) (Appended answer.old answer.new) }
-    {
-        let Some(source) = edge_source(operands) else {
-            return answer.say("e: a source from 24 to 31 is wanted; `dev` shows the others\n");
-        };
-        self.append_pending(source, answer);
-    }
-
-    /// Executes `dev`.
-    #[tactic(auto, using(rv_answers::proofs::Pieces::then), unfolding(crate::specs::Devices::devices_told))]
-    pub(crate) fn devices_command(&self, answer: &mut Answer)
-        ensures { Appended answer.old answer.new (devices_told self.now) }
-    {
-        let board = self.board();
-        append_timer(board.timer(), answer);
-        append_serial(board.serial(), answer);
-        append_interrupts(interrupts_of(board), answer);
-        append_controller(board.plic(), answer);
-        append_protection(board.pmp(), answer);
     }
 }

@@ -1,13 +1,12 @@
 //! Why a source, a timed list or a board is refused.
 use crate::fault::LabFault;
-use rv_answers::Answer;
-use rv_asm::diagnose;
+use rv_answers::Printer;
 use rv_base::NoMemory;
 use rv_board::BootFault;
-use rv_sentences::append_report;
+use rv_diagnosis::{append_report, diagnose};
 
 /// Appends what is wrong with each faulty line of a source, as compilers print it.
-fn report(file: &str, source: &[u8], answer: &mut Answer) {
+fn report(file: &str, source: &[u8], answer: &mut Printer) {
     let alloc = answer.alloc();
     let mut text = Vec::new(alloc);
     let reported = match diagnose(alloc, source) {
@@ -22,7 +21,7 @@ fn report(file: &str, source: &[u8], answer: &mut Answer) {
 
 /// Appends why there is no lab: of a source each faulty line of its first phase that has one, as compilers
 /// print them.
-pub fn append_diagnosis(file: &str, source: &[u8], fault: LabFault, answer: &mut Answer) {
+pub fn append_diagnosis(file: &str, source: &[u8], fault: LabFault, answer: &mut Printer) {
     match fault {
         LabFault::Source(_) => report(file, source, answer),
         LabFault::Input(line) => {

@@ -1,30 +1,30 @@
 //! The execution of a command.
-ghost use Rattle.std.specs.Prelude.{◌≡◌, OnErr, OnOk, IfSome, ◌≢◌};
-ghost use Rattle.rv_lab.specs.Commands.{Leaves, Repeats};
+ghost use Rattle.std.specs.Prelude.{◌≡◌, IfOk, OnErr, OnOk, None, ◌≢◌};
+ghost use Rattle.rv_lab.specs.Commands.{Leaves, Repeats, follows, next_of};
 ghost use Rattle.rv_lab.specs.Refusals.{RunsOut, StopsShort};
 ghost use Rattle.rv_lab.specs.Support.Short.{Changes};
 ghost use Rattle.rv_lab.specs.State.{setup};
-ghost use Rattle.rv_answers.specs.Answer.{Appended};
-ghost use Rattle.rv_lab.specs.Looks.{told_again};
-ghost use Rattle.rv_lab.specs.Support.Rows.{Tells};
-ghost use Rattle.rv_lab.specs.declared.command.Command.TheVariants.{Again, Break, List, Moves};
+ghost use Rattle.rv_lab.specs.declared.command.Command.TheVariants.{Again, Moves};
 
 use crate::command::{Command, Move};
 use crate::lab::{Lab, Next};
-use rv_answers::Answer;
+use rv_answers::Printer;
 use rv_base::NoMemory;
 
 impl Lab {
-    /// Executes a command, and appends its answer.
+    /// Executes a command, and appends its answer where it is a text. What commands answer that only look is
+    /// `answer_of`.
     pub(crate) fn execute(
         &mut self,
         command: Command,
         operands: &[u8],
-        answer: &mut Answer,
+        answer: &mut Printer,
     ) -> Result<Next, NoMemory>
+        requires { self.old.plan ≡ None }
         ensures setup { setup self.new ≡ setup self.old }
         ensures leaves { OnOk result (Leaves command operands.now self.old self.new) }
-        ensures tells { Tells command operands.now self.old answer.old answer.new }
+        ensures next { IfOk result
+            (λ next. next ≡ follows command operands.now self.old.recording.session self.new) }
         ensures err { OnErr result (RunsOut (Leaves command operands.now) self.old self.new) }
     {
         match command {
@@ -41,10 +41,12 @@ impl Lab {
         &mut self,
         moves: Move,
         operands: &[u8],
-        answer: &mut Answer,
+        answer: &mut Printer,
     ) -> Result<Next, NoMemory>
+        requires { self.old.plan ≡ None }
         ensures setup { setup self.new ≡ setup self.old }
         ensures leaves { OnOk result (Leaves (Moves moves) operands.now self.old self.new) }
+        ensures next { IfOk result (λ next. next ≡ next_of self.new) }
         ensures err { OnErr result (RunsOut (Leaves (Moves moves) operands.now) self.old self.new) }
     {
         match moves {
@@ -57,10 +59,11 @@ impl Lab {
     }
 
     /// Executes the last step or list command again.
-    fn repeat(&mut self, answer: &mut Answer) -> Result<Next, NoMemory>
+    fn repeat(&mut self, answer: &mut Printer) -> Result<Next, NoMemory>
+        requires { self.old.plan ≡ None }
         ensures setup { setup self.new ≡ setup self.old }
         ensures repeats { OnOk result (Repeats self.old.again self.old self.new) }
-        ensures tells { IfSome (told_again self.old.again self.old) (Appended answer.old answer.new) }
+        ensures next { IfOk result (λ next. next ≡ next_of self.new) }
         ensures err { OnErr result (StopsShort (Repeats self.old.again) self.old self.new) }
     {
         match self.last.command {
@@ -71,7 +74,7 @@ impl Lab {
             Command::StepOnce => self.run_steps(1, answer),
             Command::Over => self.over_command(answer),
             Command::List => {
-                self.list_more(answer);
+                self.list_more();
                 Ok(Next::More)
             }
             _ => Ok(Next::More),
@@ -79,21 +82,24 @@ impl Lab {
     }
 
     /// Executes a command that takes no step.
+    #[tactic(auto, using(crate::proofs::Runs::more_follows))]
     fn change(
         &mut self,
         command: Command,
         operands: &[u8],
-        answer: &mut Answer,
+        answer: &mut Printer,
     ) -> Result<Next, NoMemory>
-        requires { command ≢ Again }
+        requires no_again { command ≢ Again }
+        requires no_plan { self.old.plan ≡ None }
         ensures setup { setup self.new ≡ setup self.old }
         ensures changes { OnOk result (Changes command operands.now self.old self.new) }
-        ensures tells { Tells command operands.now self.old answer.old answer.new }
+        ensures next { IfOk result
+            (λ next. next ≡ follows command operands.now self.old.recording.session self.new) }
         ensures err { OnErr result (RunsOut (Changes command operands.now) self.old self.new) }
     {
         match command {
             Command::List => {
-                self.list_command(operands, answer);
+                self.list_command(operands);
                 Ok(Next::More)
             }
             Command::Break => self.break_command(operands, answer),
@@ -106,32 +112,15 @@ impl Lab {
             Command::Monitor => self.monitor_command(operands, answer),
             Command::Save => Ok(self.save_command(operands, answer)),
             Command::Quit => Ok(Next::Quit),
-            _ => {
-                self.look(command, operands, answer);
+            Command::Why => {
+                self.why_command(answer);
                 Ok(Next::More)
             }
-        }
-    }
-
-    /// Executes a command that only looks; `b`, `l` and an empty line do not.
-    fn look(&self, command: Command, operands: &[u8], answer: &mut Answer)
-        requires no_break { command ≢ Break }
-        requires no_list { command ≢ List }
-        requires no_again { command ≢ Again }
-        ensures { Tells command operands.now self.now answer.old answer.new }
-    {
-        match command {
-            Command::Where => self.where_command(answer),
-            Command::Registers => self.registers_command(operands, answer),
-            Command::ControlRegister => self.control_register_command(operands, answer),
-            Command::Memory => self.memory_command(operands, answer),
-            Command::Instruction => self.instruction_command(operands, answer),
-            Command::Traps => self.traps_command(answer),
-            Command::Edges => self.edges_command(operands, answer),
-            Command::Why => self.why_command(answer),
-            Command::Devices => self.devices_command(answer),
-            Command::Help => self.help_command(operands, answer),
-            _ => {}
+            Command::Help => {
+                self.help_command(operands, answer);
+                Ok(Next::More)
+            }
+            _ => Ok(Next::More),
         }
     }
 }

@@ -1,7 +1,7 @@
 //! Help.
 use crate::command::{commands, row_of};
 use crate::lab::Lab;
-use rv_answers::Answer;
+use rv_answers::Printer;
 use rv_base::has_word;
 use rv_operands::only_word;
 
@@ -10,7 +10,7 @@ const FORM_WIDTH: usize = 20;
 
 impl Lab {
     /// Appends the list of all commands.
-    fn append_commands(&self, answer: &mut Answer) {
+    fn append_commands(&self, answer: &mut Printer) {
         for (_, row) in commands() {
             answer.padded(row.form.as_bytes(), FORM_WIDTH);
             answer.say(row.does);
@@ -22,7 +22,7 @@ impl Lab {
     }
 
     /// Executes `help`.
-    pub(crate) fn help_command(&self, operands: &[u8], answer: &mut Answer) {
+    pub(crate) fn help_command(&self, operands: &[u8], answer: &mut Printer) {
         if !has_word(operands) {
             return self.append_commands(answer);
         }

@@ -1,5 +1,5 @@
 //! The lab: what a caller may ask of it.
-ghost use Rattle.std.specs.Prelude.{◌≡◌, ◌≤◌, max, false, Err, IfErr, IfOk, None, Ok, OnErr, OnOk, ◌++◌, IfSome};
+ghost use Rattle.std.specs.Prelude.{◌≡◌, ◌≤◌, max, false, Err, IfErr, IfOk, None, Ok, OnErr, OnOk, IfSome};
 ghost use Rattle.rv_asm.specs.Lines.{listed};
 ghost use Rattle.rv_asm.specs.Seen.{seen};
 ghost use Rattle.rv_monitor.specs.Laws.{IsReached};
@@ -7,17 +7,18 @@ ghost use Rattle.rv_recording.specs.Recording.{first_board};
 ghost use Rattle.rv_lab.specs.State.{listing, registers_of, setup};
 ghost use Rattle.rv_operands.specs.Operands.{operand_text};
 ghost use Rattle.rv_lab.specs.declared.command.Command.TheVariants.{StepOnce};
-ghost use Rattle.rv_lab.specs.Commands.{IsWithin, Leaves, Obeys, call_limit, ready};
+ghost use Rattle.rv_lab.specs.Commands.{IsWithin, Leaves, Obeys, call_limit, next_after, ready};
 ghost use Rattle.rv_lab.specs.Refusals.{RunsOut};
-ghost use Rattle.rv_lab.specs.Looks.{told};
 ghost use Rattle.rv_lab.specs.Opening.{OpensLab};
 ghost use Rattle.rv_lab.specs.Words.{line_command};
+ghost use Rattle.rv_lab.specs.Answers.{answer_of};
+ghost use Rattle.rv_lab.specs.Support.Rows.{Replies};
 
 use crate::command::{Command, CommandLine, read_command};
 use crate::fault::LabFault;
 use crate::plan::Plan;
 use crate::registers::registers_of;
-use rv_answers::{Answer, Registers};
+use rv_answers::{Answer, Printer, Registers};
 use rv_asm::{Listing, Places, Program, list};
 use rv_base::NoMemory;
 use rv_board::BootedBoard;
@@ -45,6 +46,15 @@ pub enum Next {
     Save,
     /// No command follows.
     Quit,
+}
+
+/// What a command answers, and what follows it.
+#[derive(Drop)]
+pub struct Reply {
+    /// What follows it.
+    pub next: Next,
+    /// What it answers.
+    pub answer: Answer,
 }
 
 /// What the last command left.
@@ -105,7 +115,7 @@ impl Model for Lab {
 
     ghost coded = { Prim.hlevel (codes, plic_code, set.code {R = nat_cmp} coded_ℕ) };
 
-    ghost view = { λ l. record { source = l.source.items; places = l.places; recording = l.recording; registers = l.last.registers; before = l.last.steps; again = l.last.command; count = l.last.count; listed = l.last.listed; plan = l.last.plan; piece = l.piece } };
+    ghost view = { λ l. record { source = l.source.items; places = l.places; recording = l.recording; registers = l.last.registers; before = l.last.steps; told = l.last.told; again = l.last.command; count = l.last.count; listed = l.last.listed; plan = l.last.plan; piece = l.piece } };
 }
 
 impl Lab {
@@ -122,7 +132,7 @@ impl Lab {
         ensures sizes { IfOk result (λ l.
             (l.recording.pages ≡ sizes.pages) × (l.recording.slots ≡ sizes.slots)) }
         ensures listing { IfOk result (λ l. listed source.now ≡ Ok (listing l)) }
-        ensures begins { IfOk result (λ l. (l.source ≡ source.now) × (l.before ≡ 0)
+        ensures begins { IfOk result (λ l. (l.source ≡ source.now) × (l.before ≡ 0) × (l.told ≡ 0)
             × (l.registers ≡ registers_of l.recording.session.timed.board) × (l.again ≡ StepOnce) × (l.count ≡ 1)
             × (l.listed ≡ 0) × (l.plan ≡ None) × (l.piece ≡ 1000000)) }
     {
@@ -182,7 +192,7 @@ impl Lab {
     }
 
     /// Returns the lines of the source.
-    pub(crate) fn listing(&self) -> Listing<'_>
+    pub fn listing(&self) -> Listing<'_>
         ensures { seen result ≡ listing self.now }
     {
         Listing {
@@ -192,7 +202,7 @@ impl Lab {
     }
 
     /// Appends the source's name and size, and where the board stands.
-    pub fn greet(&self, name: &str, answer: &mut Answer) {
+    pub fn greet(&self, name: &str, answer: &mut Printer) {
         let lines = self.listing().len() as u64;
         let bytes = self.program().bytes().len() as u64;
         let form = ": %d line%{s||s}, %d byte%{s||s} from 80000000; `help` shows the commands\n";
@@ -202,7 +212,7 @@ impl Lab {
     }
 
     /// Appends the progress of a long run.
-    pub fn append_progress(&self, answer: &mut Answer) {
+    pub fn append_progress(&self, answer: &mut Printer) {
         answer.fill("running: step %d\n", &[self.steps()]);
     }
 
@@ -215,31 +225,86 @@ impl Lab {
         self.last.command = command.if_repeated(again);
     }
 
-    /// Executes a command line, and appends its answer. It takes at most a piece of steps, or for `trace` at
+    /// Returns what a command line answers, if its command is one that only looks. The lab stays as it is.
+    ///
+    /// # Errors
+    ///
+    /// `NoMemory` if memory runs out.
+    pub fn look(&self, line: &[u8]) -> Result<Option<Answer>, NoMemory>
+        ensures { IfOk result (λ a. a ≡ answer_of (line_command line.now) (operand_text line.now) self.now) }
+    {
+        let CommandLine { command, operands } = read_command(
+            line,
+            self.alloc,
+            &mut Printer::new(self.alloc),
+        );
+        self.answer_of(command, operands)
+    }
+
+    /// Executes a command line, and returns its answer. It takes at most a piece of steps, or for `trace` at
     /// most 1,000: a longer run goes on by `go_on`.
     ///
     /// # Errors
     ///
     /// `NoMemory` if memory runs out. The lab is as it was then, or as after some of the command's steps.
-    pub fn command(&mut self, line: &[u8], answer: &mut Answer) -> Result<Next, NoMemory>
+    pub fn answer(&mut self, line: &[u8]) -> Result<Reply, NoMemory>
         ensures setup { setup self.new ≡ setup self.old }
         ensures obeys { OnOk result (Obeys line.now self.old self.new) }
-        ensures tells { OnOk result (IfSome (told (line_command line.now) (operand_text line.now) self.old)
-            (λ text. answer.new.bytes ≡ answer.old.bytes ++ text)) }
+        ensures next { IfOk result (λ r. r.next ≡ next_after line.now self.old.recording.session self.new) }
+        ensures answers { IfOk result (λ r.
+            IfSome (answer_of (line_command line.now) (operand_text line.now) self.old) (λ a. r.answer ≡ a)) }
         ensures err { OnErr result (RunsOut (Leaves (line_command line.now) (operand_text line.now))
             (ready (line_command line.now) self.old) self.new) }
         ensures bound { IsWithin (call_limit (line_command line.now) self.old.piece) self.old self.new }
     {
-        let CommandLine { command, operands } = read_command(line, self.alloc, answer);
+        let mut text = Printer::new(self.alloc);
+        let CommandLine { command, operands } = read_command(line, self.alloc, &mut text);
+        let value = self.answer_of(command, operands);
         self.make_ready(command);
-        let next = self.execute(command, operands, answer)?;
-        unless_cut(next, answer)
+        let next = self.execute(command, operands, &mut text)?;
+        replied(next, value, text)
+    }
+
+    /// Executes a command line, and appends the text of its answer. It takes at most a piece of steps, or for `trace` at
+    /// most 1,000: a longer run goes on by `go_on`.
+    ///
+    /// # Errors
+    ///
+    /// `NoMemory` if memory runs out. The lab is as it was then, or as after some of the command's steps.
+    pub fn command(&mut self, line: &[u8], answer: &mut Printer) -> Result<Next, NoMemory>
+        ensures setup { setup self.new ≡ setup self.old }
+        ensures obeys { OnOk result (Obeys line.now self.old self.new) }
+        ensures next { IfOk result (λ next. next ≡ next_after line.now self.old.recording.session self.new) }
+        ensures err { OnErr result (RunsOut (Leaves (line_command line.now) (operand_text line.now))
+            (ready (line_command line.now) self.old) self.new) }
+        ensures bound { IsWithin (call_limit (line_command line.now) self.old.piece) self.old self.new }
+    {
+        let reply = self.answer(line)?;
+        self.append_answer(&reply.answer, answer);
+        unless_cut(reply.next, answer)
     }
 }
 
+/// Returns what follows a command with its answer: a value, or else a text.
+fn replied(
+    next: Next,
+    value: Result<Option<Answer>, NoMemory>,
+    text: Printer,
+) -> Result<Reply, NoMemory>
+    ensures next { IfOk result (λ r. r.next ≡ next) }
+    ensures answer { IfOk result (λ r. Replies value r.answer) }
+{
+    let answer = match value? {
+        Some(answer) => answer,
+        None => Answer::Text(text.whole()?),
+    };
+    Ok(Reply { next, answer })
+}
+
 /// Returns what follows a command, or that memory ran out where its answer is cut.
-pub(crate) fn unless_cut(next: Next, answer: &Answer) -> Result<Next, NoMemory>
-    ensures { OnOk result (answer.now.is_cut ≡ false) }
+pub(crate) fn unless_cut(next: Next, answer: &Printer) -> Result<Next, NoMemory>
+    ensures whole { OnOk result (answer.now.is_cut ≡ false) }
+    ensures same { IfOk result (λ n. n ≡ next) }
 {
     if answer.is_cut() {
         return Err(NoMemory);

@@ -1,17 +1,17 @@
 //! Commands of the monitor.
-ghost use Rattle.std.specs.Prelude.{◌≡◌, true, None, OnErr, OnOk};
+ghost use Rattle.std.specs.Prelude.{◌≡◌, true, None, IfOk, OnErr, OnOk};
 ghost use Rattle.rv_lab.specs.declared.command.Command.TheVariants as command;
-ghost use Rattle.rv_lab.specs.Commands.{InSession, Leaves, monitored_run};
+ghost use Rattle.rv_lab.specs.Commands.{InSession, Leaves, monitor_next, monitored_run};
 ghost use Rattle.rv_lab.specs.Refusals.{RunsOut};
 ghost use Rattle.rv_lab.specs.State.{setup};
-ghost use Rattle.rv_answers.specs.Answer.{Appended};
+ghost use Rattle.rv_answers.specs.Printer.{Appended};
 ghost use Rattle.rv_monitor.specs.Commands as monitor;
 ghost use Rattle.rv_monitor.specs.Commands.{command_in};
 ghost use Rattle.rv_program.specs.Program.{value_of};
 
 use crate::lab::{Lab, Next};
 use crate::plan::{Goal, Plan};
-use rv_answers::Answer;
+use rv_answers::Printer;
 use rv_base::NoMemory;
 use rv_commands::{Command, SymbolLookup, read_command};
 use rv_monitor::Next as Monitored;
@@ -56,10 +56,13 @@ impl Lab {
     }
 
     /// Executes a command of the monitor that takes no step, and appends its answer.
-    #[tactic(auto, using(crate::proofs::Monitored::looks_refused))]
-    fn monitor_look(&mut self, line: &[u8], answer: &mut Answer) -> Result<Next, NoMemory>
-        requires { monitored_run line.now self.old.recording.session ≡ None }
+    #[tactic(auto, using(crate::proofs::Monitored::looks_refused, crate::proofs::Monitored::more_follows, crate::proofs::Monitored::quit_follows))]
+    fn monitor_look(&mut self, line: &[u8], answer: &mut Printer) -> Result<Next, NoMemory>
+        requires no_run { monitored_run line.now self.old.recording.session ≡ None }
+        requires no_plan { self.old.plan ≡ None }
         ensures setup { setup self.new ≡ setup self.old }
+        ensures next { IfOk result
+            (λ next. next ≡ monitor_next (command_in line.now self.old.recording.session) self.new) }
         ensures leaves { OnOk result
             (InSession (monitor.Leaves (command_in line.now self.old.recording.session)) self.old self.new) }
         ensures tells { OnOk result (Appended answer.old answer.new
@@ -70,19 +73,23 @@ impl Lab {
         let mut text = Vec::new(self.alloc);
         let next = self.recording.command(line, &mut text)?;
         answer.put(text.as_slice());
-        Ok(match next {
-            Monitored::More => Next::More,
-            Monitored::Quit => Next::Quit,
-        })
+        match next {
+            Monitored::More => Ok(Next::More),
+            Monitored::Quit => Ok(Next::Quit),
+        }
     }
 
     /// Executes `monitor`: a run goes in pieces, as the lab's do.
+    #[tactic(auto, using(crate::proofs::Monitored::run_follows))]
     pub(crate) fn monitor_command(
         &mut self,
         operands: &[u8],
-        answer: &mut Answer,
+        answer: &mut Printer,
     ) -> Result<Next, NoMemory>
+        requires { self.old.plan ≡ None }
         ensures setup { setup self.new ≡ setup self.old }
+        ensures next { IfOk result
+            (λ next. next ≡ monitor_next (command_in operands.now self.old.recording.session) self.new) }
         ensures leaves { OnOk result (Leaves command.Monitor operands.now self.old self.new) }
         ensures err { OnErr result (RunsOut (Leaves command.Monitor operands.now) self.old self.new) }
     {

@@ -1,5 +1,5 @@
 //! The nearest of some names to a word.
-use rv_answers::Answer;
+use rv_answers::Printer;
 use std::alloc::Global;
 use strsim::generic_levenshtein;
 
@@ -41,7 +41,7 @@ impl<'a> Nearest<'a> {
     }
 
     /// Appends that the nearest name is near, if there is one.
-    pub(crate) fn append(&self, answer: &mut Answer) {
+    pub(crate) fn append(&self, answer: &mut Printer) {
         if !self.name.is_empty() {
             answer.say("; `");
             answer.put(self.name);

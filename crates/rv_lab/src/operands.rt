@@ -1,15 +1,14 @@
 //! The operands of commands: counts and addresses.
-ghost use Rattle.std.specs.Prelude.{◌≡◌, ◌<◌, OnSome};
+ghost use Rattle.std.specs.Prelude.{◌≡◌, ◌<◌};
 ghost use Rattle.rv_base.specs.Words.{words};
 ghost use Rattle.rv_asm.specs.Seen.{seen};
-ghost use Rattle.rv_operands.specs.Operands.{address};
 ghost use Rattle.rv_asm.specs.Seen.{seen};
 ghost use Rattle.rv_lab.specs.State.{board, listing};
 ghost use Rattle.rv_lab.specs.Words.{count_of};
 
 use crate::lab::Lab;
 use crate::nearest::Nearest;
-use rv_answers::Answer;
+use rv_answers::Printer;
 use rv_base::{decimal, has_word};
 use rv_operands::{Scope, only_word};
 
@@ -37,7 +36,7 @@ impl Lab {
     }
 
     /// Says that a word is no address, and which name is the nearest.
-    pub(crate) fn refuse_address(&self, command: &str, word: &[u8], answer: &mut Answer) {
+    pub(crate) fn refuse_address(&self, command: &str, word: &[u8], answer: &mut Printer) {
         answer.refuse(
             command,
             word,
@@ -49,17 +48,5 @@ impl Lab {
         }
         nearest.append(answer);
         answer.end();
-    }
-
-    /// Reads an address. Where a word is none, that is answered.
-    pub(crate) fn address_of(&self, command: &str, word: &[u8], answer: &mut Answer) -> Option<u32>
-        ensures value { result ≡ address (listing self.now) (board self.now) word.now }
-        ensures quiet { OnSome result (answer.new ≡ answer.old) }
-    {
-        let address = self.scope().address(word);
-        if address.is_none() {
-            self.refuse_address(command, word, answer);
-        }
-        address
     }
 }

@@ -1,72 +1,38 @@
 //! Where the program is, and what a command did.
-ghost use Rattle.std.specs.Prelude.{◌≡◌, ◌++◌, [], codes};
-ghost use Rattle.std.specs.Option.{option_map_or};
-ghost use Rattle.rv_answers.specs.Answer.{Appended};
-ghost use Rattle.rv_lab.specs.Lines.{label_text};
-ghost use Rattle.rv_lab.specs.Looks.{place, short_place, where_told};
-ghost use Rattle.rv_lab.specs.Support.Rows.{halted_text, line_or_instruction, stop_word};
+ghost use Rattle.std.specs.Prelude.{◌≡◌, ◌-◌, drop, if◌then◌else◌, length, slice_get};
+ghost use Rattle.rv_answers.specs.Printer.{Appended};
+ghost use Rattle.rv_lab.specs.Commands.{with_console};
+ghost use Rattle.rv_lab.specs.Support.Rows.{stop_word};
 ghost use Rattle.rv_monitor.specs.Views.{stop_text};
-ghost use Rattle.rv_lab.specs.State.{board, listing};
+ghost use Rattle.rv_lab.specs.State.{board};
 
 use crate::lab::Lab;
-use crate::memory::append_instruction_at;
-use crate::places::{append_near, line_at};
 use crate::plan::Goal;
 use crate::registers::registers_of;
 use rv_answers::{
-    Answer, Registers, append_cause, append_changes, append_escaped, append_halted,
-    append_line_number, append_register, append_shown, append_step, append_value, line_text,
+    Printer, Registers, append_cause, append_changes, append_escaped, append_halted,
+    append_register, append_value,
 };
 use rv_base::NoMemory;
+use rv_board::TrapRecord;
 use rv_hart::Outcome;
 use rv_monitor::{word_at, write_stop};
 use rv_recording::{Condition, End, Watched};
 
 impl Lab {
-    /// Appends the nearest label before an address with its distance, as `<loop+8>`, if the address is in the
-    /// image.
-    pub(crate) fn append_label(&self, address: u32, answer: &mut Answer)
-        ensures { Appended answer.old answer.new (label_text (listing self.now) address) }
-    {
-        append_near(self.listing(), address, answer);
-    }
-
     /// Appends an address with its label, its line's number and the line's text.
-    #[tactic(auto, using(rv_answers::proofs::Pieces::then), unfolding(crate::specs::Looks::place))]
-    pub(crate) fn append_place(&self, address: u32, answer: &mut Answer)
-        ensures { Appended answer.old answer.new (place self.now address) }
-    {
-        answer.word(address);
-        self.append_label(address, answer);
-        answer.say("  ");
-        self.append_line(address, answer);
-    }
-
-    /// Appends the number and the text of the line that has a byte at an address, or the instruction there.
-    #[tactic(auto, using(rv_answers::proofs::Pieces::then))]
-    fn append_line(&self, address: u32, answer: &mut Answer)
-        ensures { Appended answer.old answer.new (line_or_instruction self.now address) }
-    {
-        match line_at(self.listing(), address) {
-            Some(line) => {
-                answer.line_number(line);
-                append_shown(line_text(&self.source, line), answer);
-            }
-            None => append_instruction_at(self.board(), address, answer),
-        }
+    pub(crate) fn append_place(&self, address: u32, answer: &mut Printer) {
+        self.lines().append_place(self.place_of(address), answer);
     }
 
     /// Appends the line of the next instruction.
-    #[tactic(auto, using(rv_answers::proofs::Pieces::then))]
-    pub(crate) fn append_here(&self, answer: &mut Answer)
-        ensures { Appended answer.old answer.new (place self.now (board self.now).machine.pc ++ codes "\n") }
-    {
+    pub(crate) fn append_here(&self, answer: &mut Printer) {
         self.append_place(self.board().pc(), answer);
         answer.end();
     }
 
     /// Appends the registers that changed since the last command that moved the board, in a line, if any did.
-    fn append_changed(&self, answer: &mut Answer) {
+    fn append_changed(&self, answer: &mut Printer) {
         let now = registers_of(self.board());
         if append_changes(&self.last.registers, &now, answer) > 0 {
             answer.end();
@@ -74,7 +40,12 @@ impl Lab {
     }
 
     /// Appends what a step did: a trap, or the registers that it changed.
-    pub(crate) fn append_outcome(&self, outcome: Outcome, before: &Registers, answer: &mut Answer) {
+    pub(crate) fn append_outcome(
+        &self,
+        outcome: Outcome,
+        before: &Registers,
+        answer: &mut Printer,
+    ) {
         if let Outcome::Trapped { cause, tval, .. } = outcome {
             answer.say("  trap ");
             append_cause(cause, answer);
@@ -83,34 +54,41 @@ impl Lab {
         append_changes(before, &registers_of(self.board()), answer);
     }
 
+    /// Returns the bytes that the console got and that weren't told.
+    fn untold(&self) -> &[u8]
+        ensures { result.now ≡ drop self.now.told (board self.now).machine.bus.serial.sent }
+    {
+        let console = self.board().console();
+        console.split_at(self.last.told.min(console.len())).1
+    }
+
     /// Appends the bytes that the console got and that weren't told, marked by a bar. A line that isn't ended
     /// yet ends with a backslash.
-    pub(crate) fn tell_console(&mut self, answer: &mut Answer)
-        ensures { self.new ≡ self.old }
+    pub(crate) fn tell_console(&mut self, answer: &mut Printer)
+        ensures { self.new ≡ with_console self.old }
     {
-        let console = self.recording.session().board().console();
-        let (_, new) = console.split_at(self.last.told.min(console.len()));
-        append_console(new, answer);
-        self.last.told = console.len();
+        append_console(self.untold(), answer);
+        self.last.told = self.board().console().len();
     }
 
     /// Appends that the board halted, if it did.
-    #[tactic(auto, using(rv_answers::proofs::Pieces::nothing))]
-    pub(crate) fn tell_halt(&self, answer: &mut Answer)
-        ensures { Appended answer.old answer.new (option_map_or (λ code. halted_text code self.now.recording.session.timed.taken)
-            (board self.now).machine.bus.halt []) }
-    {
+    pub(crate) fn tell_halt(&self, answer: &mut Printer) {
         if let Some(code) = self.board().halted() {
             append_halted(code, self.steps(), answer);
         }
     }
 
     /// Appends why the board takes no step.
-    pub(crate) fn tell_stuck(&self, answer: &mut Answer) {
-        if self.board().halted().is_some() {
-            return self.tell_halt(answer);
+    pub(crate) fn tell_stuck(&self, answer: &mut Printer) {
+        self.tell_halt(answer);
+        self.tell_last_step(answer);
+    }
+
+    /// Appends that the lab takes no more steps, where the board hasn't halted.
+    pub(crate) fn tell_last_step(&self, answer: &mut Printer) {
+        if self.board().halted().is_none() {
+            answer.say("the lab takes no more than 9999999999 steps\n");
         }
-        answer.say("the lab takes no more than 9999999999 steps\n");
     }
 
     /// Returns the number of steps that the last command took.
@@ -119,8 +97,8 @@ impl Lab {
     }
 
     /// Appends what a single step did, and where the program is.
-    pub(crate) fn tell_step(&mut self, outcome: Option<Outcome>, answer: &mut Answer)
-        ensures { self.new ≡ self.old }
+    pub(crate) fn tell_step(&mut self, outcome: Option<Outcome>, answer: &mut Printer)
+        ensures { self.new ≡ with_console self.old }
     {
         self.tell_console(answer);
         let Some(outcome) = outcome else {
@@ -133,7 +111,7 @@ impl Lab {
     }
 
     /// Appends that the board halted, or where the program is.
-    fn tell_rest(&self, answer: &mut Answer) {
+    fn tell_rest(&self, answer: &mut Printer) {
         let board = self.board();
         if board.halted().is_some() {
             return self.tell_halt(answer);
@@ -145,7 +123,7 @@ impl Lab {
     }
 
     /// Appends the goal that was reached.
-    fn append_goal(&self, goal: Goal, answer: &mut Answer) {
+    fn append_goal(&self, goal: Goal, answer: &mut Printer) {
         match goal {
             Goal::Until(Condition::Changed { watched, .. } | Condition::Compares { watched, .. }) =>
                 {
@@ -157,11 +135,17 @@ impl Lab {
         }
     }
 
-    /// Appends the cause of the last trap.
-    fn append_last_trap(&self, answer: &mut Answer) {
+    /// Returns the last trap, if there was one.
+    pub(crate) fn last_trap(&self) -> Option<TrapRecord>
+        ensures { result ≡ slice_get (board self.now).traps (length (board self.now).traps - 1) }
+    {
         let board = self.board();
-        let count = board.trap_count();
-        if let Some(trap) = board.trap(count.saturating_sub(1)) {
+        board.trap(board.trap_count().saturating_sub(1))
+    }
+
+    /// Appends the cause of the last trap.
+    fn append_last_trap(&self, answer: &mut Printer) {
+        if let Some(trap) = self.last_trap() {
             answer.say(": trap ");
             append_cause(trap.cause, answer);
             answer.fill(", mtval %x, at", &[trap.tval as u64]);
@@ -170,19 +154,13 @@ impl Lab {
     }
 
     /// Appends an address with the number of its line.
-    #[tactic(auto, using(rv_answers::proofs::Pieces::then), unfolding(crate::specs::Looks::short_place))]
-    pub(crate) fn append_short_place(&self, address: u32, answer: &mut Answer)
-        ensures { Appended answer.old answer.new (short_place self.now address) }
-    {
-        append_line_number(line_at(self.listing(), address), answer);
-        self.append_label(address, answer);
-        answer.say(" (");
-        answer.word(address);
-        answer.say(")");
+    pub(crate) fn append_short_place(&self, address: u32, answer: &mut Printer) {
+        self.lines()
+            .append_short_place(self.place_of(address), answer);
     }
 
     /// Appends what is watched, with its value.
-    fn append_watched(&self, watched: Watched, answer: &mut Answer) {
+    fn append_watched(&self, watched: Watched, answer: &mut Printer) {
         match watched {
             Watched::Register(register) => {
                 append_register(register, self.board().reg(register), answer);
@@ -200,8 +178,8 @@ impl Lab {
     }
 
     /// Appends what the console got in a piece of a run. The monitor tells nothing before the end.
-    pub(crate) fn tell_piece(&mut self, is_monitored: bool, answer: &mut Answer)
-        ensures { self.new ≡ self.old }
+    pub(crate) fn tell_piece(&mut self, is_monitored: bool, answer: &mut Printer)
+        ensures { self.new ≡ (if is_monitored then self.old else with_console self.old) }
     {
         if !is_monitored {
             self.tell_console(answer);
@@ -209,8 +187,14 @@ impl Lab {
     }
 
     /// Appends why a run is over, as the lab or as the monitor does.
-    pub(crate) fn tell_end(&mut self, is_monitored: bool, goal: Goal, end: End, answer: &mut Answer)
-        ensures { self.new ≡ self.old }
+    pub(crate) fn tell_end(
+        &mut self,
+        is_monitored: bool,
+        goal: Goal,
+        end: End,
+        answer: &mut Printer,
+    )
+        ensures { self.new ≡ with_console self.old }
     {
         if is_monitored {
             self.append_stop(end, answer);
@@ -220,8 +204,7 @@ impl Lab {
     }
 
     /// Appends why a run is over as the monitor does.
-    #[tactic(auto, using(rv_answers::proofs::Pieces::then))]
-    fn append_stop(&self, end: End, answer: &mut Answer)
+    fn append_stop(&self, end: End, answer: &mut Printer)
         ensures { Appended answer.old answer.new (stop_text (board self.now) (stop_word end)) }
     {
         let mut text = Vec::new(self.alloc);
@@ -232,8 +215,8 @@ impl Lab {
     }
 
     /// Appends why a run is over, what it changed, and where the program is.
-    fn tell_goal_end(&mut self, goal: Goal, end: End, answer: &mut Answer)
-        ensures { self.new ≡ self.old }
+    fn tell_goal_end(&mut self, goal: Goal, end: End, answer: &mut Printer)
+        ensures { self.new ≡ with_console self.old }
     {
         self.tell_console(answer);
         let steps = self.last_steps();
@@ -257,20 +240,6 @@ impl Lab {
         }
         self.append_changed(answer);
         self.tell_rest(answer);
-    }
-
-    /// Executes `w`.
-    #[tactic(auto, using(rv_answers::proofs::Pieces::then), unfolding(crate::specs::Looks::where_told))]
-    pub(crate) fn where_command(&self, answer: &mut Answer)
-        ensures { Appended answer.old answer.new (where_told self.now) }
-    {
-        let board = self.board();
-        append_step(self.steps(), board.mode(), answer);
-        self.tell_halt(answer);
-        self.append_here(answer);
-        answer.say("  ");
-        append_instruction_at(board, board.pc(), answer);
-        answer.end();
     }
 }
 
@@ -298,7 +267,7 @@ fn limit_form(goal: Goal) -> &'static str {
 
 /// Appends bytes of the console, each of their lines after a bar. A byte that isn't printed is escaped, and a
 /// backslash ends a line that isn't ended yet.
-fn append_console(bytes: &[u8], answer: &mut Answer) {
+fn append_console(bytes: &[u8], answer: &mut Printer) {
     let mut is_open = false;
     for byte in bytes {
         if !is_open {

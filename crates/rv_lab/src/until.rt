@@ -5,12 +5,12 @@ ghost use Rattle.rv_operands.specs.Operands.{condition};
 ghost use Rattle.rv_lab.specs.State.{board, listing};
 
 use crate::lab::Lab;
-use rv_answers::Answer;
+use rv_answers::Printer;
 use rv_recording::Condition;
 
 impl Lab {
     /// Reads a condition. Where there is none, that is answered.
-    pub(crate) fn read_condition(&self, operands: &[u8], answer: &mut Answer) -> Option<Condition>
+    pub(crate) fn read_condition(&self, operands: &[u8], answer: &mut Printer) -> Option<Condition>
         ensures { result ≡ condition (listing self.now) (board self.now) (words operands.now) }
     {
         let condition = self.scope().condition(operands);

@@ -1,13 +1,16 @@
 //! Why the first trap that met no handler came.
 use crate::control::{MSTATUS, MTVEC, csr_word};
 use crate::lab::Lab;
-use crate::memory::{append_instruction_at, instruction_at};
-use rv_answers::{Answer, append_cause, append_entry, has_bit, register_name};
+use crate::memory::instruction_at;
+use rv_answers::{
+    Printer, append_cause, append_instruction, append_region, has_bit, region_of, register_name,
+};
 use rv_asm::assemble;
 use rv_base::NoMemory;
 use rv_board::{BootedBoard, TrapRecord};
 use rv_hart::Outcome;
 use rv_isa::{Operation, Reg, decode};
+use rv_monitor::word_at;
 use rv_recording::Recording;
 
 /// How many steps are looked at.
@@ -48,7 +51,7 @@ fn place_name(address: u32) -> &'static str {
 }
 
 /// Appends a base register and an offset, from which an address came.
-fn append_sum(board: &BootedBoard, base: Reg, offset: i32, answer: &mut Answer) {
+fn append_sum(board: &BootedBoard, base: Reg, offset: i32, answer: &mut Printer) {
     let word = board.reg(base);
     answer.say(": ");
     answer.say(register_name(base));
@@ -63,7 +66,7 @@ fn append_sum(board: &BootedBoard, base: Reg, offset: i32, answer: &mut Answer) 
 }
 
 /// Appends from which register the address of a load or store came.
-fn append_base(board: &BootedBoard, epc: u32, answer: &mut Answer) {
+fn append_base(board: &BootedBoard, epc: u32, answer: &mut Printer) {
     let Some(instr) = instruction_at(board, epc) else {
         return;
     };
@@ -83,11 +86,11 @@ fn append_base(board: &BootedBoard, epc: u32, answer: &mut Answer) {
 }
 
 /// Appends which entry of protection refused an access to memory.
-fn append_refusal(board: &BootedBoard, address: u32, answer: &mut Answer) {
+fn append_refusal(board: &BootedBoard, address: u32, answer: &mut Printer) {
     match board.pmp().decider(address) {
         Some(entry) => {
             answer.say("  protection refused it: ");
-            append_entry(entry, board.pmp(), answer);
+            append_region(region_of(entry, board.pmp()), answer);
             answer.end();
         }
         None => answer.say(
@@ -97,7 +100,7 @@ fn append_refusal(board: &BootedBoard, address: u32, answer: &mut Answer) {
 }
 
 /// Appends why an access to an address was refused.
-fn append_access(board: &BootedBoard, address: u32, answer: &mut Answer) {
+fn append_access(board: &BootedBoard, address: u32, answer: &mut Printer) {
     if board.ram(address).is_some() {
         return append_refusal(board, address, answer);
     }
@@ -111,7 +114,7 @@ fn append_access(board: &BootedBoard, address: u32, answer: &mut Answer) {
 }
 
 /// Appends what an illegal instruction is.
-fn append_illegal(board: &BootedBoard, word: u32, answer: &mut Answer) {
+fn append_illegal(board: &BootedBoard, word: u32, answer: &mut Printer) {
     answer.fill("  the word %x", &[word as u64]);
     match decode(word) {
         Some(instr) => {
@@ -129,7 +132,7 @@ fn append_illegal(board: &BootedBoard, word: u32, answer: &mut Answer) {
 }
 
 /// Appends what mtval says for a cause.
-fn append_reason(board: &BootedBoard, trap: TrapRecord, answer: &mut Answer) {
+fn append_reason(board: &BootedBoard, trap: TrapRecord, answer: &mut Printer) {
     match trap.cause {
         0 => {
             answer.fill("  the target is %x", &[trap.tval as u64]);
@@ -156,7 +159,7 @@ fn append_reason(board: &BootedBoard, trap: TrapRecord, answer: &mut Answer) {
 
 impl Lab {
     /// Appends a trap at a step, its source line, and why it came.
-    fn append_trap(&self, step: u64, trap: TrapRecord, board: &BootedBoard, answer: &mut Answer) {
+    fn append_trap(&self, step: u64, trap: TrapRecord, board: &BootedBoard, answer: &mut Printer) {
         answer.fill("step %d: trap ", &[step]);
         append_cause(trap.cause, answer);
         answer.end();
@@ -165,14 +168,14 @@ impl Lab {
         answer.end();
         if self.listing().line_at(trap.epc).is_some() {
             answer.say("  ");
-            append_instruction_at(board, trap.epc, answer);
+            append_instruction(word_at(board, trap.epc), answer);
             answer.end();
         }
         append_reason(board, trap, answer);
     }
 
     /// Appends that a trap met no handler.
-    fn append_no_handler(&self, board: &BootedBoard, answer: &mut Answer) {
+    fn append_no_handler(&self, board: &BootedBoard, answer: &mut Printer) {
         let has_memory = board.ram(board.pc()).is_some() as u64;
         let values = [csr_word(board, MTVEC) as u64, has_memory];
         let form =
@@ -194,7 +197,7 @@ impl Lab {
     }
 
     /// Explains the first trap of a run that met no handler, and returns whether there was one.
-    fn explain_first(&self, run: &mut Recording, answer: &mut Answer) -> Result<bool, NoMemory> {
+    fn explain_first(&self, run: &mut Recording, answer: &mut Printer) -> Result<bool, NoMemory> {
         let Some(trap) = run_to_trap(run, self.steps().min(MOST_EXPLAINED))? else {
             return Ok(false);
         };
@@ -205,9 +208,8 @@ impl Lab {
     }
 
     /// Explains the last trap, whose handler is there.
-    fn explain_last(&self, answer: &mut Answer) {
-        let board = self.board();
-        let Some(trap) = board.trap(board.trap_count().saturating_sub(1)) else {
+    fn explain_last(&self, answer: &mut Printer) {
+        let Some(trap) = self.last_trap() else {
             return answer.say("no trap so far\n");
         };
         answer.say("each trap met a handler; the last one:\n  trap ");
@@ -215,11 +217,11 @@ impl Lab {
         answer.fill(", mtval %x\n  ", &[trap.tval as u64]);
         self.append_place(trap.epc, answer);
         answer.end();
-        append_reason(board, trap, answer);
+        append_reason(self.board(), trap, answer);
     }
 
     /// Executes `why`.
-    pub(crate) fn why_command(&self, answer: &mut Answer) {
+    pub(crate) fn why_command(&self, answer: &mut Printer) {
         let explained = match self.recorded_again() {
             Ok(mut run) => self.explain_first(&mut run, answer),
             Err(NoMemory) => Err(NoMemory),

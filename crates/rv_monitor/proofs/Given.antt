@@ -8,10 +8,10 @@ use Rattle.std.proofs.lemmas.List.{map-append}
 use Rattle.rv_board.specs.Support.State.{BoardState, halted_of}
 use Rattle.rv_board.specs.Move.{run}
 use Rattle.rv_board.proofs.Runs.{run_append}
-use Rattle.rv_lists.specs.declared.input.Input.{Input}
-use Rattle.rv_lists.specs.declared.input.TimedInput.{TimedInput}
-use Rattle.rv_lists.specs.Timed.{never_falls, inserted}
-use Rattle.rv_lists.proofs.Inserted.{rises}
+use Rattle.rv_timeline.specs.declared.input.Input.{Input}
+use Rattle.rv_timeline.specs.declared.input.TimedInput.{TimedInput}
+use Rattle.rv_timeline.specs.Timed.{never_falls, inserted}
+use Rattle.rv_timeline.proofs.Inserted.{rises}
 use Rattle.rv_monitor.specs.Events.{event_of, inputs_at, events_of}
 use Rattle.rv_monitor.specs.Support.TimedCalls.{IsRefused}
 use Rattle.rv_monitor.specs.State.{Addresses, TimedState, IsInTime, rest, count_before, begun, after, with_due, given}

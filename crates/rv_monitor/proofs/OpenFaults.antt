@@ -4,10 +4,10 @@ use Rattle.std.specs.Prelude.{◌≢◌}
 use Rattle.rv_board.specs.Boot.{boot_fault}
 use Rattle.rv_board.specs.declared.event.BootFault.{BootFault}
 use Rattle.rv_board.specs.declared.event.BootFault.TheVariants as boot
-use Rattle.rv_lists.specs.Timed.{IsRead}
-use Rattle.rv_lists.specs.declared.fault.TimelineFault.{TimelineFault}
-use Rattle.rv_lists.specs.declared.fault.TimelineFault.TheVariants as list
-use Rattle.rv_lists.specs.declared.input.TimedInput.{TimedInput}
+use Rattle.rv_timeline.specs.Timed.{IsRead}
+use Rattle.rv_timeline.specs.declared.fault.TimelineFault.{TimelineFault}
+use Rattle.rv_timeline.specs.declared.fault.TimelineFault.TheVariants as list
+use Rattle.rv_timeline.specs.declared.input.TimedInput.{TimedInput}
 use Rattle.rv_program.specs.Program.{Assembly}
 use Rattle.rv_monitor.specs.Support.OpenFaults.{board_fault, list_fault}
 use Rattle.rv_monitor.specs.Opening.{Opens}

@@ -3,8 +3,8 @@ use Rattle.std.proofs.Common.{◌≡◌, ◌∙◌, ℕ, zero, suc, ◌+◌, ◌
 use Rattle.std.specs.Prelude.{◌⊎◌, None}
 use Rattle.std.proofs.lemmas.Bool.{cases_lt}
 use Rattle.rv_board.specs.Support.State.{BoardState, halted_of}
-use Rattle.rv_lists.specs.declared.input.TimedInput.{TimedInput}
-use Rattle.rv_lists.specs.Timed.{never_falls}
+use Rattle.rv_timeline.specs.declared.input.TimedInput.{TimedInput}
+use Rattle.rv_timeline.specs.Timed.{never_falls}
 use Rattle.rv_monitor.specs.State.{Addresses, TimedState, IsInTime, begun, after, with_due}
 use Rattle.rv_monitor.specs.Stops.{stop_after}
 use Rattle.rv_monitor.specs.Laws.{IsReached}

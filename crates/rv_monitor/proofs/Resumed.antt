@@ -6,8 +6,8 @@ use Rattle.std.proofs.lemmas.Bool.{cases_lt, eqb-true, false≢true, lt-ltb}
 use Rattle.rv_base.specs.declared.memory.NoMemory.{NoMemory}
 use Rattle.rv_board.specs.Support.State.{BoardState, halted_of, pc_of}
 use Rattle.rv_board.specs.Move.{run}
-use Rattle.rv_lists.specs.declared.input.TimedInput.{TimedInput}
-use Rattle.rv_lists.specs.Timed.{never_falls}
+use Rattle.rv_timeline.specs.declared.input.TimedInput.{TimedInput}
+use Rattle.rv_timeline.specs.Timed.{never_falls}
 use Rattle.rv_monitor.specs.declared.stop.Stop.{Stop}
 use Rattle.rv_monitor.specs.Events.{event_of, inputs_at, events_of}
 use Rattle.rv_monitor.specs.Laws.{IsReached}

@@ -11,10 +11,10 @@ use Rattle.rv_board.specs.Support.MoveParts.{happens}
 use Rattle.rv_board.specs.Support.PlainSteps.{after_steps}
 use Rattle.rv_board.specs.declared.event.Event.TheVariants.{Step}
 use Rattle.rv_board.proofs.Runs.{run_append, run_more}
-use Rattle.rv_lists.specs.declared.input.Input.{Input}
-use Rattle.rv_lists.specs.declared.input.Input.TheVariants.{Rx, Line}
-use Rattle.rv_lists.specs.declared.input.TimedInput.{TimedInput}
-use Rattle.rv_lists.specs.Timed.{never_falls}
+use Rattle.rv_timeline.specs.declared.input.Input.{Input}
+use Rattle.rv_timeline.specs.declared.input.Input.TheVariants.{Rx, Line}
+use Rattle.rv_timeline.specs.declared.input.TimedInput.{TimedInput}
+use Rattle.rv_timeline.specs.Timed.{never_falls}
 use Rattle.rv_monitor.specs.Events.{event_of, inputs_at, events_of}
 use Rattle.rv_monitor.specs.State.{TimedState, IsInTime, rest, count_before, after, with_due}
 use Rattle.rv_monitor.proofs.Times.{from, of, from_earlier, late_from, late_of, late_count, drop_rises, drop_from, none_before, due_step, later_of, later_count, none_of, count_most}

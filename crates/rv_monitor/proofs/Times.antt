@@ -4,8 +4,8 @@ use Rattle.std.specs.Prelude.{nat_le, nat_lt, nat_eq, ◌==◌, filter}
 use Rattle.std.specs.List.{list_all}
 use Rattle.std.proofs.lemmas.List.Sums.{length-filter, count_by-le-length}
 use Rattle.std.proofs.lemmas.Bool.{and_parts, leb-true, ltb-true, ltb-false, le-leb, le-ltb, lt-ltb, ne_eqb}
-use Rattle.rv_lists.specs.declared.input.TimedInput.{TimedInput}
-use Rattle.rv_lists.specs.Timed.{never_falls}
+use Rattle.rv_timeline.specs.declared.input.TimedInput.{TimedInput}
+use Rattle.rv_timeline.specs.Timed.{never_falls}
 use Rattle.rv_monitor.specs.State.{count_before}
 
 suc_sum : (a b c : ℕ) → a + b ≡ c → suc a + b ≡ suc c

@@ -3,7 +3,7 @@ use Rattle.std.proofs.Common.{◌≡◌, ◌+◌, ◌*◌, ◌∷◌, [], ℕ, O
 use Rattle.std.specs.Option.{option_map}
 use Rattle.rv_board.specs.Support.State.{BoardState}
 use Rattle.rv_ram.specs.Bytes.{value_at}
-use Rattle.rv_lists.specs.Timed.{all_of}
+use Rattle.rv_timeline.specs.Timed.{all_of}
 use Rattle.rv_monitor.specs.Support.Labels.{word_from}
 use Rattle.rv_monitor.specs.Views.{byte_at_offset, word_at}
 

@@ -2,7 +2,7 @@
 -- The states that a board comes to by its inputs and its steps.
 use Rattle.std.specs.Prelude.{◌≡◌, ◌⊎◌, ℕ, ◌<◌, true, None}
 use Rattle.rv_board.specs.BoardState.{BoardState}
-use Rattle.rv_lists.specs.Timed.{never_falls}
+use Rattle.rv_timeline.specs.Timed.{never_falls}
 use Rattle.rv_monitor.specs.State.{TimedState, begun, after, with_due}
 
 -- a state is what its steps and its inputs make of a board: the inputs of the next step were given, or they

@@ -3,9 +3,9 @@
 use Rattle.std.specs.Prelude.{◌≡◌, ℕ, ◌*◌, ⊤, List, length, None, Some, Result, Ok, Err}
 use Rattle.rv_board.specs.Boot.{boot_fault}
 use Rattle.rv_board.specs.Boot as boot
-use Rattle.rv_lists.specs.Timed.{IsRead}
-use Rattle.rv_lists.specs.declared.fault.TimelineFault.TheVariants.{BadLine}
-use Rattle.rv_lists.specs.declared.input.TimedInput.{TimedInput}
+use Rattle.rv_timeline.specs.Timed.{IsRead}
+use Rattle.rv_timeline.specs.declared.fault.TimelineFault.TheVariants.{BadLine}
+use Rattle.rv_timeline.specs.declared.input.TimedInput.{TimedInput}
 use Rattle.rv_program.specs.Program.{Assembly}
 use Rattle.rv_monitor.specs.State.{SessionState, new_session}
 use Rattle.rv_monitor.specs.declared.opening.OpenFault.{OpenFault}

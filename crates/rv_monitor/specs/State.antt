@@ -6,9 +6,9 @@ use Rattle.rv_program.specs.Program.{Assembly}
 use Rattle.rv_board.specs.BoardState.{BoardState}
 use Rattle.rv_board.specs.Move.{run}
 use Rattle.rv_board.specs.declared.event.Event.{Event}
-use Rattle.rv_lists.specs.Timed.{never_falls, inserted}
-use Rattle.rv_lists.specs.declared.input.Input.{Input}
-use Rattle.rv_lists.specs.declared.input.TimedInput.{TimedInput}
+use Rattle.rv_timeline.specs.Timed.{never_falls, inserted}
+use Rattle.rv_timeline.specs.declared.input.Input.{Input}
+use Rattle.rv_timeline.specs.declared.input.TimedInput.{TimedInput}
 pub use Rattle.rv_monitor.specs.Support.Breaks.{Addresses}
 use Rattle.rv_monitor.specs.Support.Breaks.{Breaks, no_breaks, with_address, without_address}
 use Rattle.rv_monitor.specs.Events.{inputs_at, events_of}

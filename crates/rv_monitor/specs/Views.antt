@@ -9,7 +9,7 @@ use Rattle.rv_isa.specs.Support.Meaning.{means}
 use Rattle.rv_isa.specs.Text.{text}
 use Rattle.rv_pmp.specs.Mode.{is_machine}
 use Rattle.rv_ram.specs.Bytes.{value_at}
-use Rattle.rv_lists.specs.Timed.{all_of}
+use Rattle.rv_timeline.specs.Timed.{all_of}
 use Rattle.rv_plic.specs.Gateways.{edges_of}
 use Rattle.rv_bus.specs.Access.{ram_byte}
 use Rattle.rv_board.specs.BoardState.{BoardState, csr_of}

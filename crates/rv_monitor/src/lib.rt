@@ -13,7 +13,7 @@ mod views;
 
 pub use command::Next;
 pub use opening::{OpenFault, open_session};
-pub use rv_lists::{Timeline, TimelineFault};
+pub use rv_timeline::{Timeline, TimelineFault};
 pub use session::{Session, breakpoints_are_a_set, calls_join, given_as_listed};
 pub use stop::Stop;
 pub use views::{

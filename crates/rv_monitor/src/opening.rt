@@ -6,9 +6,9 @@ ghost use Rattle.rv_monitor.specs.Opening.{Opens};
 use crate::session::Session;
 use rv_board::{BootFault, BootedBoard};
 use rv_cache::DecodeCache;
-use rv_lists::{Timeline, TimelineFault};
 use rv_program::Program;
 use rv_ram::PagedRam;
+use rv_timeline::{Timeline, TimelineFault};
 use std::alloc::Global;
 
 /// Why no session is opened.

@@ -3,9 +3,9 @@ ghost use Rattle.std.specs.Prelude.{◌≡◌, ◌==◌, ◌≤◌, ℕ, ◌+◌
 ghost use Rattle.std.specs.FinSet as set;
 ghost use Rattle.rv_board.specs.Move.{run};
 ghost use Rattle.rv_board.specs.Support.State.{BoardState};
-ghost use Rattle.rv_lists.specs.Timed.{inserted, never_falls};
-ghost use Rattle.rv_lists.specs.declared.input.Input.{Input};
-ghost use Rattle.rv_lists.specs.declared.input.TimedInput.{TimedInput};
+ghost use Rattle.rv_timeline.specs.Timed.{inserted, never_falls};
+ghost use Rattle.rv_timeline.specs.declared.input.Input.{Input};
+ghost use Rattle.rv_timeline.specs.declared.input.TimedInput.{TimedInput};
 ghost use Rattle.rv_program.specs.Program.{Assembly};
 ghost use Rattle.rv_monitor.specs.Events.{events_of};
 ghost use Rattle.rv_monitor.specs.Laws.{IsReached};
@@ -21,9 +21,9 @@ use rv_base::NoMemory;
 use rv_board::Board;
 use rv_cache::Decoded;
 use rv_hart::Outcome;
-use rv_lists::{Input, TimedInput, Timeline};
 use rv_program::Program;
 use rv_ram::ByteMemory;
+use rv_timeline::{Input, TimedInput, Timeline};
 use std::alloc::Global;
 use std::marker::Model;
 

@@ -6,9 +6,9 @@ use Rattle.std.specs.Prelude.{Option, Some, None, Result, Ok, Err, IfOk}
 use Rattle.std.specs.Option.{option_map}
 use Rattle.rv_base.specs.declared.memory.NoMemory.{NoMemory}
 use Rattle.rv_base.specs.Numbers.{hex_byte}
-use Rattle.rv_lists.specs.Timed.{all_of, byte_input}
-use Rattle.rv_lists.specs.declared.input.Input.{Input}
-use Rattle.rv_lists.specs.declared.input.Input.TheVariants.{Rx}
+use Rattle.rv_timeline.specs.Timed.{all_of, byte_input}
+use Rattle.rv_timeline.specs.declared.input.Input.{Input}
+use Rattle.rv_timeline.specs.declared.input.Input.TheVariants.{Rx}
 use Rattle.rv_operands.specs.Operands.{unescaped}
 use Rattle.rv_operands.specs.Support.Words.{Reads, escape_of, text_inputs}
 

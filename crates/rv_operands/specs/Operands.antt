@@ -16,9 +16,9 @@ use Rattle.rv_asm.specs.Lines.{Listed, bytes_of}
 use Rattle.rv_asm.specs.Lines as listing
 use Rattle.rv_answers.specs.Memory.{escapes}
 use Rattle.rv_board.specs.Support.State.{BoardState, pc_of}
-use Rattle.rv_lists.specs.Timed.{all_of, byte_input}
-use Rattle.rv_lists.specs.declared.input.Input.{Input}
-use Rattle.rv_lists.specs.declared.input.Input.TheVariants.{Rx}
+use Rattle.rv_timeline.specs.Timed.{all_of, byte_input}
+use Rattle.rv_timeline.specs.declared.input.Input.{Input}
+use Rattle.rv_timeline.specs.declared.input.Input.TheVariants.{Rx}
 use Rattle.rv_commands.specs.Addresses.{address_of}
 use Rattle.rv_recording.specs.Until.{watched_value}
 use Rattle.rv_recording.specs.declared.until.Watched.{Watched}

@@ -2,15 +2,15 @@
 ghost use Rattle.std.specs.Prelude.{◌≡◌, ◌++◌, [], ◌∷◌, IfOk, OnOk};
 ghost use Rattle.std.specs.Option.{option_map};
 ghost use Rattle.rv_base.specs.Words.{words};
-ghost use Rattle.rv_lists.specs.Timed.{all_of, byte_input};
+ghost use Rattle.rv_timeline.specs.Timed.{all_of, byte_input};
 ghost use Rattle.rv_operands.specs.Operands.{bytes_inputs, unescaped};
-ghost use Rattle.rv_lists.specs.declared.input.Input.TheVariants.{Rx};
+ghost use Rattle.rv_timeline.specs.declared.input.Input.TheVariants.{Rx};
 ghost use Rattle.rv_operands.specs.Support.Words.{Reads, escape_of, text_inputs};
 
 use crate::word::trimmed;
 use rv_answers::escapes;
 use rv_base::{NoMemory, first_word, hex_byte, look_up};
-use rv_lists::Input;
+use rv_timeline::Input;
 use rv_tokens::between;
 use std::alloc::Global;
 

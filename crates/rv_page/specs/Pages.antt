@@ -1,11 +1,18 @@
 -- To audit: public contracts cite this.
 -- What a call of the page leaves, and what it copies.
-use Rattle.std.specs.Prelude.{◌≡◌, ◌≢◌, ℕ, false, None, IfSome, Ok, Err, List, [], max, take, drop}
+use Rattle.std.specs.Prelude.{◌≡◌, ◌≢◌, ℕ, false, None, IfSome, Ok, Err, List, [], ◌∷◌, ◌++◌, codes, max, take, drop, option_map, unwrap_or, Option}
 use Rattle.std.specs.Option.{option_map_or}
 use Rattle.rv_asm.specs.Lines.{listed}
+use Rattle.serde_json.specs.Written.{compact_text}
+use Rattle.rv_json.specs.Json.{answer_data}
+use Rattle.rv_operands.specs.Operands.{operand_text}
+use Rattle.rv_lab.specs.Answers.{answer_of}
 use Rattle.rv_lab.specs.Opening.{OpensLab}
 use Rattle.rv_lab.specs.State.{LabState, listing}
+use Rattle.rv_lab.specs.Words.{line_command}
 use Rattle.rv_lab.specs.declared.fault.LabFault.{LabFault}
+use Rattle.rv_lab.specs.declared.lab.Next.{Next}
+use Rattle.rv_lab.specs.declared.lab.Next.TheVariants as next
 use Rattle.rv_lab.specs.declared.fault.LabFault.TheVariants.{OutOfMemory}
 use Rattle.rv_page.specs.declared.state.State.{State}
 
@@ -50,3 +57,28 @@ IsRefused source inputs pages slots =
 -- the bytes of a text that are copied from a place on: as many as there is room for
 abbrev pub copied : List ℕ → ℕ → ℕ → List ℕ
 copied text from room = take room (drop from text)
+
+-- ---- looks
+
+-- the JSON of what a command line answers, if its command is one that only looks
+unfoldable pub look_text : LabState → List ℕ → Option (List ℕ)
+look_text l line = option_map (λ answer. compact_text (answer_data (listing l).labels answer))
+    (answer_of (line_command line) (operand_text line) l)
+
+-- as a line, which is null for any other
+abbrev pub look_line : LabState → List ℕ → List ℕ
+look_line l line = unwrap_or (look_text l line) (codes "null") ++ 10 ∷ []
+
+-- what each of some lines answers
+unfoldable pub looks : LabState → List (List ℕ) → List ℕ
+looks l [] = []
+looks l (line ∷ more) = look_line l line ++ looks l more
+
+-- ---- what follows
+
+-- the code of what follows a command
+abbrev pub code_of : Next → ℕ
+code_of next.More = 0
+code_of next.Running = 1
+code_of next.Save = 2
+code_of next.Quit = 3

@@ -4,14 +4,16 @@
 //! A handle lends its state to each call, so what is only read takes no memory.
 #![tactic(auto)]
 
-ghost use Rattle.std.specs.Prelude.{◌≡◌, ◌≤◌, ◌==◌, ◌⊎◌, ◌++◌, true, false, not, drop, length, max, [], Some, IfSome, is_some};
+ghost use Rattle.std.specs.Prelude.{◌≡◌, ◌≤◌, ◌==◌, ◌⊎◌, ◌++◌, true, false, not, drop, length, max, [], Some, None, IfSome, is_some};
 ghost use Rattle.rv_lab.specs.State.{setup};
-ghost use Rattle.rv_lab.specs.Commands.{GoesOn, IsWithin, Obeys, With, call_limit};
+ghost use Rattle.rv_lab.specs.Commands.{GoesOn, IsWithin, Obeys, With, call_limit, next_after, next_of};
 ghost use Rattle.rv_lab.specs.Words.{line_command};
-ghost use Rattle.rv_page.specs.Pages.{IsOpened, IsRefused, OfLabs, copied, empty, in_pieces, sent, taken};
+ghost use Rattle.rv_base.specs.Lines.{lines};
+ghost use Rattle.rv_page.specs.Pages.{IsOpened, IsRefused, OfLabs, code_of, copied, empty, in_pieces, looks, sent, taken};
 
 mod copying;
 mod handle;
+mod looks;
 mod state;
 
 use crate::copying::copy_from;
@@ -69,9 +71,25 @@ pub extern "C" fn page_command(handle: &mut Handle, line: &[u8], most: u64) -> u
     ensures setup { OfLabs handle.old.value handle.new.value (λ l m. setup m ≡ setup (in_pieces most l)) }
     ensures obeys { result ≤ 3 → OfLabs handle.old.value handle.new.value
         (λ l. Obeys line.now (in_pieces most l)) }
+    ensures follows { result ≤ 3 → OfLabs handle.old.value handle.new.value (λ l m. result
+        ≡ code_of (next_after line.now l.recording.session m)) }
     ensures bound { OfLabs handle.old.value handle.new.value (IsWithin (call_limit (line_command line.now) most)) }
 {
     handle.state().command(line, most)
+}
+
+/// Answers command lines, of which each ends with a line feed: the text has a line of JSON for each, which is its answer
+/// if its command is one that only looks, and `null` for any other (docs/JSON.md). The lab stays as it is. The code is
+/// 0, 4 if memory ran out, and 5 if there is no lab.
+#[unsafe(no_mangle)]
+pub extern "C" fn page_look(handle: &mut Handle, text: &[u8]) -> u32
+    ensures code { (result ≡ 0) ⊎ (result ≡ 4) ⊎ (result ≡ 5) }
+    ensures none { is_some handle.old.value.lab ≡ not (result == 5) }
+    ensures lab { handle.new.value.lab ≡ handle.old.value.lab }
+    ensures looks { result ≡ 0 → IfSome handle.old.value.lab
+        (λ l. handle.new.value.answer.bytes ≡ looks l (lines text.now)) }
+{
+    handle.state().look(text)
 }
 
 /// Goes on with the run that isn't over, if there is one, by at most `most` steps. The text and the code are
@@ -84,6 +102,9 @@ pub extern "C" fn page_go_on(handle: &mut Handle, most: u64) -> u32
     ensures setup { OfLabs handle.old.value handle.new.value (λ l m. setup m ≡ setup (in_pieces most l)) }
     ensures continues { result ≤ 3 → OfLabs handle.old.value handle.new.value
         (λ l. With l.plan GoesOn (in_pieces most l)) }
+    ensures follows { result ≤ 3 → OfLabs handle.old.value handle.new.value (λ l m. result ≡ code_of (next_of m)) }
+    ensures quiet { result ≤ 3 → IfSome handle.old.value.lab
+        (λ l. l.plan ≡ None → handle.new.value.answer.bytes ≡ []) }
     ensures bound { OfLabs handle.old.value handle.new.value (IsWithin (max most 1)) }
 {
     handle.state().go_on(most)

@@ -1,19 +1,21 @@
 //! What the page keeps between two calls.
-ghost use Rattle.std.specs.Prelude.{◌≡◌, ◌≤◌, ◌==◌, ◌⊎◌, not, max, [], IfErr, IfSome, is_some};
+ghost use Rattle.std.specs.Prelude.{◌≡◌, ◌≤◌, ◌==◌, ◌⊎◌, not, max, [], None, IfErr, IfOk, IfSome, is_some};
 ghost use Rattle.rv_lab.specs.State.{setup};
-ghost use Rattle.rv_lab.specs.Commands.{GoesOn, IsWithin, Obeys, With, call_limit};
+ghost use Rattle.rv_lab.specs.Commands.{GoesOn, IsWithin, Obeys, With, call_limit, next_after, next_of};
 ghost use Rattle.rv_lab.specs.Words.{line_command};
-ghost use Rattle.rv_page.specs.Pages.{IsOpened, IsRefused, OfLabs, empty, in_pieces, sent, taken};
+ghost use Rattle.rv_base.specs.Lines.{lines};
+ghost use Rattle.rv_page.specs.Pages.{IsOpened, IsRefused, OfLabs, code_of, empty, in_pieces, looks, sent, taken};
 
+use crate::looks::append_looks;
 use rv_base::NoMemory;
-use rv_lab::{Answer, Lab, LabFault, Next, Sizes, append_diagnosis};
+use rv_lab::{Lab, LabFault, Next, Printer, Sizes, append_diagnosis};
 use std::alloc::Global;
 
 /// A lab or none, and the text of the last answer.
 #[derive(Drop)]
 pub struct State {
     pub lab: Option<Lab>,
-    pub answer: Answer,
+    pub answer: Printer,
 }
 
 /// The codes of a load, beside `NO_MEMORY`.
@@ -37,6 +39,7 @@ const NO_LAB: u32 = 5;
 /// Returns the code of what follows a command.
 fn code_of(next: Result<Next, NoMemory>) -> u32
     ensures codes { result ≤ 4 }
+    ensures follows { IfOk next (λ n. result ≡ code_of n) }
     ensures memory { IfErr next (λ e. result ≡ 4) }
 {
     match next {
@@ -55,7 +58,7 @@ impl State {
     {
         State {
             lab: None,
-            answer: Answer::new(alloc),
+            answer: Printer::new(alloc),
         }
     }
 
@@ -91,6 +94,8 @@ impl State {
         ensures lab { is_some self.new.lab ≡ is_some self.old.lab }
         ensures setup { OfLabs self.old self.new (λ l m. setup m ≡ setup (in_pieces most l)) }
         ensures obeys { result ≤ 3 → OfLabs self.old self.new (λ l. Obeys line.now (in_pieces most l)) }
+        ensures follows { result ≤ 3 → OfLabs self.old self.new (λ l m. result
+            ≡ code_of (next_after line.now l.recording.session m)) }
         ensures bound { OfLabs self.old self.new (IsWithin (call_limit (line_command line.now) most)) }
     {
         self.answer.clear();
@@ -99,6 +104,23 @@ impl State {
                 lab.set_piece(most);
                 code_of(lab.command(line, &mut self.answer))
             }
+            None => NO_LAB,
+        }
+    }
+
+    /// Answers command lines that only look.
+    pub(crate) fn look(&mut self, text: &[u8]) -> u32
+        ensures code { (result ≡ 0) ⊎ (result ≡ 4) ⊎ (result ≡ 5) }
+        ensures none { is_some self.old.lab ≡ not (result == 5) }
+        ensures lab { self.new.lab ≡ self.old.lab }
+        ensures looks { result ≡ 0 → IfSome self.old.lab (λ l. self.new.answer.bytes ≡ looks l (lines text.now)) }
+    {
+        self.answer.clear();
+        match &self.lab {
+            Some(lab) => match append_looks(lab, text, &mut self.answer) {
+                Ok(()) => MORE,
+                Err(NoMemory) => NO_MEMORY,
+            },
             None => NO_LAB,
         }
     }
@@ -112,6 +134,8 @@ impl State {
         ensures setup { OfLabs self.old self.new (λ l m. setup m ≡ setup (in_pieces most l)) }
         ensures continues { result ≤ 3 → OfLabs self.old self.new
             (λ l. With l.plan GoesOn (in_pieces most l)) }
+        ensures follows { result ≤ 3 → OfLabs self.old self.new (λ l m. result ≡ code_of (next_of m)) }
+        ensures quiet { result ≤ 3 → IfSome self.old.lab (λ l. l.plan ≡ None → self.new.answer.bytes ≡ []) }
         ensures bound { OfLabs self.old self.new (IsWithin (max most 1)) }
     {
         self.answer.clear();

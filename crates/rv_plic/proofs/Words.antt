@@ -36,32 +36,25 @@ and_word a b is =
           omega (arith, bit_at_lowest a, bit_at_lowest b, bit_at_lowest (bit_and a b), bit_at_and a b 0);
     }
 
+-- two functions of bits that are equal at each pair of bits
+same_at_bits : (f g : ℕ → ℕ → Bool) → f 0 0 ≡ g 0 0 → f 0 1 ≡ g 0 1 → f 1 0 ≡ g 1 0 → f 1 1 ≡ g 1 1
+    → (x y : ℕ) → x < 2 → y < 2 → f x y ≡ g x y
+same_at_bits f g none right left both zero zero h k = none
+same_at_bits f g none right left both zero (suc zero) h k = right
+same_at_bits f g none right left both (suc zero) zero h k = left
+same_at_bits f g none right left both (suc zero) (suc zero) h k = both
+same_at_bits f g none right left both (suc (suc x)) y h k = absurd (omega arith)
+same_at_bits f g none right left both zero (suc (suc y)) h k = absurd (omega arith)
+same_at_bits f g none right left both (suc zero) (suc (suc y)) h k = absurd (omega arith)
+
 max_one : (x y : ℕ) → x < 2 → y < 2 → (max x y == 1) ≡ (x == 1 || y == 1)
-max_one zero zero h k = refl
-max_one zero (suc zero) h k = refl
-max_one (suc zero) zero h k = refl
-max_one (suc zero) (suc zero) h k = refl
-max_one (suc (suc x)) y h k = absurd (omega arith)
-max_one zero (suc (suc y)) h k = absurd (omega arith)
-max_one (suc zero) (suc (suc y)) h k = absurd (omega arith)
+max_one = same_at_bits (λ x y. max x y == 1) (λ x y. x == 1 || y == 1) refl refl refl refl
 
 min_one : (x y : ℕ) → x < 2 → y < 2 → (min x y == 1) ≡ (x == 1 && y == 1)
-min_one zero zero h k = refl
-min_one zero (suc zero) h k = refl
-min_one (suc zero) zero h k = refl
-min_one (suc zero) (suc zero) h k = refl
-min_one (suc (suc x)) y h k = absurd (omega arith)
-min_one zero (suc (suc y)) h k = absurd (omega arith)
-min_one (suc zero) (suc (suc y)) h k = absurd (omega arith)
+min_one = same_at_bits (λ x y. min x y == 1) (λ x y. x == 1 && y == 1) refl refl refl refl
 
 min_not_one : (x y : ℕ) → x < 2 → y < 2 → (min x (1 - y) == 1) ≡ (x == 1 && not (y == 1))
-min_not_one zero zero h k = refl
-min_not_one zero (suc zero) h k = refl
-min_not_one (suc zero) zero h k = refl
-min_not_one (suc zero) (suc zero) h k = refl
-min_not_one (suc (suc x)) y h k = absurd (omega arith)
-min_not_one zero (suc (suc y)) h k = absurd (omega arith)
-min_not_one (suc zero) (suc (suc y)) h k = absurd (omega arith)
+min_not_one = same_at_bits (λ x y. min x (1 - y) == 1) (λ x y. x == 1 && not (y == 1)) refl refl refl refl
 
 pub union_word : (a b : ℕ) → IsSourceWord a → IsSourceWord b
     → sources_of (bit_or a b) ≡ union (sources_of a) (sources_of b)

@@ -2,5 +2,6 @@ pub mod Stands
 pub mod Running
 pub mod Outward
 pub mod Keeping
-pub mod Ahead
+pub mod Counting
+pub mod Taken
 pub mod NextBreak

@@ -1,50 +1,44 @@
 -- Runs out of calls, step by step.
-use Rattle.std.proofs.Common.{◌≡◌, ◌∙◌, ℕ, suc, ◌+◌, ◌<◌, ◌==◌, Bool, refl, sym, ap, inl, inr}
+use Rattle.std.proofs.Common.{◌≡◌, ◌∙◌, ℕ, suc, ◌+◌, ◌<◌, ◌==◌, Bool, refl, sym, ap, arith, inl, inr}
 use Rattle.std.proofs.Math.Numerals.{add-one}
-use Rattle.std.specs.Prelude.{Option, Some, None, Result, Ok, Err}
+use Rattle.std.specs.Prelude.{nat_lt, Option, Some, None, Result, Ok, Err}
 use Rattle.rv_base.specs.declared.memory.NoMemory.{NoMemory}
 use Rattle.rv_monitor.specs.State.{IsInTime, TimedState, after}
 use Rattle.rv_monitor.specs.Stops.{steps_between}
 use Rattle.rv_recording.specs.Recording.{RecordingState}
 use Rattle.rv_recording.specs.Until.{HasRun}
-use Rattle.rv_recording.specs.Support.Refused.{IsRefusedIn, end_with}
-use Rattle.rv_recording.specs.Out.{open_at}
-use Rattle.rv_recording.specs.Support.Steps.{StepsOut, TakesOne, end_after, open_of_step}
+use Rattle.rv_recording.specs.Support.Refused.{IsRefusedIn}
+use Rattle.rv_recording.specs.Out.{open_at, out_ends}
+use Rattle.rv_recording.specs.Support.Steps.{StepsOut, TakesOne, end_after, end_before, next_of, open_of_step}
 use Rattle.rv_recording.specs.declared.until.End.{End}
 use Rattle.rv_recording.specs.declared.until.End.TheVariants.{Limit, Stuck}
-use Rattle.rv_recording.proofs.Running.{Going, begins, goes_on, ended, limit, refused, taken_is, due_is, due_at, one_more, after_suc, others_at, others_next, others_due}
-
--- no call is open after n steps
-abbrev pub is_out : ℕ → RecordingState → ℕ → Bool
-is_out first old n = open_at first old.session.timed n == 0
-
--- why a run out of calls ends with its step number i
-abbrev pub out_with : ℕ → RecordingState → ℕ → Option End
-out_with first old = end_with (is_out first old) old.session
+use Rattle.rv_recording.proofs.Running.{Going, begins, before_is, goes_on, ended, limit, refused, taken_is, due_is, due_at, one_more, above_none, after_suc, late, others_at, others_next, others_due}
 
 -- n steps were taken, none of which ends the run, and `calls` is the number of open calls after them
 pub record GoingOut (first : ℕ) (old now : RecordingState) (calls n : ℕ) : Type 0 where
-  pub going : Going (out_with first old) old now n
+  pub going : Going (out_ends first old.session) old now n
   pub number : calls ≡ open_at first old.session.timed n
 
-pub begins_out : (first : ℕ) (old : RecordingState) → IsInTime old.session.timed → GoingOut first old old first 0
+pub begins_out : (first : ℕ) (old : RecordingState) (before : Option End) → IsInTime old.session.timed
+    → before ≡ end_before old.session → before ≡ None → GoingOut first old old first 0
 unfolding open_at
-begins_out first old in_time = record { going = begins (out_with first old) old in_time; number = refl }
+begins_out first old before in_time at e =
+    let is = at ∙ before_is (λ i. open_at first old.session.timed i == 0) old.session.breakpoints.addresses old.session in_time
+    in record { going = begins (out_ends first old.session) old before in_time at is e; number = refl }
 
 none_is : (end : End) → None ≡ Some end → ⊥
 none_is end h = cc
 
 -- a step by its end alone
 takes : (calls left : ℕ) (old new : RecordingState) (r : Result (Option End) NoMemory)
-    → StepsOut calls left old new r
-    → TakesOne (end_after (left == 0) old.session.breakpoints.addresses (after old.session.timed 1).board) old new r
+    → StepsOut calls left old new r → TakesOne (end_after (left == 0) (next_of old.session)) old new r
 takes calls left old new (Ok end) (inl t) = inl (t.0, t.2)
 takes calls left old new (Ok end) (inr t) = inr (t.0, t.1, t.3)
 takes calls left old new (Err why) t = (t.0, t.1, t.2)
 
 module _ (first : ℕ) (old : RecordingState) where
   abbrev ends : ℕ → Option End
-  ends = out_with first old
+  ends = out_ends first old.session
 
   -- the number of open calls after one step more
   open_suc : (now : RecordingState) (calls left n : ℕ) → GoingOut first old now calls n
@@ -54,54 +48,47 @@ module _ (first : ℕ) (old : RecordingState) where
       e ∙ (ap (λ (k : ℕ). open_of_step k now.session.timed) g.number
       ∙ ap (λ (r : RecordingState). open_of_step (open_at first old.session.timed n) r.session.timed) g.going.state)
 
-  open_more : (now : RecordingState) (calls left n : ℕ) → GoingOut first old now calls n
-      → left ≡ open_of_step calls now.session.timed → left ≡ open_at first old.session.timed (n + 1)
-  open_more now calls left n g e =
-      open_suc now calls left n g e ∙ ap (open_at first old.session.timed) (sym (add-one n))
-
   -- why the run ends with that step
   out_is : (now : RecordingState) (calls left n : ℕ) → GoingOut first old now calls n
-      → left ≡ open_of_step calls now.session.timed
-      → end_after (left == 0) now.session.breakpoints.addresses (after now.session.timed 1).board ≡ ends n
+      → left ≡ open_of_step calls now.session.timed → end_after (left == 0) (next_of now.session) ≡ ends (suc n)
   out_is now calls left n g e =
-      ap (λ (k : ℕ). end_after (k == 0) now.session.breakpoints.addresses (after now.session.timed 1).board)
-      (open_suc now calls left n g e)
-      ∙ (ap (λ (r : RecordingState). end_after (open_at first old.session.timed (suc n) == 0)
-      r.session.breakpoints.addresses (after r.session.timed 1).board) g.going.state
-      ∙ ap (λ (t : TimedState). end_after (open_at first old.session.timed (suc n) == 0)
-      old.session.breakpoints.addresses t.board) (after_suc old.session.timed n g.going.in_time))
+      ap (λ (k : ℕ). end_after (k == 0) (next_of now.session)) (open_suc now calls left n g e)
+      ∙ (ap (λ (r : RecordingState). end_after (open_at first old.session.timed (suc n) == 0) (next_of r.session)) g.going.state
+      ∙ ap (λ (t : TimedState). end_after (open_at first old.session.timed (suc n) == 0) (record old.session { timed = t }))
+      (after_suc old.session.timed n g.going.in_time)
+      ∙ late (nat_lt 0 (suc n)) _ _ _ _ (above_none n))
 
   pub goes_out : (now new : RecordingState) (calls left n : ℕ) → GoingOut first old now calls n
       → StepsOut calls left now new (Ok None) → GoingOut first old new left (n + 1)
   goes_out now new calls left n g (inl t) = record {
-    going = goes_on ends old now new n _ (out_is now calls left n g t.1) g.going (inl (t.0, t.2));
-    number = open_more now calls left n g t.1;
+    going = goes_on ends old (left == 0) now new n (out_is now calls left n g t.1) g.going (inl (t.0, t.2));
+    number = open_suc now calls left n g t.1 ∙ ap (open_at first old.session.timed) (sym (add-one n));
   }
   goes_out now new calls left n g (inr t) = absurd (none_is Stuck t.3)
 
   pub ends_out : (now new : RecordingState) (calls left most n : ℕ) (end : End) → n < most
       → GoingOut first old now calls n → StepsOut calls left now new (Ok (Some end))
-      → HasRun (is_out first old) most old.session new.session end
+      → HasRun ends most old.session new.session end
   ends_out now new calls left most n end k g (inl t) =
-      ended (is_out first old) old now new most n _ end (out_is now calls left n g t.1) k g.going (inl (t.0, t.2))
+      ended ends old now new most n _ end (out_is now calls left n g t.1) k g.going (inl (t.0, t.2))
   ends_out now new calls left most n end k g (inr t) =
-      ended (is_out first old) old now new most n (ends n) end refl k g.going (inr (t.0, t.1, t.3))
+      ended ends old now new most n (ends (suc n)) end refl k g.going (inr (t.0, t.1, t.3))
 
   pub open_ended : (now new : RecordingState) (calls left n : ℕ) (end : Option End)
       → GoingOut first old now calls n → StepsOut calls left now new (Ok end)
       → left ≡ open_at first old.session.timed (steps_between old.session.timed new.session.timed)
   open_ended now new calls left n end g (inl t) =
-      open_more now calls left n g t.1
+      open_suc now calls left n g t.1
       ∙ ap (open_at first old.session.timed)
-      (taken_is old new (n + 1) (one_more ends old now new n g.going t.0))
+      (taken_is old new (suc n) (one_more ends old now new n g.going t.0))
   open_ended now new calls left n end g (inr t) =
       t.2 ∙ (g.number ∙ ap (open_at first old.session.timed) (taken_is old new n (t.1 ∙ g.going.state)))
 
   pub refused_out : (now new : RecordingState) (calls left most n : ℕ) (why : NoMemory) → n < most
       → GoingOut first old now calls n → StepsOut calls left now new (Err why)
-      → IsRefusedIn (is_out first old) most old.session new.session
+      → IsRefusedIn ends most old.session new.session
   refused_out now new calls left most n why k g t =
-      refused (is_out first old) old now new most n (ends n) why k g.going (t.0, t.1, t.2)
+      refused ends old now new most n (ends n) why k g.going (t.0, t.1, t.2)
 
   pub open_refused : (now new : RecordingState) (calls left n : ℕ) (why : NoMemory) → GoingOut first old now calls n
       → StepsOut calls left now new (Err why)
@@ -111,8 +98,8 @@ module _ (first : ℕ) (old : RecordingState) where
       (due_is old new n (due_at ends old now new n g.going t.1)))
 
   pub limit_out : (now : RecordingState) (calls most : ℕ) → GoingOut first old now calls most
-      → HasRun (is_out first old) most old.session now.session Limit
-  limit_out now calls most g = limit (is_out first old) old now most g.going
+      → HasRun ends most old.session now.session Limit
+  limit_out now calls most g = limit ends old now most g.going
 
   pub open_limit : (now : RecordingState) (calls most : ℕ) → GoingOut first old now calls most
       → calls ≡ open_at first old.session.timed (steps_between old.session.timed now.session.timed)
@@ -137,3 +124,10 @@ module _ (first : ℕ) (old : RecordingState) where
       → new ≡ record old { session = new.session }
   others_refused now new calls left n why g t =
       others_due ends old now new n (ends n) why g.going (t.0, t.1, t.2)
+
+  -- a run that is over before its first step
+  pub open_before : first ≡ open_at first old.session.timed (steps_between old.session.timed old.session.timed)
+  unfolding open_at
+  open_before =
+      let none : steps_between old.session.timed old.session.timed ≡ 0 = omega arith in
+      sym (ap (open_at first old.session.timed) none)

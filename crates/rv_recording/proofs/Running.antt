@@ -1,41 +1,34 @@
 -- Runs, step by step.
 use Rattle.std.proofs.Common.{◌≡◌, ◌∙◌, ℕ, suc, ◌+◌, ◌-◌, ◌<◌, ◌≤◌, ◌==◌, Bool, true, false, refl, sym, ap, subst, arith, inl, inr, ⊎_elim}
-use Rattle.std.specs.Prelude.{◌&&◌, zero, nat_lt, if◌then◌else◌, is_some, unwrap_or, Option, Some, None, Ok, Err}
+use Rattle.std.specs.Prelude.{◌&&◌, zero, nat_lt, if◌then◌else◌, is_none, is_some, unwrap_or, Option, Some, None, Ok, Err}
 use Rattle.std.proofs.Math.Numerals.{add-one}
-use Rattle.std.proofs.lemmas.Bool.Decides.{nat_tests}
 use Rattle.std.proofs.lemmas.Bool.{cases_lt, false≢true}
+use Rattle.std.proofs.lemmas.Bool.Decides.{nat_tests}
 use Rattle.rv_base.specs.declared.memory.NoMemory.{NoMemory}
-use Rattle.rv_monitor.specs.State.{IsInTime, SessionState, TimedState, after, with_due}
+use Rattle.rv_board.specs.Support.State.{halted_of}
+use Rattle.rv_monitor.specs.State.{Addresses, IsInTime, SessionState, TimedState, after, with_due}
 use Rattle.rv_monitor.specs.Stops.{may_step, steps_between}
 use Rattle.rv_monitor.proofs.Steps.{after_none, after_more}
 use Rattle.rv_hart.specs.Step.{step}
 use Rattle.rv_recording.specs.Recording.{RecordingState, with_timed}
-use Rattle.rv_recording.specs.Until.{HasRun, comes, end_at, holds}
-use Rattle.rv_recording.specs.Support.Refused.{IsRefusedIn, NoneEnds, end_with}
-use Rattle.rv_recording.specs.Support.Steps.{TakesOne, end_after, end_of_step}
+use Rattle.rv_recording.specs.Until.{HasRun, comes, end_at, holds, steps_of, until_ends}
+use Rattle.rv_recording.specs.Support.Refused.{IsRefusedIn, NoneEnds}
+use Rattle.rv_recording.specs.Support.Steps.{TakesOne, end_after, end_before, end_of_step, next_of}
 use Rattle.rv_recording.specs.declared.until.Condition.{Condition}
 use Rattle.rv_recording.specs.declared.until.End.{End}
-use Rattle.rv_recording.specs.declared.until.End.TheVariants.{Limit, Stuck}
+use Rattle.rv_recording.specs.declared.until.End.TheVariants.{Halted, Reached, Breakpoint, Limit, Stuck}
+use Rattle.rv_recording.proofs.Counting.{all_steps, over_at, takes_more}
 
 -- the recording after n steps
 abbrev pub stands : RecordingState → ℕ → RecordingState
 stands old n = with_timed old (after old.session.timed n)
 
--- n steps were taken, none of which ends the run
+-- n steps were taken, after none of which the run was over
 pub record Going (ends : ℕ → Option End) (old now : RecordingState) (n : ℕ) : Type 0 where
   pub in_time : IsInTime old.session.timed
   pub state : now ≡ stands old n
-  pub going : NoneEnds ends n
-
-pub begins : (ends : ℕ → Option End) (old : RecordingState) → IsInTime old.session.timed → Going ends old old 0
-begins ends old in_time = record {
-  in_time = in_time;
-  state = ap (with_timed old) (sym (after_none old.session.timed in_time));
-  going = λ i l. absurd (omega arith);
-}
-
-is_stuck : (end : End) → Some end ≡ Some Stuck → end ≡ Stuck
-is_stuck end h = cc
+  pub going : NoneEnds ends (suc n)
+  pub may : may_step now.session ≡ true
 
 none_is : (end : End) → None ≡ Some end → ⊥
 none_is end h = cc
@@ -51,46 +44,81 @@ pub due_is : (old now : RecordingState) (n : ℕ)
 unfolding after with_due
 due_is old now n e = omega (arith, ap (λ (r : RecordingState). r.session.timed.taken) e)
 
-below : (m n : ℕ) (b : Bool) → (b && nat_lt m n) ≡ true → m < n
-below m n true h = grind (arith, nat_tests)
-below m n false h = absurd (false≢true h)
+-- ---- before the first step
 
--- a recording that may take a step has taken fewer than it may take
-pub allowed : (old now : RecordingState) (n : ℕ) → now ≡ stands old n → may_step now.session ≡ true
-    → n < old.session.limit - old.session.timed.taken
-unfolding after
-allowed old now n e may =
-    omega (
-      arith,
-      below now.session.timed.taken now.session.limit _ may,
-      ap (λ (r : RecordingState). r.session.timed.taken) e,
-      ap (λ (r : RecordingState). r.session.limit) e,
-    )
+pub before_is : (reached : ℕ → Bool) (breaks : Addresses) (s : SessionState) → IsInTime s.timed
+    → end_before s ≡ end_at reached breaks s 0
+before_is reached breaks s h =
+    ap (λ (t : TimedState). end_before (record s { timed = t })) (sym (after_none s.timed h))
+
+may_before : (h : Option ℕ) (l : Bool)
+    → (if is_some h then Some Halted else (if l then None else Some Stuck)) ≡ None → (is_none h && l) ≡ true
+may_before (Some code) l e = absurd cc
+may_before None true e = refl
+may_before None false e = absurd cc
+
+may_after : (h : Option ℕ) (r b l : Bool) → (if is_some h then Some Halted
+    else (if r then Some Reached else (if b then Some Breakpoint else (if l then None else Some Stuck)))) ≡ None
+    → (is_none h && l) ≡ true
+may_after (Some code) r b l e = absurd cc
+may_after None true b l e = absurd cc
+may_after None false true l e = absurd cc
+may_after None false false true e = refl
+may_after None false false false e = absurd cc
+
+first_none : (ends : ℕ → Option End) → ends 0 ≡ None → NoneEnds ends 1
+first_none ends e i l = let same : i ≡ 0 = omega (arith, l) in ap ends same ∙ e
+
+pub begins : (ends : ℕ → Option End) (old : RecordingState) (before : Option End) → IsInTime old.session.timed
+    → before ≡ end_before old.session → before ≡ ends 0 → before ≡ None → Going ends old old 0
+begins ends old before in_time at is e = record {
+  in_time = in_time;
+  state = ap (with_timed old) (sym (after_none old.session.timed in_time));
+  going = first_none ends (sym is ∙ e);
+  may = may_before (halted_of old.session.timed.board) _ (sym at ∙ e);
+}
+
+-- a run that is over before its first step
+pub over_before : (ends : ℕ → Option End) (old : RecordingState) (most : ℕ) (before : Option End) (end : End)
+    → IsInTime old.session.timed → before ≡ ends 0 → before ≡ Some end
+    → HasRun ends most old.session old.session end
+over_before ends old most before end in_time is e =
+    let none : steps_of ends most ≡ 0 =
+    over_at ends 0 most (omega arith) (λ i l. absurd (omega (arith, l))) (ap is_some (sym is ∙ e)) in
+    record {
+      state = ap (λ (t : TimedState). record old.session { timed = t }) (sym (after_none old.session.timed in_time))
+          ∙ ap (λ (n : ℕ). record old.session { timed = after old.session.timed n }) (sym none);
+      ended = sym (ap (λ (n : ℕ). unwrap_or (ends n) Limit) none ∙ ap (λ (o : Option End). unwrap_or o Limit) (sym is ∙ e));
+    }
 
 module _ (ends : ℕ → Option End) (old : RecordingState) where
-  pub more_goes : (n : ℕ) → NoneEnds ends n → ends n ≡ None → NoneEnds ends (n + 1)
+  -- one step more of a recording
+  pub one_more : (now new : RecordingState) (n : ℕ) → Going ends old now n
+      → new ≡ with_timed now (after now.session.timed 1) → new ≡ stands old (suc n)
+  one_more now new n g f =
+      f ∙ (ap (λ (r : RecordingState). with_timed r (after r.session.timed 1)) g.state
+      ∙ (ap (with_timed old) (after_more old.session.timed n 1 g.in_time.rising) ∙ ap (stands old) (add-one n)))
+
+  more_goes : (n : ℕ) → NoneEnds ends n → ends n ≡ None → NoneEnds ends (suc n)
   more_goes n going now i l = ⊎_elim
       (λ earlier. going i earlier)
       (λ later.
-      let same : i ≡ n = omega arith in
+      let same : i ≡ n = omega (arith, l, later) in
       ap ends same ∙ now)
       (cases_lt i n)
 
-  -- one step more of a recording
-  pub one_more : (now new : RecordingState) (n : ℕ) → Going ends old now n
-      → new ≡ with_timed now (after now.session.timed 1) → new ≡ stands old (n + 1)
-  one_more now new n g f =
-      f ∙ (ap (λ (r : RecordingState). with_timed r (after r.session.timed 1)) g.state
-      ∙ ap (with_timed old) (after_more old.session.timed n 1 g.in_time.rising))
-
-  pub goes_on : (now new : RecordingState) (n : ℕ) (end : Option End) → end ≡ ends n → Going ends old now n
-      → TakesOne end now new (Ok None) → Going ends old new (n + 1)
-  goes_on now new n end is g (inl t) = record {
+  pub goes_on : (reached : Bool) (now new : RecordingState) (n : ℕ) → end_after reached (next_of now.session) ≡ ends (suc n)
+      → Going ends old now n → TakesOne (end_after reached (next_of now.session)) now new (Ok None)
+      → Going ends old new (n + 1)
+  goes_on reached now new n is g (inl t) = record {
     in_time = g.in_time;
-    state = one_more now new n g t.0;
-    going = more_goes n g.going (sym (t.1 ∙ is));
+    state = one_more now new n g t.0 ∙ ap (stands old) (sym (add-one n));
+    going = subst (λ (k : ℕ). NoneEnds ends (suc k)) (sym (add-one n))
+        (more_goes (suc n) g.going (sym (t.1 ∙ is)));
+    may = ap (λ (r : RecordingState). may_step r.session) t.0
+        ∙ may_after (halted_of (next_of now.session).timed.board) reached _ _ (sym t.1);
   }
-  goes_on now new n end is g (inr t) = absurd (none_is Stuck t.2)
+  goes_on reached now new n is g (inr t) = absurd (none_is Stuck t.2)
 
   pub due_at : (now new : RecordingState) (n : ℕ) → Going ends old now n
       → new ≡ with_timed now (with_due now.session.timed)
@@ -98,107 +126,80 @@ module _ (ends : ℕ → Option End) (old : RecordingState) where
   due_at now new n g e =
       e ∙ ap (λ (r : RecordingState). with_timed r (with_due r.session.timed)) g.state
 
+  has_run : (new : RecordingState) (most n : ℕ) (end : End) → new ≡ stands old n → steps_of ends most ≡ n
+      → end ≡ unwrap_or (ends n) Limit → HasRun ends most old.session new.session end
+  has_run new most n end state is told = record {
+    state = ap (λ (r : RecordingState). r.session) state
+        ∙ ap (λ (k : ℕ). record old.session { timed = after old.session.timed k }) (sym is);
+    ended = told ∙ ap (λ (k : ℕ). unwrap_or (ends k) Limit) (sym is);
+  }
+
+  -- a run whose last step ends it
+  pub ended : (now new : RecordingState) (most n : ℕ) (end : Option End) (told : End) → end ≡ ends (suc n) → n < most
+      → Going ends old now n → TakesOne end now new (Ok (Some told)) → HasRun ends most old.session new.session told
+  ended now new most n end told is k g (inl t) =
+      let last : ends (suc n) ≡ Some told = sym (t.1 ∙ is) in
+      has_run new most (suc n) told (one_more now new n g t.0)
+      (over_at ends (suc n) most (omega (arith, k)) g.going (ap is_some last))
+      (sym (ap (λ (o : Option End). unwrap_or o Limit) last))
+  ended now new most n end told is k g (inr t) = absurd (false≢true (sym t.0 ∙ g.may))
+
+  pub limit : (now : RecordingState) (most : ℕ) → Going ends old now most
+      → HasRun ends most old.session now.session Limit
+  limit now most g =
+      has_run now most most Limit g.state (all_steps ends most (λ i l. g.going i (omega (arith, l))))
+      (sym (ap (λ (o : Option End). unwrap_or o Limit) (g.going most (omega arith))))
+
+  pub refused : (now new : RecordingState) (most n : ℕ) (end : Option End) (why : NoMemory) → n < most
+      → Going ends old now n → TakesOne end now new (Err why)
+      → IsRefusedIn ends most old.session new.session
+  refused now new most n end why k g t =
+      let is = due_at now new n g t.1 in
+      let same = due_is old new n is in
+      record {
+        within = subst (λ (m : ℕ). m < steps_of ends most) same (takes_more ends n most k g.going);
+        state = ap (λ (r : RecordingState). r.session)
+            (subst (λ m. new ≡ with_timed old (with_due (after old.session.timed m))) same is);
+        next_writes = t.2;
+      }
+
+-- after a step
+pub late : (z r b l : Bool) (h : Option ℕ) → z ≡ true
+    → (if is_some h then Some Halted
+    else (if r then Some Reached else (if b then Some Breakpoint else (if l then None else Some Stuck))))
+    ≡ (if is_some h then Some Halted
+    else (if z && r then Some Reached else (if z && b then Some Breakpoint else (if l then None else Some Stuck))))
+late z r b l h e = rw e refl
+
+pub above_none : (n : ℕ) → nat_lt 0 (suc n) ≡ true
+above_none n = grind (arith, nat_tests)
+
+-- the state after one step more
+pub after_suc : (s : TimedState) (n : ℕ) → IsInTime s → after (after s n) 1 ≡ after s (suc n)
+after_suc s n h = after_more s n 1 h.rising ∙ ap (after s) (add-one n)
+
+-- ---- until a condition holds
+
+-- why the run ends with the next step
+pub end_is : (condition : Condition) (old now : RecordingState) (n : ℕ)
+    → Going (until_ends condition old.session) old now n
+    → end_of_step condition now.session ≡ until_ends condition old.session (suc n)
+unfolding comes
+end_is condition old now n g =
+    ap (λ (r : RecordingState). end_of_step condition r.session) g.state
+    ∙ ap (λ (t : TimedState). end_after
+    (holds condition (step (with_due (after old.session.timed n)).board.machine).1 t.board)
+    (record old.session { timed = t })) (after_suc old.session.timed n g.in_time)
+    ∙ late (nat_lt 0 (suc n)) _ _ _ _ (above_none n)
+
+-- ---- what the call leaves as it was
+
 -- the steps of a run change nothing but the session
 others_stay : (old new : RecordingState) (t : TimedState) → new ≡ with_timed old t
     → new ≡ record old { session = new.session }
 others_stay old new t e =
     e ∙ ap (λ (s : SessionState). record old { session = s }) (sym (ap (λ (r : RecordingState). r.session) e))
 
--- the state after one step more
-pub after_suc : (s : TimedState) (n : ℕ) → IsInTime s → after (after s n) 1 ≡ after s (suc n)
-after_suc s n h = after_more s n 1 h.rising ∙ ap (after s) (add-one n)
-
-same_is : (m n : ℕ) → m ≡ n → (m == n) ≡ true
-same_is m n h = grind (arith, nat_tests)
-
-less_is : (m n : ℕ) → m < n → (m == n) ≡ false
-less_is m n h = grind (arith, nat_tests)
-
-pub at_limit : (n most : ℕ) → n ≡ most → Limit ≡ (if n == most then Limit else Stuck)
-at_limit n most e = rw (same_is n most e) refl
-
-pub before_limit : (n most : ℕ) → n < most → Stuck ≡ (if n == most then Limit else Stuck)
-before_limit n most l = rw (less_is n most l) refl
-
-module _ (reached : ℕ → Bool) (old : RecordingState) where
-  abbrev ends : ℕ → Option End
-  ends = end_with reached old.session
-
-  going_on : (n : ℕ) → NoneEnds ends n → (i : ℕ) → i < suc n → end_at reached old.session i ≡ None
-  going_on n h zero l = refl
-  going_on n h (suc i) l = h i (omega (arith, l))
-
-  -- a run whose last step ends it
-  pub ran_last : (most n : ℕ) (new : RecordingState) (end : End) → n < most → new ≡ stands old (suc n)
-      → NoneEnds ends n → ends n ≡ Some end → HasRun reached most old.session new.session end
-  ran_last most n new end k e going is = record {
-    count = suc n;
-    within = omega (arith, k);
-    going = going_on n going;
-    least = λ l may. ap is_some is;
-    state = ap (λ (r : RecordingState). r.session) e;
-    ended = sym (ap (λ (o : Option End). unwrap_or o (if suc n == most then Limit else Stuck)) is);
-  }
-
-  -- a run whose steps don't end it
-  pub ran_on : (most n : ℕ) (new : RecordingState) (end : End) → n ≤ most → new ≡ stands old n
-      → NoneEnds ends n → end ≡ (if n == most then Limit else Stuck)
-      → (n < most → may_step new.session ≡ false) → HasRun reached most old.session new.session end
-  ran_on most n new end k e going is stuck = record {
-    count = n;
-    within = k;
-    going = λ i l. going_on n going i (omega (arith, l));
-    least = λ l may. absurd (false≢true (sym (stuck l) ∙ may));
-    state = ap (λ (r : RecordingState). r.session) e;
-    ended = is ∙ sym (ap (λ (o : Option End). unwrap_or o (if n == most then Limit else Stuck))
-        (going_on n going n (omega arith)));
-  }
-
-  pub ended : (now new : RecordingState) (most n : ℕ) (end : Option End) (told : End) → end ≡ ends n → n < most
-      → Going ends old now n → TakesOne end now new (Ok (Some told))
-      → HasRun reached most old.session new.session told
-  ended now new most n end told is k g (inl t) =
-      ran_last most n new told k (one_more ends old now new n g t.0 ∙ ap (stands old) (add-one n)) g.going
-      (sym (t.1 ∙ is))
-  ended now new most n end told is k g (inr t) =
-      ran_on most n new told (omega (arith, k)) (t.1 ∙ g.state) g.going (is_stuck told t.2 ∙ before_limit n most k)
-      (λ l. ap (λ (r : RecordingState). may_step r.session) t.1 ∙ t.0)
-
-  pub limit : (now : RecordingState) (most : ℕ) → Going ends old now most
-      → HasRun reached most old.session now.session Limit
-  limit now most g =
-      ran_on most most now Limit (omega arith) g.state g.going (at_limit most most refl)
-      (λ l. absurd (omega (arith, l)))
-
-  pub refused : (now new : RecordingState) (most n : ℕ) (end : Option End) (why : NoMemory) → n < most
-      → Going ends old now n → TakesOne end now new (Err why)
-      → IsRefusedIn reached most old.session new.session
-  refused now new most n end why k g t =
-      let is = due_at ends old now new n g t.1 in
-      let same = due_is old new n is in
-      record {
-        within = omega (arith, same, allowed old now n g.state t.0);
-        going = subst (NoneEnds ends) same g.going;
-        state = ap (λ (r : RecordingState). r.session)
-            (subst (λ m. new ≡ with_timed old (with_due (after old.session.timed m))) same is);
-        next_writes = t.2;
-      }
-
--- ---- until a condition holds
-
--- why the run ends with the next step
-pub end_is : (condition : Condition) (old now : RecordingState) (n : ℕ)
-    → Going (end_with (comes condition old.session.timed) old.session) old now n
-    → end_of_step condition now.session.breakpoints.addresses now.session.timed
-    ≡ end_with (comes condition old.session.timed) old.session n
-unfolding comes
-end_is condition old now n g =
-    ap (λ (r : RecordingState). end_of_step condition r.session.breakpoints.addresses r.session.timed) g.state
-    ∙ ap (λ (t : TimedState). end_after
-    (holds condition (step (with_due (after old.session.timed n)).board.machine).1 t.board)
-    old.session.breakpoints.addresses t.board) (after_suc old.session.timed n g.in_time)
-
--- what the call leaves as it was
 pub others_at : (ends : ℕ → Option End) (old now : RecordingState) (n : ℕ) → Going ends old now n
     → now ≡ record old { session = now.session }
 others_at ends old now n g = others_stay old now (after old.session.timed n) g.state
@@ -206,7 +207,7 @@ others_at ends old now n g = others_stay old now (after old.session.timed n) g.s
 pub others_next : (ends : ℕ → Option End) (old now new : RecordingState) (n : ℕ) (end told : Option End)
     → Going ends old now n → TakesOne end now new (Ok told) → new ≡ record old { session = new.session }
 others_next ends old now new n end told g (inl t) =
-    others_stay old new (after old.session.timed (n + 1)) (one_more ends old now new n g t.0)
+    others_stay old new (after old.session.timed (suc n)) (one_more ends old now new n g t.0)
 others_next ends old now new n end told g (inr t) =
     others_stay old new (after old.session.timed n) (t.1 ∙ g.state)
 

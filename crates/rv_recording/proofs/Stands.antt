@@ -9,11 +9,11 @@ use Rattle.rv_hart.specs.declared.trap.Outcome.{Outcome}
 use Rattle.rv_board.specs.Boot.{boot_fault, reset}
 use Rattle.rv_board.specs.Move.{run}
 use Rattle.rv_board.specs.Support.State.{BoardState, halted_of}
-use Rattle.rv_lists.specs.Support.Reading.{HasSteps}
+use Rattle.rv_timeline.specs.Support.Reading.{HasSteps}
 use Rattle.rv_base.specs.Lines.{lines}
-use Rattle.rv_lists.specs.Timed.{IsRead, all_of, inserted, never_falls, timed, timed_line}
-use Rattle.rv_lists.specs.declared.input.Input.{Input}
-use Rattle.rv_lists.specs.declared.input.TimedInput.{TimedInput}
+use Rattle.rv_timeline.specs.Timed.{IsRead, all_of, inserted, never_falls, timed, timed_line}
+use Rattle.rv_timeline.specs.declared.input.Input.{Input}
+use Rattle.rv_timeline.specs.declared.input.TimedInput.{TimedInput}
 use Rattle.rv_program.specs.Program.{Assembly}
 use Rattle.rv_commands.specs.declared.command.Command.{Command}
 use Rattle.rv_commands.specs.declared.command.Command.TheVariants.{Step, Go, SetBreak, ClearBreak, Registers, ControlRegister, Memory, Instruction, Traps, Edges, Quit, Nothing}
@@ -197,12 +197,12 @@ module _ (s new : SessionState) (p q : ℕ) (ks : List KeptBoard) (h : Stands s 
   one_step (Ok (Some outcome)) t =
       let timed = ap (λ u. u.timed) t.1 in
       let running = none_is (halted_of s.timed.board) (and_left _ _ t.0) in
-      timed_stands (t.1 ∙ ap (λ (u : TimedState). record s { timed = u }) (sym timed))
+      timed_stands (timed_alone _ t.1)
       (step_stands first s.timed new.timed h.0.reached running timed) (inputs_kept s.timed new.timed 1 timed)
   one_step (Ok None) t = unchanged t.1
   one_step (Err refusal) t =
       let timed = ap (λ u. u.timed) t.1 in
-      timed_stands (t.1 ∙ ap (λ (u : TimedState). record s { timed = u }) (sym timed))
+      timed_stands (timed_alone _ t.1)
       (due_is_reached first s.timed new.timed h.0.reached timed) (due_kept s.timed new.timed timed)
 
   -- ---- commands

@@ -9,8 +9,10 @@ use Rattle.rv_isa.specs.declared.kind.Kind.TheVariants.{Jal, Jalr, Mret}
 use Rattle.rv_hart.specs.declared.trap.Outcome.{Outcome}
 use Rattle.rv_hart.specs.declared.trap.Outcome.TheVariants.{Trapped}
 use Rattle.rv_hart.specs.Step.{step}
-use Rattle.rv_monitor.specs.State.{TimedState, after, with_due}
+use Rattle.rv_monitor.specs.State.{SessionState, TimedState, after, with_due}
 use Rattle.rv_monitor.specs.Views.{word_at}
+use Rattle.rv_recording.specs.Until.{end_at}
+use Rattle.rv_recording.specs.declared.until.End.{End}
 
 -- the number of open calls after a step that did that, by its instruction: a trap calls its handler; a jump that
 -- writes ra (x1) is a call; a jump to ra that writes no register is a return (RISC-V Unprivileged ISA 20191213,
@@ -29,3 +31,7 @@ open_at calls s zero = calls
 open_at calls s (suc n) =
     let now = after s n in open_after (open_at calls s n)
     (step (with_due now).board.machine).1 (option_and_then means (word_at now.board now.board.machine.pc))
+
+-- why a run out of some open calls is over
+abbrev pub out_ends : ℕ → SessionState → ℕ → Option End
+out_ends calls s = end_at (λ i. open_at calls s.timed i == 0) s.breakpoints.addresses s

@@ -1,7 +1,7 @@
 -- To audit: public contracts cite this.
 -- A run, which ends after the first step with which it comes to what it goes on for: for the run until a
 -- condition holds, that the condition holds after it.
-use Rattle.std.specs.Prelude.{◌≡◌, ℕ, zero, suc, pred, ◌-◌, ◌<◌, ◌≤◌, ◌==◌, ◌&&◌, not, nat_le, nat_eq, nat_lt, Bool, true, false, if◌then◌else◌, slice_index, Option, Some, None, is_some, length, unwrap_or}
+use Rattle.std.specs.Prelude.{◌≡◌, ℕ, zero, suc, pred, ◌-◌, ◌&&◌, not, nat_le, nat_eq, nat_lt, Bool, true, false, if◌then◌else◌, slice_index, Option, Some, None, is_some, length, unwrap_or}
 use Rattle.std.specs.Option.{option_eq, option_map_or}
 use Rattle.std.specs.FinSet as set
 use Rattle.rv_isa.specs.Alu.{is_taken}
@@ -9,8 +9,7 @@ use Rattle.rv_hart.specs.declared.trap.Outcome.{Outcome}
 use Rattle.rv_hart.specs.declared.trap.Outcome.TheVariants.{Trapped}
 use Rattle.rv_hart.specs.Step.{step}
 use Rattle.rv_board.specs.BoardState.{BoardState}
-use Rattle.rv_monitor.specs.State.{SessionState, TimedState, after, with_due}
-use Rattle.rv_monitor.specs.Stops.{may_step}
+use Rattle.rv_monitor.specs.State.{Addresses, SessionState, TimedState, after, with_due}
 use Rattle.rv_monitor.specs.Views.{word_at}
 use Rattle.rv_recording.specs.declared.until.Watched.{Watched}
 use Rattle.rv_recording.specs.declared.until.Watched.TheVariants.{Register, Word}
@@ -43,21 +42,33 @@ comes condition s n = holds condition (step (with_due (after s (pred n))).board.
 
 -- ---- the steps of a run
 
--- why a run from a session on ends after n steps, if it does, by whether it has come by then to what it goes
--- on for
-abbrev pub end_at : (ℕ → Bool) → SessionState → ℕ → Option End
-end_at reached s zero = None
-end_at reached s (suc i) =
-    let b = (after s.timed (suc i)).board in
-    if is_some b.machine.bus.halt then Some Halted
-    else (if reached (suc i) then Some Reached
-    else (if set.contains s.breakpoints.addresses b.machine.pc then Some Breakpoint else None))
+-- why a run from a session on is over after n steps, if it is: the board has halted; or, after its first step, it
+-- has come to what it goes on for or to a breakpoint; or the session may take no more steps
+abbrev pub end_at : (reached : ℕ → Bool) → Addresses → SessionState → ℕ → Option End
+end_at reached breaks s n =
+    let now = after s.timed n in
+    if is_some now.board.machine.bus.halt then Some Halted
+    else (if nat_lt 0 n && reached n then Some Reached
+    else (if nat_lt 0 n && set.contains breaks now.board.machine.pc then Some Breakpoint
+    else (if nat_lt now.taken s.limit then None else Some Stuck)))
 
--- a run took the least number of steps after which it ends, or `most`, or those that there are, and ended so
-pub record HasRun (reached : ℕ → Bool) (most : ℕ) (old new : SessionState) (end : End) : Type 0 where
-  pub count : ℕ
-  pub within : count ≤ most
-  pub going : (i : ℕ) → i < count → end_at reached old i ≡ None
-  pub least : count < most → may_step new ≡ true → is_some (end_at reached old count) ≡ true
-  pub state : new ≡ record old { timed = after old.timed count }
-  pub ended : end ≡ unwrap_or (end_at reached old count) (if count == most then Limit else Stuck)
+-- how many steps a run takes that takes at most some, by why it is over after each number of them: one step more
+-- is one more, unless it is over before
+unfoldable pub steps_of : (ℕ → Option End) → (most : ℕ) → ℕ
+steps_of ends zero = zero
+steps_of ends (suc most) = if is_some (ends (steps_of ends most)) then steps_of ends most else suc (steps_of ends most)
+
+-- a run of at most some steps took those, and ended so
+pub record HasRun (ends : ℕ → Option End) (most : ℕ) (old new : SessionState) (end : End) : Type 0 where
+  pub state : new ≡ record old { timed = after old.timed (steps_of ends most) }
+  pub ended : end ≡ unwrap_or (ends (steps_of ends most)) Limit
+
+-- why a run of steps past any breakpoint is over, one up to a breakpoint, and one until a condition holds
+abbrev pub step_ends : SessionState → ℕ → Option End
+step_ends s = end_at (λ i. false) set.empty s
+
+abbrev pub break_ends : SessionState → ℕ → Option End
+break_ends s = end_at (λ i. false) s.breakpoints.addresses s
+
+abbrev pub until_ends : Condition → SessionState → ℕ → Option End
+until_ends condition s = end_at (comes condition s.timed) s.breakpoints.addresses s

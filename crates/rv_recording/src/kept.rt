@@ -1,7 +1,7 @@
 //! The states that a recording keeps on the way, so that going back takes fewer steps again.
 ghost use Rattle.std.specs.Prelude.{◌≡◌, ◌<◌, ◌≤◌, [], List, true, false, length, IfSome};
 ghost use Rattle.rv_board.specs.Support.State.{BoardState};
-ghost use Rattle.rv_lists.specs.declared.input.TimedInput.{TimedInput};
+ghost use Rattle.rv_timeline.specs.declared.input.TimedInput.{TimedInput};
 ghost use Rattle.rv_monitor.specs.Laws.{IsReached};
 ghost use Rattle.rv_monitor.specs.State.{count_before};
 ghost use Rattle.rv_recording.specs.Support.Kept.{IsKept, AreKept, AreWithin};

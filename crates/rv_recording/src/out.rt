@@ -6,13 +6,13 @@ ghost use Rattle.rv_board.specs.Support.State.{pc_of};
 ghost use Rattle.rv_hart.specs.declared.trap.Outcome.TheVariants.{Retired};
 ghost use Rattle.rv_monitor.specs.Stops.{steps_between};
 ghost use Rattle.rv_monitor.specs.Views.{word_at};
-ghost use Rattle.rv_recording.specs.Out.{open_after, open_at};
+ghost use Rattle.rv_recording.specs.Out.{open_after, open_at, out_ends};
 ghost use Rattle.rv_recording.specs.Until.{HasRun};
 ghost use Rattle.rv_recording.specs.Support.Refused.{IsRefusedIn};
 ghost use Rattle.rv_recording.specs.Support.Steps.{StepsOut, after_call, end_after};
 
 use crate::Recording;
-use crate::until::{End, end_after};
+use crate::until::{End, end_after, end_before};
 use rv_base::NoMemory;
 use rv_board::BootedBoard;
 use rv_hart::Outcome;
@@ -98,16 +98,19 @@ impl Recording {
     ///
     /// `NoMemory` if memory runs out at a step. The steps before it are taken.
     pub fn run_out(&mut self, calls: &mut u64, most: u64) -> Result<End, NoMemory>
-        ensures ok { IfOk result (HasRun (λ n. open_at calls.old self.old.session.timed n == 0)
-            most self.old.session self.new.session) }
-        ensures err { OnErr result (IsRefusedIn (λ n. open_at calls.old self.old.session.timed n == 0)
-            most self.old.session self.new.session) }
+        ensures ok { IfOk result
+            (HasRun (out_ends calls.old self.old.session) most self.old.session self.new.session) }
+        ensures err { OnErr result
+            (IsRefusedIn (out_ends calls.old self.old.session) most self.old.session self.new.session) }
         ensures calls { calls.new ≡ open_at calls.old self.old.session.timed
             (steps_between self.old.session.timed self.new.session.timed) }
         ensures others { self.new ≡ record self.old { session = self.new.session } }
     {
         // It tells that the inputs of all steps so far were given.
         let _board = self.session().board();
+        if let Some(end) = end_before(self.session()) {
+            return Ok(end);
+        }
         for done in 0..most {
             match self.step_out(calls) {
                 Ok(None) => {}

@@ -3,8 +3,8 @@ ghost use Rattle.std.specs.Prelude.{◌≡◌, ◌≢◌, ◌-◌, ◌++◌, ◌
 ghost use Rattle.std.specs.FinSet as set;
 ghost use Rattle.rv_board.specs.Move.{run};
 ghost use Rattle.rv_commands.specs.declared.command.Command.{Command};
-ghost use Rattle.rv_lists.specs.Text.{list_text};
-ghost use Rattle.rv_lists.specs.Timed.{never_falls, IsRead};
+ghost use Rattle.rv_timeline.specs.Text.{list_text};
+ghost use Rattle.rv_timeline.specs.Timed.{never_falls, IsRead};
 ghost use Rattle.rv_monitor.specs.Commands.{Leaves, LeavesRefused, answer, command_in};
 ghost use Rattle.rv_monitor.specs.Events.{events_of};
 ghost use Rattle.rv_monitor.specs.Laws.{IsReached};
@@ -19,10 +19,10 @@ use rv_base::NoMemory;
 use rv_board::BootedBoard;
 use rv_cache::DecodeCache;
 use rv_hart::Outcome;
-use rv_lists::{Input, TimedInput, list_text};
 use rv_monitor::{Next, OpenFault, Session, Stop, open_session};
 use rv_program::Program;
 use rv_ram::{ByteMemory, PagedRam};
+use rv_timeline::{Input, TimedInput, list_text};
 use std::alloc::Global;
 use std::marker::Model;
 
@@ -160,7 +160,7 @@ impl Recording {
     /// # Errors
     ///
     /// As those of [`Session::step`].
-    pub fn step(&mut self, n: u64) -> Result<Stop, NoMemory>
+    pub(crate) fn step(&mut self, n: u64) -> Result<Stop, NoMemory>
         ensures took { OnOk result (Took set.empty n self.old.session self.new.session) }
         ensures stop { IfOk result (λ stop. stop ≡ stop_of set.empty self.old.session self.new.session) }
         ensures err { OnErr result (WasRefused set.empty n self.old.session self.new.session) }
@@ -176,7 +176,7 @@ impl Recording {
     /// # Errors
     ///
     /// As those of [`Session::step`].
-    pub fn go(&mut self, n: u64) -> Result<Stop, NoMemory>
+    pub(crate) fn go(&mut self, n: u64) -> Result<Stop, NoMemory>
         ensures took { OnOk result
             (Took self.old.session.breakpoints.addresses n self.old.session self.new.session) }
         ensures stop { IfOk result

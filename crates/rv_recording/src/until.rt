@@ -1,9 +1,9 @@
 //! Runs until a condition holds.
-ghost use Rattle.std.specs.Prelude.{◌≡◌, IfOk, OnErr, if◌then◌else◌};
+ghost use Rattle.std.specs.Prelude.{◌≡◌, IfOk, OnErr, if◌then◌else◌, nat_lt};
 ghost use Rattle.rv_isa.specs.Alu.{is_taken};
-ghost use Rattle.rv_recording.specs.Until.{HasRun, comes, holds, watched_value};
+ghost use Rattle.rv_recording.specs.Until.{HasRun, break_ends, holds, step_ends, until_ends, watched_value};
 ghost use Rattle.rv_recording.specs.Support.Refused.{IsRefusedIn};
-ghost use Rattle.rv_recording.specs.Support.Steps.{TakesOne, end_after, end_of_step};
+ghost use Rattle.rv_recording.specs.Support.Steps.{TakesOne, end_after, end_before, end_by, end_of_step};
 
 use crate::Recording;
 use rv_base::NoMemory;
@@ -11,7 +11,7 @@ use rv_board::BootedBoard;
 use rv_cache::DecodeCache;
 use rv_hart::Outcome;
 use rv_isa::{Cond, Reg, branch_taken};
-use rv_monitor::{Session, word_at};
+use rv_monitor::{Session, Stop, word_at};
 use rv_ram::PagedRam;
 
 /// What is watched.
@@ -68,7 +68,7 @@ pub enum End {
     Breakpoint,
     /// As many steps were taken as may be.
     Limit,
-    /// The board takes no step: it had halted, or the recording has taken its last.
+    /// The recording has taken its last step.
     Stuck,
 }
 
@@ -121,9 +121,22 @@ impl Condition {
     }
 }
 
-/// Returns why a run ends after a step, if it does, by whether it has come to what it goes on for.
+/// Returns why a run is over before its first step, if it is.
+pub(crate) fn end_before(session: &Session<PagedRam, DecodeCache>) -> Option<End>
+    ensures { result ≡ end_before session.now }
+{
+    if session.board().halted().is_some() {
+        return Some(End::Halted);
+    }
+    if session.taken() < session.limit() {
+        return None;
+    }
+    Some(End::Stuck)
+}
+
+/// Returns why a run is over after a step, if it is, by whether it has come to what it goes on for.
 pub(crate) fn end_after(reached: bool, session: &Session<PagedRam, DecodeCache>) -> Option<End>
-    ensures { result ≡ end_after reached session.now.breakpoints.addresses session.now.timed.board }
+    ensures { result ≡ end_after reached session.now }
 {
     let board = session.board();
     if board.halted().is_some() {
@@ -135,14 +148,68 @@ pub(crate) fn end_after(reached: bool, session: &Session<PagedRam, DecodeCache>)
     if session.has_break(board.pc()) {
         return Some(End::Breakpoint);
     }
-    None
+    if session.taken() < session.limit() {
+        return None;
+    }
+    Some(End::Stuck)
+}
+
+/// Returns why a run is over that a call of a session took, by why that ended.
+fn end_by(stop: Stop, session: &Session<PagedRam, DecodeCache>) -> End
+    ensures { result ≡ end_by stop (nat_lt session.now.timed.taken session.now.limit) }
+{
+    match stop {
+        Stop::Halted => End::Halted,
+        Stop::Breakpoint => End::Breakpoint,
+        Stop::Limit => {
+            if session.taken() < session.limit() {
+                return End::Limit;
+            }
+            End::Stuck
+        }
+    }
 }
 
 impl Recording {
+    /// Takes `most` steps, past any breakpoint, unless the board halts or the last step is taken first, and
+    /// returns which it was.
+    ///
+    /// # Errors
+    ///
+    /// `NoMemory` if memory runs out at a step. The steps before it are taken.
+    #[tactic(auto, using(crate::proofs::Taken::not_run))]
+    pub fn run_steps(&mut self, most: u64) -> Result<End, NoMemory>
+        ensures ok { IfOk result
+            (HasRun (step_ends self.old.session) most self.old.session self.new.session) }
+        ensures err { OnErr result
+            (IsRefusedIn (step_ends self.old.session) most self.old.session self.new.session) }
+        ensures others { self.new ≡ record self.old { session = self.new.session } }
+    {
+        let stop = self.step(most)?;
+        Ok(end_by(stop, self.session()))
+    }
+
+    /// Takes steps up to a breakpoint, and else as [`run_steps`](Recording::run_steps) does. It does not stop
+    /// at a breakpoint before the first step.
+    ///
+    /// # Errors
+    ///
+    /// As those of [`run_steps`](Recording::run_steps).
+    #[tactic(auto, using(crate::proofs::Taken::not_run))]
+    pub fn run_to_break(&mut self, most: u64) -> Result<End, NoMemory>
+        ensures ok { IfOk result
+            (HasRun (break_ends self.old.session) most self.old.session self.new.session) }
+        ensures err { OnErr result
+            (IsRefusedIn (break_ends self.old.session) most self.old.session self.new.session) }
+        ensures others { self.new ≡ record self.old { session = self.new.session } }
+    {
+        let stop = self.go(most)?;
+        Ok(end_by(stop, self.session()))
+    }
+
     /// Takes a step, and returns why a run until a condition ends with it, if it does.
     fn step_until(&mut self, condition: Condition) -> Result<Option<End>, NoMemory>
-        ensures { TakesOne (end_of_step condition self.old.session.breakpoints.addresses self.old.session.timed)
-            self.old self.new result }
+        ensures { TakesOne (end_of_step condition self.old.session) self.old self.new result }
     {
         match self.take_step() {
             Ok(Some(outcome)) => {
@@ -162,13 +229,16 @@ impl Recording {
     /// `NoMemory` if memory runs out at a step. The steps before it are taken.
     pub fn run_until(&mut self, condition: Condition, most: u64) -> Result<End, NoMemory>
         ensures ok { IfOk result
-            (HasRun (comes condition self.old.session.timed) most self.old.session self.new.session) }
+            (HasRun (until_ends condition self.old.session) most self.old.session self.new.session) }
         ensures err { OnErr result
-            (IsRefusedIn (comes condition self.old.session.timed) most self.old.session self.new.session) }
+            (IsRefusedIn (until_ends condition self.old.session) most self.old.session self.new.session) }
         ensures others { self.new ≡ record self.old { session = self.new.session } }
     {
         // It tells that the inputs of all steps so far were given.
         let _board = self.session().board();
+        if let Some(end) = end_before(self.session()) {
+            return Ok(end);
+        }
         for done in 0..most {
             // A copy: for the borrow checker the call moves its argument.
             let asked = condition;

@@ -1,5 +1,8 @@
 //! Expressions: sums of terms, each a number, a name or the statement's own address.
+ghost use Rattle.rv_source.specs.declared.expression.Atom.TheVariants.{Number};
+
 use rv_tokens::{Direction, Name};
+use std::alloc::{AllocError, Global};
 use std::marker::Model;
 
 /// An atom of an expression: it has one value.
@@ -17,11 +20,45 @@ pub enum Atom<'a> {
     Here,
 }
 
+impl<'a> Atom<'a> {
+    ghost use Rattle.std.specs.Prelude.{◌≡◌};
+
+    /// Returns a copy of the atom: an enum with a name in it can't be `Copy`.
+    pub fn again(&self) -> Atom<'a>
+        ensures { result ≡ self.now }
+    {
+        match self {
+            Atom::Number(n) => Atom::Number(*n),
+            Atom::Character(b) => Atom::Character(*b),
+            Atom::Symbol(name) => Atom::Symbol(name.again()),
+            Atom::Local { number, direction } => Atom::Local {
+                number: *number,
+                direction: *direction,
+            },
+            Atom::Here => Atom::Here,
+        }
+    }
+}
+
 /// A term: an atom that is added or subtracted.
 #[derive(Drop)]
 pub struct Term<'a> {
     pub negative: bool,
     pub atom: Atom<'a>,
+}
+
+impl<'a> Term<'a> {
+    ghost use Rattle.std.specs.Prelude.{◌≡◌};
+
+    /// Returns a copy of the term.
+    fn again(&self) -> Term<'a>
+        ensures { result ≡ self.now }
+    {
+        Term {
+            negative: self.negative,
+            atom: self.atom.again(),
+        }
+    }
 }
 
 /// An expression: the sum of its terms as whole numbers. It has at most as many terms as a line has bytes,
@@ -51,7 +88,32 @@ impl<'a> Model for Expression<'a> {
 }
 
 impl<'a> Expression<'a> {
-    ghost use Rattle.std.specs.Prelude.{◌≡◌, ◌<◌, ◌∷◌, length};
+    ghost use Rattle.std.specs.Prelude.{◌≡◌, ◌<◌, ◌∷◌, [], false, length, IfOk};
+
+    /// Returns the expression 0.
+    pub fn zero(alloc: Global) -> Expression<'a>
+        ensures { result ≡ record { negative = false; atom = Number 0 } ∷ [] }
+    {
+        let first = Term {
+            negative: false,
+            atom: Atom::Number(0),
+        };
+        let more = Vec::new(alloc);
+        Expression { first, more }
+    }
+
+    /// Returns a copy of the expression, with room for its terms alone.
+    pub fn again(&self, alloc: Global) -> Result<Expression<'a>, AllocError>
+        ensures { IfOk result (λ e. e ≡ self.now) }
+    {
+        let (first, rest) = self.terms();
+        let mut more = Vec::with_capacity(alloc, rest.len())?;
+        for term in rest {
+            more.push(term.again())?;
+        }
+        let first = first.again();
+        Ok(Expression { first, more })
+    }
 
     /// Returns the first term, and the others from left to right.
     pub fn terms(&self) -> (&Term<'a>, &[Term<'a>])

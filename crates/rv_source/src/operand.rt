@@ -5,8 +5,8 @@ ghost use Rattle.std.specs.List.{position};
 ghost use Rattle.rv_source.specs.Operands.{enclosed, form_of, form_with, is_comma, operands, operands_of, valued};
 ghost use Rattle.rv_source.specs.Support.Partial.{base_of, pieces, pieces_after};
 
+use crate::Expression;
 use crate::terms::read_expression;
-use crate::{Atom, Expression, Term};
 use rv_tokens::{Name, Text, Token};
 use std::alloc::{AllocError, Global};
 
@@ -90,12 +90,7 @@ fn zero_with<'a>(alloc: Global, base: Option<Name<'a>>) -> Option<Form<'a>>
     ensures { result ≡ form_with base.entry [] }
 {
     base.as_ref()?;
-    let first = Term {
-        negative: false,
-        atom: Atom::Number(0),
-    };
-    let more = Vec::new(alloc);
-    let (part, sum) = (Part::Whole, Expression { first, more });
+    let (part, sum) = (Part::Whole, Expression::zero(alloc));
     Some(Form::Value { part, sum, base })
 }
 

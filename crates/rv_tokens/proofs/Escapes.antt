@@ -1,97 +1,115 @@
--- Escapes, bytes between quotes and local references, by tests in their order.
+-- Escapes, bytes between quotes, and the bytes of a string.
 use Rattle.std.proofs.Common.{rules}
-use Rattle.std.proofs.Common.{◌≡◌, ◌∙◌, ℕ, ◌-◌, ◌<◌, Bool, true, false, cond, List, [], ◌∷◌, length, take, drop, get_or, refl, sym, arith}
-use Rattle.std.specs.Prelude.{Option, None, Some, option_and_then, ◌&&◌, not}
+use Rattle.std.proofs.lemmas.Grind.{common_steps}
+use Rattle.std.proofs.Common.{◌≡◌, ◌∙◌, ℕ, zero, suc, ◌-◌, ◌<◌, ◌≤◌, Bool, true, false, cond, List, [], ◌∷◌, length, take, drop, get_or, refl, sym, ap, arith, length-take, length-drop}
+use Rattle.std.specs.Prelude.{Option, None, Some, ◌&&◌, IsTrue, is_some}
 use Rattle.std.specs.Bool.{◌==◌}
-use Rattle.std.specs.Option.{option_map, option_or}
+use Rattle.std.specs.Option.{option_map, unwrap_or}
 use Rattle.std.proofs.lemmas.Bool.Decides.{nat_tests}
 use Rattle.std.proofs.lemmas.List.{drop_all, take_all}
 use Rattle.std.proofs.Math.Seq.{drop-cons}
-use Rattle.rv_base.specs.Numbers.{hex_digit, hex_byte, number_in}
+use Rattle.rv_base.specs.Numbers.{hex_byte}
 use Rattle.rv_base.specs.Tables.{lookup}
+use Rattle.rv_base.proofs.NumberReading.{no_number}
 use Rattle.rv_tokens.specs.declared.token.Direction.TheVariants.{Backward, Forward}
-use Rattle.rv_tokens.specs.declared.token.Token.{Token}
 use Rattle.rv_tokens.specs.declared.token.Token.TheVariants.{Local}
-use Rattle.rv_tokens.specs.Literals.{letters, escape, spelled}
+use Rattle.rv_tokens.specs.Literals.{letters, escape, spelled, longest, short_decimal, bytes_after}
 use Rattle.rv_tokens.specs.Tokens.{local}
-use Rattle.rv_tokens.specs.Support.Partial.{escape_by, spelled_by, local_by}
-use Rattle.rv_tokens.proofs.Signs.{same_byte}
+use Rattle.rv_tokens.specs.Support.Partial.{is_plain, first_byte, string_bytes}
+use Rattle.rv_tokens.proofs.Signs.{swapped}
+use Rattle.rv_tokens.proofs.Longest.{longest_above, longest_found}
 
 -- ---- escapes
 
-no_letter : (b c : ℕ) (bs : List ℕ) → lookup (b ∷ c ∷ bs) letters ≡ None
-no_letter b c bs = search rules
+pub no_letter : (text : List ℕ) → (length text ≡ 1 → ⊥) → lookup text letters ≡ None
+no_letter [] h = refl
+no_letter (b ∷ []) h = absurd (h refl)
+no_letter (b ∷ c ∷ bs) h = search rules
 
--- no octal number begins with an `x`
-x_alone : option_or (lookup (120 ∷ []) letters) (number_in 8 255 (120 ∷ [])) ≡ None
-unfolding number_in hex_digit
-x_alone = refl
+pub ruleset escape_steps = (no_letter, no_number, take_all, nat_tests)
 
-x_first : (c : ℕ) → number_in 8 255 (120 ∷ c ∷ []) ≡ None
-unfolding number_in hex_digit
-x_first c = refl
-
-one_by : (b : ℕ) (s : Bool) → (b == 120) ≡ s
-    → cond s (hex_byte []) (option_or (lookup (b ∷ []) letters) (number_in 8 255 (b ∷ [])))
-    ≡ option_or (lookup (b ∷ []) letters) (number_in 8 255 (b ∷ []))
-unfolding hex_byte
-one_by b true e = let same : b ≡ 120 = grind (arith, nat_tests) in rw same (sym x_alone)
-one_by b false e = refl
-
-two_by : (b c : ℕ) (s : Bool) → (b == 120) ≡ s
-    → cond s (hex_byte (c ∷ [])) (number_in 8 255 (b ∷ c ∷ [])) ≡ number_in 8 255 (b ∷ c ∷ [])
-unfolding hex_byte
-two_by b c true e = let same : b ≡ 120 = grind (arith, nat_tests) in rw same (sym (x_first c))
-two_by b c false e = refl
-
-pub escape_is : (text : List ℕ) → escape text ≡ escape_by text
-unfolding escape escape_by hex_byte number_in
-escape_is [] = refl
-escape_is (b ∷ []) = one_by b (b == 120) refl
-escape_is (b ∷ c ∷ []) = rw (no_letter b c []) (two_by b c (b == 120) refl)
-escape_is (b ∷ c ∷ d ∷ []) = rw (no_letter b c (d ∷ [])) refl
-escape_is (b ∷ c ∷ d ∷ e ∷ es) = search rules
-
-pub as_escape : (text : List ℕ) (o : Option ℕ) → o ≡ escape_by text → o ≡ escape text
-as_escape text o e = e ∙ sym (escape_is text)
+escape_long : (text : List ℕ) → 3 < length text → escape text ≡ None
+unfolding escape hex_byte
+escape_long text long = grind (arith, nat_tests, common_steps)
 
 -- ---- bytes between quotes
 
-plain_by : (s x q : Bool) (b : ℕ) → cond s (escape []) (cond ((x && not q) && true) (Some b) None)
-    ≡ cond (x && (not q && not s)) (Some b) None
-unfolding escape number_in
-plain_by true true true b = refl
-plain_by true true false b = refl
-plain_by true false q b = refl
-plain_by false true true b = refl
-plain_by false true false b = refl
-plain_by false false q b = refl
-
-pub spelled_is : (quote : ℕ) (text : List ℕ) → spelled quote text ≡ spelled_by quote text
-unfolding spelled spelled_by
-spelled_is quote [] = refl
-spelled_is quote (b ∷ []) = plain_by (b == 92) _ (b == quote) b
-spelled_is quote (b ∷ c ∷ cs) = search rules
-
-pub as_spelled : (quote : ℕ) (text : List ℕ) (o : Option ℕ) → o ≡ spelled_by quote text → o ≡ spelled quote text
-as_spelled quote text o e = e ∙ sym (spelled_is quote text)
-
--- a text that begins with a `\`
-pub backslash : (quote : ℕ) (text : List ℕ) → 1 < length text → get_or text 0 0 ≡ 92
-    → spelled quote text ≡ escape (take (length text - 1) (drop 1 text))
+pub spelled_is : (quote : ℕ) (text : List ℕ) → spelled quote text
+    ≡ cond (get_or text 0 0 == 92) (escape (take (length text - 1) (drop 1 text)))
+    (cond (is_plain quote (get_or text 0 0) && (length text == 1)) (Some (get_or text 0 0)) None)
 unfolding spelled
-backslash quote [] h e = absurd (omega arith)
-backslash quote (b ∷ bs) h e = search (rules, take_all)
+spelled_is quote [] = search rules
+spelled_is quote (b ∷ bs) =
+    let e : length (b ∷ bs) - 1 ≡ length bs = omega arith in
+    let f : (length (b ∷ bs) == 1) ≡ (length bs == 0) = grind (arith, nat_tests) in
+    rw (e, f, take_all (length bs) bs (omega arith)) refl
+
+-- the text of a byte has at most four bytes
+pub spelled_long : (quote : ℕ) (text : List ℕ) → 4 < length text → spelled quote text ≡ None
+unfolding spelled
+spelled_long quote [] long = absurd (omega arith)
+spelled_long quote (b ∷ bs) long = grind (arith, nat_tests, common_steps, escape_long)
+
+-- the byte that the first n bytes of a text spell in a string
+abbrev pub string_byte_in : List ℕ → ℕ → Option ℕ
+string_byte_in text n = spelled 34 (take n text)
+
+pub first_byte_within : (text : List ℕ) (n : ℕ) → n ≤ length text
+    → ((m : ℕ) → n < m → m ≤ length text → 4 < m) → longest (string_byte_in text) n ≡ first_byte text
+first_byte_within text n le long = search (rules, longest_above, length-take, spelled_long)
 
 -- ---- local references
 
-found_by : (s t : Bool) (o : Option ℕ)
-    → option_and_then (λ d. option_map (λ n. Local n d) o) (cond s (Some Backward) (cond t (Some Forward) None))
-    ≡ cond s (option_map (λ n. Local n Backward) o) (cond t (option_map (λ n. Local n Forward) o) None)
-found_by true t o = refl
-found_by false true o = refl
-found_by false false o = refl
+pub local_is : (text : List ℕ) → 0 < length text → local text
+    ≡ cond (get_or text (length text - 1) 0 == 98)
+    (option_map (λ n. Local n Backward) (short_decimal (take (length text - 1) text)))
+    (cond (get_or text (length text - 1) 0 == 102)
+    (option_map (λ n. Local n Forward) (short_decimal (take (length text - 1) text))) None)
+unfolding local
+local_is text some = search (rules, drop-cons, drop_all, swapped)
 
-pub as_local : (text : List ℕ) (o : Option Token) → 0 < length text → o ≡ local_by text → o ≡ local text
-unfolding local local_by
-as_local text o some e = search (rules, drop-cons, drop_all, same_byte, found_by)
+-- ---- the bytes of a string
+
+bytes_after_drop : (text : List ℕ) (n : ℕ) → bytes_after text n ≡ string_bytes (drop n text)
+unfolding bytes_after
+bytes_after_drop [] zero = refl
+bytes_after_drop [] (suc n) = refl
+bytes_after_drop (b ∷ bs) zero = refl
+bytes_after_drop (b ∷ bs) (suc n) = bytes_after_drop bs n
+
+pub bytes_of_none : (text : List ℕ) → 0 < length text → first_byte text ≡ None → string_bytes text ≡ None
+unfolding bytes_after
+bytes_of_none [] some e = absurd (omega arith)
+bytes_of_none (b ∷ bs) some e = rw e refl
+
+pub bytes_of_some : (text : List ℕ) (x n : ℕ) → first_byte text ≡ Some (x, n)
+    → string_bytes text ≡ option_map (λ cs. x ∷ cs) (string_bytes (drop n text))
+unfolding bytes_after
+bytes_of_some [] x n e = search (rules, longest_found)
+bytes_of_some (b ∷ bs) x zero e = search (rules, longest_found)
+bytes_of_some (b ∷ bs) x (suc n) e = rw e (ap (option_map (λ cs. x ∷ cs)) (bytes_after_drop bs n))
+
+-- the bytes of a text that spells some
+unfoldable pub bytes_of : List ℕ → List ℕ
+bytes_of text = unwrap_or (string_bytes text) []
+
+pub bytes_are : (text : List ℕ) → bytes_of text ≡ unwrap_or (string_bytes text) []
+unfolding bytes_of
+bytes_are text = refl
+
+spells_by : (x : ℕ) (o p : Option (List ℕ)) → o ≡ option_map (λ cs. x ∷ cs) p → IsTrue (is_some o)
+    → (unwrap_or o [] ≡ x ∷ unwrap_or p []) × IsTrue (is_some p)
+spells_by x o None e h = cc
+spells_by x o (Some cs) e h = (rw e refl, refl)
+
+pub one_more : (text : List ℕ) (x n : ℕ) → first_byte text ≡ Some (x, n) → IsTrue (is_some (string_bytes text))
+    → (bytes_of text ≡ x ∷ bytes_of (drop n text)) × IsTrue (is_some (string_bytes (drop n text)))
+unfolding bytes_of
+one_more text x n e h = spells_by x _ (string_bytes (drop n text)) (bytes_of_some text x n e) h
+
+pub no_more : (text : List ℕ) → first_byte text ≡ None → IsTrue (is_some (string_bytes text)) → bytes_of text ≡ []
+unfolding bytes_of bytes_after
+no_more [] e h = refl
+no_more (b ∷ bs) e h = let f = bytes_of_none (b ∷ bs) (omega arith) e in cc
+
+pub ruleset text_steps = (bytes_are, one_more, no_more)

@@ -4,6 +4,4 @@ pub mod StringEnds
 pub mod Front
 pub mod Cutting
 pub mod PartsLemmas
-pub mod Placing
-pub mod Spellings
 pub mod Signs

@@ -1,9 +1,8 @@
 -- The longest prefix of a text that spells something.
 use Rattle.std.proofs.Common.{rules}
-use Rattle.std.proofs.Common.{◌≡◌, ℕ, zero, suc, ◌+◌, ◌-◌, ◌<◌, ◌≤◌, refl, sym, ap, ◌∙◌, arith, add-suc}
+use Rattle.std.proofs.Common.{◌≡◌, ℕ, zero, suc, ◌+◌, ◌-◌, ◌<◌, ◌≤◌, refl, sym, ap, ◌∙◌, inl, inr, arith, add-suc}
 use Rattle.std.specs.Prelude.{Option, None, Some}
-use native.Mathlib.Decide.{dec_lt}
-use Prim.{yes, no}
+use Rattle.std.proofs.lemmas.Bool.{cases_lt}
 use Rattle.rv_tokens.specs.Literals.{longest}
 
 none_above : {A : Type 0} (spells : ℕ → Option A) (n d : ℕ) → ((m : ℕ) → n < m → m ≤ n + d → spells m ≡ None)
@@ -53,41 +52,53 @@ pub longest_is : {A : Type 0} (spells : ℕ → Option A) (k n : ℕ) (x : A) �
     → longest spells k ≡ Some (x, n)
 longest_is spells k n x l = longest_above spells n k l.within l.above ∙ longest_at spells n x l.some l.is
 
-found_more : {A : Type 0} (spells : ℕ → Option A) (k n : ℕ) (x : A) → spells (suc k) ≡ None
-    → IsLongest spells k n x → IsLongest spells (suc k) n x
-found_more spells k n x e l = record {
-  some = l.some;
-  within = omega (arith, l.within);
-  is = l.is;
-  above =
-      λ m p q. elim (dec_lt m (suc k))
-      [ yes lt ↦ l.above m p (omega arith) | no ge ↦ (let f : m ≡ suc k = omega arith in rw f e) ];
-}
+-- how far the longest prefix reaches
+abbrev pub reach : {A : Type 0} → Option (A × ℕ) → ℕ
+reach None = 0
+reach (Some found) = found.1
 
-found_step : {A : Type 0} (spells : ℕ → Option A) (k n : ℕ) (x : A) (o : Option A) → spells (suc k) ≡ o
-    → (longest spells k ≡ Some (x, n) → IsLongest spells k n x) → longest spells (suc k) ≡ Some (x, n)
-    → IsLongest spells (suc k) n x
+over_step : {A : Type 0} (spells : ℕ → Option A) (k m : ℕ) (o : Option A) → spells (suc k) ≡ o
+    → (reach (longest spells k) < m → m ≤ k → spells m ≡ None) → reach (longest spells (suc k)) < m → m ≤ suc k
+    → spells m ≡ None
 unfolding longest
-found_step spells k n x None e below h = found_more spells k n x e (below (rw e at h))
-found_step spells k n x (Some y) e below h = search rules
+over_step spells k m (Some x) e below p q = let f : suc k < m = rw e at p in absurd (omega arith)
+over_step spells k m None e below p q = elim (cases_lt m (suc k)) [
+  | inl lt ↦ below (rw e at p) (omega arith)
+  | inr ge ↦ (let f : m ≡ suc k = omega arith in rw f e)
+]
+
+-- no longer prefix spells anything
+pub longest_over : {A : Type 0} (spells : ℕ → Option A) (k m : ℕ) → reach (longest spells k) < m → m ≤ k
+    → spells m ≡ None
+longest_over spells zero m p q = absurd (omega arith)
+longest_over spells (suc k) m p q = over_step spells k m (spells (suc k)) refl (longest_over spells k m) p q
+
+read_step : {A : Type 0} (spells : ℕ → Option A) (k n : ℕ) (x : A) (o : Option A) → spells (suc k) ≡ o
+    → (longest spells k ≡ Some (x, n) → (0 < n) × (n ≤ k) × (spells n ≡ Some x))
+    → longest spells (suc k) ≡ Some (x, n) → (0 < n) × (n ≤ suc k) × (spells n ≡ Some x)
+unfolding longest
+read_step spells k n x None e below h = let l = below (rw e at h) in (l.0, omega (arith, l.1), l.2)
+read_step spells k n x (Some y) e below h = search rules
+
+read : {A : Type 0} (spells : ℕ → Option A) (k n : ℕ) (x : A) → longest spells k ≡ Some (x, n)
+    → (0 < n) × (n ≤ k) × (spells n ≡ Some x)
+unfolding longest
+read spells zero n x h = cc
+read spells (suc k) n x h = read_step spells k n x (spells (suc k)) refl (read spells k n x) h
 
 pub longest_found : {A : Type 0} (spells : ℕ → Option A) (k n : ℕ) (x : A) → longest spells k ≡ Some (x, n)
     → IsLongest spells k n x
-unfolding longest
-longest_found spells zero n x h = absurd cc
-longest_found spells (suc k) n x h =
-    found_step spells k n x (spells (suc k)) refl (longest_found spells k n x) h
+longest_found spells k n x h =
+    let l = read spells k n x h in record {
+      some = l.0;
+      within = l.1;
+      is = l.2;
+      above = λ m p q. longest_over spells k m (rw h p) q;
+    }
 
-missing_step : {A : Type 0} (spells : ℕ → Option A) (k : ℕ) (o : Option A) → spells (suc k) ≡ o
-    → (longest spells k ≡ None → (m : ℕ) → 0 < m → m ≤ k → spells m ≡ None) → longest spells (suc k) ≡ None
-    → (m : ℕ) → 0 < m → m ≤ suc k → spells m ≡ None
+pub longest_same : {A : Type 0} (f g : ℕ → Option A) (k : ℕ) → ((m : ℕ) → m ≤ k → f m ≡ g m)
+    → longest f k ≡ longest g k
 unfolding longest
-missing_step spells k None e below h m p q = search rules
-missing_step spells k (Some y) e below h m p q = let f = rw e at h in absurd cc
-
-pub longest_missing : {A : Type 0} (spells : ℕ → Option A) (k : ℕ) → longest spells k ≡ None → (m : ℕ) → 0 < m
-    → m ≤ k → spells m ≡ None
-unfolding longest
-longest_missing spells zero h m p q = absurd (omega arith)
-longest_missing spells (suc k) h m p q =
-    missing_step spells k (spells (suc k)) refl (longest_missing spells k) h m p q
+longest_same f g zero h = refl
+longest_same f g (suc k) h =
+    rw (h (suc k) (omega arith), longest_same f g k (λ m p. h m (omega arith))) refl

@@ -1,42 +1,22 @@
 -- The tokens of a line are its only parts in the sense of Parts.antt.
 use Rattle.std.proofs.Common.{rules}
-use Rattle.std.proofs.Common.{◌≡◌, ℕ, zero, suc, ◌<◌, ◌≤◌, Bool, true, false, cond, List, [], ◌∷◌, ◌++◌, length, take, drop, get_or, refl, ap, ◌∙◌, arith, length-take, length-drop}
+use Rattle.std.proofs.Common.{◌≡◌, ℕ, zero, suc, ◌<◌, ◌≤◌, Bool, true, false, cond, List, [], ◌∷◌, length, take, drop, get_or, refl, ap, ◌∙◌, arith, length-drop}
 use Rattle.std.specs.Prelude.{Option, None, Some, Result, Ok, Err, ◌↔◌, ◌||◌, nat_lt, MatchBool}
 use Rattle.std.specs.Bool.{◌==◌}
 use Rattle.std.proofs.lemmas.Bool.Decides.{nat_tests}
-use Rattle.std.proofs.lemmas.List.{take-append-drop}
 use Rattle.rv_tokens.specs.declared.token.Token.{Token}
 use Rattle.rv_tokens.specs.declared.fault.LineFault.{LineFault}
 use Rattle.rv_tokens.specs.declared.fault.LineFault.TheVariants.{LineTooLong}
 use Rattle.rv_base.specs.Words.{is_blank}
-use Rattle.rv_tokens.specs.Faults.{◌>>=◌}
-use Rattle.rv_tokens.specs.Support.Cuts.{front, tokens}
+use Rattle.rv_tokens.specs.Support.Cuts.{front, tokens, with_tokens, tokens_after}
 use Rattle.rv_tokens.specs.Tokens.{token_of, token_in, is_comment}
-use Rattle.rv_tokens.specs.Support.Partial.{with_tokens, tokens_after}
 use Rattle.rv_tokens.specs.Parts.{IsCut, Ended, Comment, Blank, Longest, Nothing, IsCutInto}
 use Rattle.rv_tokens.proofs.Front.{none_in}
-use Rattle.rv_tokens.proofs.Longest.{longest_is, longest_found, longest_none, longest_missing}
-use Rattle.rv_tokens.proofs.Signs.{token_is, swapped}
-use Rattle.rv_tokens.proofs.Placing.{tokens_are}
+use Rattle.rv_tokens.proofs.Longest.{longest_is, longest_found, longest_none, longest_over}
+use Rattle.rv_tokens.proofs.Signs.{token_is, no_token, swapped}
 use Rattle.rv_tokens.proofs.Cutting.{cut_blank, cut_comment, cut_token, cut_none, cut_end}
 
 -- ---- neither a blank nor a comment begins where a token does
-
-space_none : (bs : List ℕ) → token_of (32 ∷ bs) ≡ None
-space_none [] = token_is (32 ∷ [])
-space_none (c ∷ cs) = token_is (32 ∷ c ∷ cs)
-
-tab_none : (bs : List ℕ) → token_of (9 ∷ bs) ≡ None
-tab_none [] = token_is (9 ∷ [])
-tab_none (c ∷ cs) = token_is (9 ∷ c ∷ cs)
-
-hash_none : (bs : List ℕ) → token_of (35 ∷ bs) ≡ None
-hash_none [] = token_is (35 ∷ [])
-hash_none (c ∷ cs) = token_is (35 ∷ c ∷ cs)
-
-slash_none : (bs : List ℕ) → token_of (47 ∷ bs) ≡ None
-slash_none [] = token_is (47 ∷ [])
-slash_none (c ∷ cs) = token_is (47 ∷ c ∷ cs)
 
 differs : (n : ℕ) → ((bs : List ℕ) → token_of (n ∷ bs) ≡ None) → (b : ℕ) (bs : List ℕ) (t : Token)
     → token_of (b ∷ bs) ≡ Some t → (b == n) ≡ false
@@ -45,51 +25,46 @@ differs n none b bs t h = search rules
 comment_not : (b : ℕ) (bs : List ℕ) → (b == 35) ≡ false → (b == 47) ≡ false → is_comment (b ∷ bs) ≡ false
 comment_not b bs h s = rw (swapped 35 b, swapped 47 b, h, s) refl
 
-starts : (text : List ℕ) (t : Token) → token_of text ≡ Some t → (rest : List ℕ)
-    → (0 < length text) × (is_blank (get_or (text ++ rest) 0 0) ≡ false) × (is_comment (text ++ rest) ≡ false)
-starts [] t h rest = let f = rw (token_is []) at h in absurd cc
-starts (b ∷ bs) t h rest = search (rules, differs, space_none, tab_none, comment_not, hash_none, slash_none)
-
 token_by : (b : Bool) (o : Option Token) (t : Token) → cond b None o ≡ Some t → o ≡ Some t
 token_by true o t h = absurd cc
 token_by false o t h = h
 
 -- a line that begins with a token
 begins : (line : List ℕ) (n : ℕ) (t : Token) → token_in line n ≡ Some t
-    → (0 < length (take n line)) × (is_blank (get_or line 0 0) ≡ false) × (is_comment line ≡ false)
+    → (0 < n) × (is_blank (get_or line 0 0) ≡ false) × (is_comment line ≡ false)
 unfolding token_in
-begins line n t h =
-    let is = token_by _ (token_of (take n line)) t h in
-    rw (take-append-drop n line) at (starts (take n line) t is (drop n line))
+begins line zero t h = let f = none_in line 0 no_token in cc
+begins [] (suc n) t h = let f = none_in [] (suc n) no_token in cc
+begins (b ∷ bs) (suc n) t h =
+    let is = token_by _ (token_of (b ∷ take n bs)) t h in
+    let apart = λ (k : ℕ) (none : (xs : List ℕ) → token_of (k ∷ xs) ≡ None). differs k none b (take n bs) t is in
+    let space : (b == 32) ≡ false = apart 32 (token_is 32) in
+    let tab : (b == 9) ≡ false = apart 9 (token_is 9) in
+    (omega arith, rw (space, tab) refl, comment_not b bs (apart 35 (token_is 35)) (apart 47 (token_is 47)))
 
-comment_step : (b : ℕ) (bs : List ℕ) (x y : Bool) → (b == 32) ≡ x → (b == 9) ≡ y
+not_blank : (b : ℕ) (bs : List ℕ) (x y : Bool) → (b == 32) ≡ x → (b == 9) ≡ y
     → is_comment (b ∷ bs) ≡ true → (x || y) ≡ false
-comment_step b bs true y e f h = search rules
-comment_step b bs false true e f h = search rules
-comment_step b bs false false e f h = refl
+not_blank b bs true y e f h = search rules
+not_blank b bs false true e f h = search rules
+not_blank b bs false false e f h = refl
 
 comment_ends : (line : List ℕ) → is_comment line ≡ true → tokens_after line 0 ≡ Ok []
-comment_ends [] h = absurd cc
-comment_ends (b ∷ bs) h = cut_comment (b ∷ bs) (omega arith) (comment_step b bs (b == 32) (b == 9) refl refl h) h
+comment_ends [] h = cc
+comment_ends (b ∷ bs) h = cut_comment (b ∷ bs) (not_blank b bs (b == 32) (b == 9) refl refl h) h
 
 -- ---- from the parts of a line to its tokens
 
-with_token : (t : Token) (r : Result (List Token) LineFault) → with_tokens (t ∷ []) r ≡ (r >>= λ ts. Ok (t ∷ ts))
-with_token t (Ok ts) = refl
-with_token t (Err fault) = refl
-
 cut_is : (line : List ℕ) (r : Result (List Token) LineFault) → IsCut line r → tokens_after line 0 ≡ r
+unfolding with_tokens
 cut_is _ _ Ended = cut_end [] refl
 cut_is _ _ (Comment line e) = comment_ends line e
-cut_is _ _ (Blank b rest r e h) = cut_blank (b ∷ rest) (omega arith) e ∙ cut_is rest r h
+cut_is _ _ (Blank b rest r e h) = cut_blank (b ∷ rest) e ∙ cut_is rest r h
 cut_is _ _ (Longest line n t r within is above h) =
     let at = begins line n t is in
-    let len : length (take n line) ≡ n = omega (arith, length-take n line) in
-    let some : 0 < n = omega (arith, at.0) in
     let found = longest_is (token_in line) (length line) n t
-    (record { some = some; within = within; is = is; above = above }) in
-    cut_token line t n (omega arith) at.1 at.2 found some
-    ∙ (ap (with_tokens (t ∷ [])) (cut_is (drop n line) r h) ∙ with_token t r)
+    (record { some = at.0; within = within; is = is; above = above }) in
+    cut_token line t n at.1 at.2 found at.0
+    ∙ ap (with_tokens (t ∷ [])) (cut_is (drop n line) r h)
 cut_is _ _ (Nothing b rest blank comment none) =
     cut_none (b ∷ rest) (omega arith) blank comment
     (longest_none (token_in (b ∷ rest)) (length (b ∷ rest)) (λ m p q. none m q))
@@ -97,48 +72,40 @@ cut_is _ _ (Nothing b rest blank comment none) =
 -- ---- from the tokens of a line to its parts
 
 none_first : (line : List ℕ) → token_in line 0 ≡ None
-none_first line = none_in line 0 (token_is [])
+none_first line = none_in line 0 no_token
 
 none_all : (line : List ℕ) → front line ≡ None → (n : ℕ) → n ≤ length line → token_in line n ≡ None
 none_all line h zero le = none_first line
-none_all line h (suc n) le = longest_missing (token_in line) (length line) h (suc n) (omega arith) le
+none_all line h (suc n) le = longest_over (token_in line) (length line) (suc n) (rw h (omega arith)) le
 
 -- a line, if each of its ends has the parts that it is cut into
-made_front : (b : ℕ) (bs : List ℕ) (o : Option (Token × ℕ))
-    → ((l : List ℕ) → length l ≤ length bs → IsCut l (tokens_after l 0)) → is_blank b ≡ false
-    → is_comment (b ∷ bs) ≡ false → front (b ∷ bs) ≡ o → IsCut (b ∷ bs) (tokens_after (b ∷ bs) 0)
-made_front b bs None more blank comment e =
-    rw (cut_none (b ∷ bs) (omega arith) blank comment e) (Nothing b bs blank comment (none_all (b ∷ bs) e))
-made_front b bs (Some at) more blank comment e =
-    let l = longest_found (token_in (b ∷ bs)) (length (b ∷ bs)) at.1 at.0 e in
-    rw (
-      cut_token (b ∷ bs) at.0 at.1 (omega arith) blank comment e l.some,
-      with_token at.0 (tokens_after (drop at.1 (b ∷ bs)) 0),
-    )
+made_step : (b : ℕ) (bs : List ℕ) (s c : Bool) (o : Option (Token × ℕ))
+    → ((l : List ℕ) → length l ≤ length bs → IsCut l (tokens_after l 0)) → is_blank b ≡ s
+    → is_comment (b ∷ bs) ≡ c → front (b ∷ bs) ≡ o → IsCut (b ∷ bs) (tokens_after (b ∷ bs) 0)
+unfolding with_tokens
+made_step b bs true c o more e f g =
+    rw (cut_blank (b ∷ bs) e) (Blank b bs (tokens_after bs 0) e (more bs (omega arith)))
+made_step b bs false true o more e f g = rw (cut_comment (b ∷ bs) e f) (Comment (b ∷ bs) f)
+made_step b bs false false None more e f g =
+    rw (cut_none (b ∷ bs) (omega arith) e f g) (Nothing b bs e f (none_all (b ∷ bs) g))
+made_step b bs false false (Some at) more e f g =
+    let l = longest_found (token_in (b ∷ bs)) (length (b ∷ bs)) at.1 at.0 g in
+    rw (cut_token (b ∷ bs) at.0 at.1 e f g l.some)
     (Longest (b ∷ bs) at.1 at.0 (tokens_after (drop at.1 (b ∷ bs)) 0) l.within l.is l.above
     (more (drop at.1 (b ∷ bs)) (omega (arith, length-drop at.1 (b ∷ bs), l.some, l.within))))
-
-made_comment : (b : ℕ) (bs : List ℕ) (c : Bool) → ((l : List ℕ) → length l ≤ length bs → IsCut l (tokens_after l 0))
-    → is_blank b ≡ false → is_comment (b ∷ bs) ≡ c → IsCut (b ∷ bs) (tokens_after (b ∷ bs) 0)
-made_comment b bs true more blank e = rw (cut_comment (b ∷ bs) (omega arith) blank e) (Comment (b ∷ bs) e)
-made_comment b bs false more blank e = made_front b bs (front (b ∷ bs)) more blank e refl
-
-made_step : (b : ℕ) (bs : List ℕ) (s : Bool) → ((l : List ℕ) → length l ≤ length bs → IsCut l (tokens_after l 0))
-    → is_blank b ≡ s → IsCut (b ∷ bs) (tokens_after (b ∷ bs) 0)
-made_step b bs true more e =
-    rw (cut_blank (b ∷ bs) (omega arith) e) (Blank b bs (tokens_after bs 0) e (more bs (omega arith)))
-made_step b bs false more e = made_comment b bs (is_comment (b ∷ bs)) more e refl
 
 made : (k : ℕ) (line : List ℕ) → length line ≤ k → IsCut line (tokens_after line 0)
 made k [] h = rw (cut_end [] refl) Ended
 made zero (b ∷ bs) h = absurd (omega arith)
-made (suc k) (b ∷ bs) h = made_step b bs (is_blank b) (λ l m. made k l (omega (arith, h, m))) refl
+made (suc k) (b ∷ bs) h =
+    made_step b bs (is_blank b) (is_comment (b ∷ bs)) (front (b ∷ bs)) (λ l m. made k l (omega (arith, h, m)))
+    refl refl refl
 
 -- ---- lines that are too long
 
 pub short_tokens : (line : List ℕ) → length line ≤ 1024 → tokens line ≡ tokens_after line 0
 unfolding tokens
-short_tokens line h = search (rules, nat_tests, tokens_are)
+short_tokens line h = search (rules, nat_tests)
 
 pub long_tokens : (line : List ℕ) → 1024 < length line → tokens line ≡ Err LineTooLong
 unfolding tokens

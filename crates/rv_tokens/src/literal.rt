@@ -1,11 +1,12 @@
 //! Numbers, characters and strings.
-ghost use Rattle.std.specs.Prelude.{◌≡◌, ◌<◌, ◌≤◌, IfSome, length};
+ghost use Rattle.std.specs.Prelude.{◌≡◌, ◌<◌, ◌≤◌, IfSome, [], ◌∷◌, length, option_and_then};
 ghost use Rattle.rv_base.specs.Numbers.{number_in};
+ghost use Rattle.rv_base.specs.Tables.{lookup};
 ghost use Rattle.std.specs.Option.{option_map};
-ghost use Rattle.rv_tokens.specs.Literals.{has_leading_zero, number, short_decimal, escape, spelled, between};
-ghost use Rattle.rv_tokens.specs.Support.Partial.{character, first_byte, has_prefix, is_plain, letter_escape};
+ghost use Rattle.rv_tokens.specs.Literals.{has_leading_zero, number, short_decimal, letters, escape, spelled, between};
+ghost use Rattle.rv_tokens.specs.Support.Partial.{first_byte, has_prefix, is_plain};
 
-use rv_base::number_in;
+use rv_base::{hex_byte, number_in};
 
 /// Reads a number of 32 bits in a base.
 fn word_in(base: u64, digits: &[u8]) -> Option<u32>
@@ -32,7 +33,7 @@ fn has_leading_zero(text: &[u8]) -> bool
 }
 
 /// Reads a number: hexadecimal after `0x`, binary after `0b`, octal after `0`, or decimal.
-#[tactic(auto, using(crate::proofs::Signs::number_steps))]
+#[tactic(auto, using(crate::proofs::Signs::number_is, std::proofs::lemmas::List::take_all))]
 pub fn number(text: &[u8]) -> Option<u32>
     ensures { result ≡ number text.now }
 {
@@ -61,7 +62,7 @@ pub fn short_decimal(text: &[u8]) -> Option<u16>
 
 /// Returns the byte that a letter following `\` stands for.
 fn letter_escape(b: u8) -> Option<u8>
-    ensures { result ≡ letter_escape b }
+    ensures { result ≡ lookup (b ∷ []) letters }
 {
     match b {
         b'n' => Some(b'\n'),
@@ -74,25 +75,23 @@ fn letter_escape(b: u8) -> Option<u8>
     }
 }
 
-/// Reads a number below 256 in a base.
-fn byte_in(base: u64, digits: &[u8]) -> Option<u8>
-    requires low { 1 ≤ base }
-    requires high { base ≤ 16 }
-    ensures { result ≡ number_in base 255 digits.now }
+/// Reads an octal number below 256.
+fn octal_byte(digits: &[u8]) -> Option<u8>
+    ensures { result ≡ number_in 8 255 digits.now }
 {
-    let n = number_in(base, 255, digits)?;
+    let n = number_in(8, 255, digits)?;
     Some(n as u8)
 }
 
 /// Reads an escape without its `\`: a letter, `x` and two hexadecimal digits, or one to three octal digits.
-#[tactic(auto, unfolding(crate::specs::Support::Partial::escape_by), using(crate::proofs::Signs::letter_is, crate::proofs::Escapes::as_escape))]
+#[tactic(auto, unfolding(crate::specs::Literals::escape), using(crate::proofs::Escapes::escape_steps))]
 fn escape(text: &[u8]) -> Option<u8>
     ensures { result ≡ escape text.now }
 {
     match text {
-        [letter] => letter_escape(*letter).or_else(|| byte_in(8, text)),
-        [b'x', _, _] => byte_in(16, &text[1..]),
-        [_, _] | [_, _, _] => byte_in(8, text),
+        [b'x', digits @ ..] => hex_byte(digits),
+        [letter] => letter_escape(*letter).or_else(|| octal_byte(text)),
+        [_, _] | [_, _, _] => octal_byte(text),
         _ => None,
     }
 }
@@ -101,19 +100,17 @@ fn escape(text: &[u8]) -> Option<u8>
 fn is_plain(quote: u8, b: u8) -> bool
     ensures { result ≡ is_plain quote b }
 {
-    ((b >= 0x20 && b <= 0x7E) || (quote == b'"' && (b == b'\t' || b >= 0x80)))
-        && b != quote
-        && b != b'\\'
+    ((b >= 0x20 && b <= 0x7E) || (quote == b'"' && (b == b'\t' || b >= 0x80))) && b != quote
 }
 
 /// Reads the text of a byte between two quotes: the byte itself, or an escape.
-#[tactic(auto, using(crate::proofs::Escapes::as_spelled, crate::proofs::Escapes::backslash), unfolding(crate::specs::Support::Partial::spelled_by))]
+#[tactic(auto, using(crate::proofs::Escapes::spelled_is, std::proofs::lemmas::Bool::Decides::nat_tests))]
 fn byte_between(quote: u8, text: &[u8]) -> Option<u8>
     ensures { result ≡ spelled quote text.now }
 {
     match text {
-        [b] => is_plain(quote, *b).then_some(*b),
         [b'\\', rest @ ..] => escape(rest),
+        [b] => is_plain(quote, *b).then_some(*b),
         _ => None,
     }
 }
@@ -129,9 +126,8 @@ pub fn between(left: u8, right: u8, text: &[u8]) -> Option<&[u8]>
 }
 
 /// Reads a character with its quotes, as the byte that it stands for.
-#[tactic(auto, unfolding(crate::specs::Support::Partial::character))]
 pub fn character(text: &[u8]) -> Option<u8>
-    ensures { result ≡ character text.now }
+    ensures { result ≡ option_and_then (spelled 39) (between 39 39 text.now) }
 {
     byte_between(b'\'', between(b'\'', b'\'', text)?)
 }

@@ -1,7 +1,6 @@
 //! Where the tokens of a line stand.
 ghost use Rattle.std.specs.Prelude.{◌≡◌, ◌+◌, ◌≤◌, ◌<◌, length, slice_get, IfSome};
-ghost use Rattle.rv_tokens.specs.Support.Cuts.{places};
-ghost use Rattle.rv_tokens.specs.Support.Partial.{places_after};
+ghost use Rattle.rv_tokens.specs.Support.Cuts.{places, places_after};
 
 use crate::scan::{front, is_comment};
 use rv_base::is_blank;
@@ -16,7 +15,7 @@ pub struct Place {
 }
 
 /// Returns the place of the token with an index in the rest of a line that has `total` bytes.
-#[tactic(auto, unfolding(crate::specs::Support::Partial::places_after))]
+#[tactic(auto, unfolding(crate::specs::Support::Cuts::places_after), using(crate::proofs::Cutting::place_steps))]
 fn place_in(total: usize, rest: &[u8], index: usize) -> Option<Place>
     requires { length rest.now ≤ total }
     ensures value { result ≡ slice_get (places_after total rest.now 0) index }
@@ -41,7 +40,6 @@ fn place_in(total: usize, rest: &[u8], index: usize) -> Option<Place>
 
 /// Returns the place of the token with an index, counted from 0, in a line without its line end; `None` if
 /// fewer tokens can be cut from the line.
-#[tactic(auto, using(crate::proofs::Placing::places_are))]
 pub fn place_of(line: &[u8], index: usize) -> Option<Place>
     ensures value { result ≡ slice_get (places line.now) index }
     ensures within { IfSome result (λ p. p.column + p.len ≤ length line.now) }

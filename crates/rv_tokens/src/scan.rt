@@ -1,13 +1,13 @@
 //! The lexer.
-ghost use Rattle.std.specs.Prelude.{◌≡◌, ◌↔◌, ◌==◌, ℕ, List, Result, IfOk, IsTrue, ◌<◌, ◌≤◌, length, true, false, take, slice_index};
+ghost use Rattle.std.specs.Prelude.{◌≡◌, ◌↔◌, ◌==◌, ℕ, List, Result, IfOk, [], ◌∷◌, ◌<◌, ◌≤◌, length, true, false, take, slice_index};
 ghost use Rattle.std.specs.List.{list_all};
 ghost use Rattle.rv_tokens.specs.Faults.{Gives};
 ghost use Rattle.rv_tokens.specs.Parts.{IsCutInto};
 ghost use Rattle.rv_tokens.specs.declared.fault.LineFault.{LineFault};
 ghost use Rattle.rv_tokens.specs.declared.token.Token.{Token};
-ghost use Rattle.rv_tokens.specs.Support.Partial.{begins_with_name_byte, sign, half, tokens_after};
-ghost use Rattle.rv_tokens.specs.Support.Cuts.{front, tokens};
-ghost use Rattle.rv_tokens.specs.Tokens.{is_name_start, is_name_byte, local, word, is_comment, fault_at};
+ghost use Rattle.rv_base.specs.Tables.{lookup};
+ghost use Rattle.rv_tokens.specs.Support.Cuts.{front, tokens, tokens_after};
+ghost use Rattle.rv_tokens.specs.Tokens.{is_name_start, is_name_byte, local, word, signs, is_comment, fault_at};
 
 use crate::literal::{character, first_byte, number, short_decimal};
 use crate::token::{Text, Token};
@@ -30,7 +30,7 @@ fn is_name_byte(b: u8) -> bool
 }
 
 /// Reads a reference to a local label: one to four digits, and `b` or `f`.
-#[tactic(auto, unfolding(crate::specs::Support::Partial::local_by), using(crate::proofs::Escapes::as_local))]
+#[tactic(auto, using(crate::proofs::Escapes::local_is))]
 fn local_reference<'a>(text: &[u8]) -> Option<Token<'a>>
     requires { 0 < length text.now }
     ensures { result ≡ local text.now }
@@ -66,7 +66,7 @@ fn word<'a>(text: &'a [u8]) -> Option<Token<'a>>
 
 /// Reads a sign of one byte.
 fn sign<'a>(b: u8) -> Option<Token<'a>>
-    ensures { result ≡ sign b }
+    ensures { result ≡ lookup (b ∷ []) signs }
 {
     match b {
         b',' => Some(Token::Comma),
@@ -80,22 +80,11 @@ fn sign<'a>(b: u8) -> Option<Token<'a>>
     }
 }
 
-/// Reads `%hi` or `%lo`.
-fn half<'a>(text: &[u8]) -> Option<Token<'a>>
-    ensures { result ≡ half text.now }
-{
-    match text {
-        b"%hi" => Some(Token::High),
-        b"%lo" => Some(Token::Low),
-        _ => None,
-    }
-}
-
 /// Returns the number of name bytes at the front of a line.
 fn word_len(line: &[u8]) -> usize
     ensures within { result ≤ length line.now }
     ensures all { list_all is_name_byte (take result line.now) ≡ true }
-    ensures stops { result < length line.now → is_name_byte (slice_index line.now result) ≡ false }
+    ensures stops { is_name_byte (slice_index line.now result) ≡ false }
 {
     let mut n = 0;
     while n < line.len() && is_name_byte(line[n]) {
@@ -106,7 +95,7 @@ fn word_len(line: &[u8]) -> usize
 
 /// Returns whether a text begins with a name byte.
 fn begins_with_name_byte(rest: &[u8]) -> bool
-    ensures { result ≡ begins_with_name_byte rest.now }
+    ensures { result ≡ is_name_byte (slice_index rest.now 0) }
 {
     match rest {
         [first, ..] => is_name_byte(*first),
@@ -133,6 +122,7 @@ fn fault_at(b: u8) -> LineFault
 }
 
 /// Returns the longest token at the front of a line that begins with a name byte, and its length.
+#[tactic(auto, using(crate::proofs::Front::front_word))]
 fn word_front<'a>(line: &'a [u8]) -> Option<(Token<'a>, usize)>
     requires some { 0 < length line.now }
     requires first { is_name_byte (slice_index line.now 0) ≡ true }
@@ -160,7 +150,7 @@ fn character_front<'a>(line: &'a [u8]) -> Option<(Token<'a>, usize)>
 }
 
 /// Returns the longest token at the front of a line that begins with `"`, and its length.
-#[tactic(auto, using(crate::proofs::StringEnds::string_steps, crate::proofs::Front::at_front))]
+#[tactic(auto, using(crate::proofs::StringEnds::string_steps))]
 fn string_front<'a>(line: &'a [u8]) -> Option<(Token<'a>, usize)>
     requires some { 0 < length line.now }
     requires first { slice_index line.now 0 ≡ 34 }
@@ -192,11 +182,14 @@ fn half_front<'a>(line: &'a [u8]) -> Option<(Token<'a>, usize)>
         return None;
     }
     let (text, rest) = line.split_at(3);
-    let token = half(text)?;
     if begins_with_name_byte(rest) {
         return None;
     }
-    Some((token, 3))
+    match text {
+        b"%hi" => Some((Token::High, 3)),
+        b"%lo" => Some((Token::Low, 3)),
+        _ => None,
+    }
 }
 
 /// Returns the longest token at the front of a line that begins with any other byte, and its length.
@@ -233,6 +226,7 @@ pub fn front<'a>(line: &'a [u8]) -> Option<(Token<'a>, usize)>
 }
 
 /// Cuts a line of any length into its tokens.
+#[tactic(auto, using(crate::proofs::Cutting::cut_steps))]
 fn cut<'a>(alloc: Global, line: &'a [u8]) -> Result<Vec<Token<'a>>, LineFault>
     ensures value { Gives (λ v. v.items) result (tokens_after line.now 0) }
     ensures short { IfOk result (λ v. length v.items ≤ length line.now) }

@@ -54,6 +54,7 @@ impl<'a> Text<'a> {
     }
 
     /// Returns the number of the string's bytes.
+    #[tactic(auto, using(crate::proofs::Escapes::text_steps))]
     pub fn len(&self) -> usize
         ensures { result ≡ length self.now }
     {
@@ -67,6 +68,7 @@ impl<'a> Text<'a> {
     }
 
     /// Appends the bytes of the string.
+    #[tactic(auto, using(crate::proofs::Escapes::text_steps, std::proofs::lemmas::Grind::common_steps))]
     pub fn append_to(&self, out: &mut Vec<u8>) -> Result<(), AllocError>
         ensures { OnOk result (out.new.items ≡ out.old.items ++ self.now) }
     {

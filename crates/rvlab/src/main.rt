@@ -1,19 +1,22 @@
-//! The program of the lab: `rvlab SOURCE [--input F] [--pages P] [--slots S]`.
+//! The program of the lab: `rvlab SOURCE [--input F] [--pages P] [--slots S] [--json]`.
 //!
 //! Opens a lab of the source, and answers the commands of the standard input on the standard output, one
-//! after another. Where the standard input is no terminal, each command is written before its answer.
+//! after another. Where the standard input is no terminal, each command is written before its answer. With `--json` each
+//! command gets one line of JSON, and nothing else is written.
 #![tactic(auto)]
 
+mod json;
 mod save;
 mod talk;
 mod words;
 
-use crate::talk::{TalkFault, print_answer, talk};
+use crate::json::{faults_line, talk_json};
+use crate::talk::{TalkFault, print, print_answer, talk};
 use crate::words::{Words, read_words};
 use clap::error::ErrorKind;
 use rv_base::TEXT_LIMIT;
-use rv_lab::{Answer, Lab, LabFault, append_diagnosis};
-use rv_words::refusal_status;
+use rv_lab::{Lab, LabFault, Printer, append_diagnosis};
+use rv_options::refusal_status;
 use std::alloc::AllocError;
 use std::io::{self, Write};
 use std::process::ExitCode;
@@ -40,9 +43,25 @@ fn read_file(rt: &HostRuntime, path: &str) -> Option<Vec<u8>> {
     }
 }
 
+/// Writes the line of JSON that says what is wrong with a source, and returns the exit status.
+fn refuse_by_line(rt: &HostRuntime, source: &[u8]) -> u8 {
+    let Ok(line) = faults_line(rt.alloc(), source) else {
+        return fail(rt, b"out of memory\n");
+    };
+    let printed = print(rt, line.as_bytes());
+    if printed.is_ok() && print(rt, b"\n").is_ok() {
+        REFUSED
+    } else {
+        FAILED
+    }
+}
+
 /// Reports why there is no lab, and returns the exit status.
 fn refuse(rt: &HostRuntime, words: &Words<'_>, source: &[u8], fault: LabFault) -> u8 {
-    let mut text = Answer::new(rt.alloc());
+    if words.is_json && matches!(fault, LabFault::Source(_)) {
+        return refuse_by_line(rt, source);
+    }
+    let mut text = Printer::new(rt.alloc());
     append_diagnosis(words.source, source, fault, &mut text);
     report(rt, text.bytes());
     match fault {
@@ -62,17 +81,25 @@ fn greet_and_talk(
     rt: &HostRuntime,
     name: &str,
     lab: &mut Lab,
-    answer: &mut Answer,
+    answer: &mut Printer,
 ) -> Result<(), TalkFault> {
     lab.greet(name, answer);
     print_answer(rt, answer)?;
     talk(rt, lab, answer)
 }
 
+/// Talks with a lab until no command follows, as the words ask for it.
+fn talk_as_asked(rt: &HostRuntime, words: &Words<'_>, lab: &mut Lab) -> Result<(), TalkFault> {
+    if words.is_json {
+        return talk_json(rt, lab);
+    }
+    let mut answer = Printer::new(rt.alloc());
+    greet_and_talk(rt, words.source, lab, &mut answer)
+}
+
 /// Talks with a lab until no command follows. Returns the exit status.
-fn run_lab(rt: &HostRuntime, name: &str, lab: &mut Lab) -> u8 {
-    let mut answer = Answer::new(rt.alloc());
-    match greet_and_talk(rt, name, lab, &mut answer) {
+fn run_lab(rt: &HostRuntime, words: &Words<'_>, lab: &mut Lab) -> u8 {
+    match talk_as_asked(rt, words, lab) {
         Ok(()) => 0,
         Err(TalkFault::Read) => fail(rt, b"cannot read commands\n"),
         Err(TalkFault::Write) => FAILED,
@@ -82,7 +109,7 @@ fn run_lab(rt: &HostRuntime, name: &str, lab: &mut Lab) -> u8 {
 /// Opens a lab of a source with a timed list, and talks. Returns the exit status.
 fn open(rt: &HostRuntime, words: &Words<'_>, source: &[u8], inputs: &[u8]) -> u8 {
     match Lab::open(rt.alloc(), source, inputs, words.sizes) {
-        Ok(mut lab) => run_lab(rt, words.source, &mut lab),
+        Ok(mut lab) => run_lab(rt, words, &mut lab),
         Err(fault) => refuse(rt, words, source, fault),
     }
 }

@@ -1,5 +1,5 @@
 //! What was done, as files for rvboard.
-use rv_lab::{Answer, Lab, saved_name};
+use rv_lab::{Lab, Printer, saved_name};
 use std::alloc::AllocError;
 use std::{fs, str};
 
@@ -11,7 +11,7 @@ fn path(rt: &HostRuntime, name: &str, ending: &str) -> Result<String, AllocError
 }
 
 /// Writes a file, and returns whether that succeeded.
-fn write_file(rt: &HostRuntime, name: &str, ending: &str, text: &Answer) -> bool {
+fn write_file(rt: &HostRuntime, name: &str, ending: &str, text: &Printer) -> bool {
     if text.is_cut() {
         return false;
     }
@@ -23,7 +23,7 @@ fn write_file(rt: &HostRuntime, name: &str, ending: &str, text: &Answer) -> bool
 
 /// Writes the timed list and the commands under a name, and returns whether that succeeded.
 fn write_files(rt: &HostRuntime, lab: &Lab, name: &str) -> bool {
-    let mut text = Answer::new(rt.alloc());
+    let mut text = Printer::new(rt.alloc());
     lab.append_saved_inputs(&mut text);
     let has_inputs = write_file(rt, name, ".input", &text);
     text.clear();
@@ -32,7 +32,7 @@ fn write_files(rt: &HostRuntime, lab: &Lab, name: &str) -> bool {
 }
 
 /// Saves what was done under the name that a command line has, and answers how it is repeated.
-pub fn save(rt: &HostRuntime, lab: &Lab, line: &[u8], answer: &mut Answer) {
+pub fn save(rt: &HostRuntime, lab: &Lab, line: &[u8], answer: &mut Printer) {
     let name = saved_name(line).unwrap_or(b"lab");
     match str::from_utf8(name) {
         Ok(name) if write_files(rt, lab, name) => lab.append_saved(name, answer),

@@ -1,7 +1,7 @@
 //! The talk with a lab: reads commands and writes their answers.
 use crate::save::save;
 use rv_base::NoMemory;
-use rv_lab::{Answer, Lab, Next};
+use rv_lab::{Lab, Next, Printer};
 use std::io::{BufRead, IsTerminal, StdinLock, Write};
 
 /// How many steps of a long run lie between two lines of progress.
@@ -17,19 +17,19 @@ pub enum TalkFault {
 }
 
 /// Writes bytes to the standard output.
-fn print(rt: &HostRuntime, bytes: &[u8]) -> Result<(), TalkFault> {
+pub fn print(rt: &HostRuntime, bytes: &[u8]) -> Result<(), TalkFault> {
     rt.stdout().write_all(bytes).ok().ok_or(TalkFault::Write)
 }
 
 /// Writes an answer to the standard output, and makes it empty.
-pub fn print_answer(rt: &HostRuntime, answer: &mut Answer) -> Result<(), TalkFault> {
+pub fn print_answer(rt: &HostRuntime, answer: &mut Printer) -> Result<(), TalkFault> {
     let printed = print(rt, answer.bytes());
     answer.clear();
     printed
 }
 
 /// Reads a line without its end, and returns whether there was one.
-fn read_line(reader: &mut StdinLock<'_>, line: &mut Vec<u8>) -> Result<bool, TalkFault> {
+pub fn read_line(reader: &mut StdinLock<'_>, line: &mut Vec<u8>) -> Result<bool, TalkFault> {
     line.clear();
     let Ok(count) = reader.read_until(b'\n', line) else {
         return Err(TalkFault::Read);
@@ -45,9 +45,9 @@ fn read_line(reader: &mut StdinLock<'_>, line: &mut Vec<u8>) -> Result<bool, Tal
 
 /// Tells the progress of a long run on the standard error, which had taken `before` steps when it was last
 /// asked for.
-fn tell_progress(rt: &HostRuntime, lab: &Lab, before: u64) {
+pub fn tell_progress(rt: &HostRuntime, lab: &Lab, before: u64) {
     if lab.steps() / PROGRESS > before / PROGRESS {
-        let mut line = Answer::new(rt.alloc());
+        let mut line = Printer::new(rt.alloc());
         lab.append_progress(&mut line);
         let _ = rt.stderr().write_all(line.bytes());
     }
@@ -57,7 +57,7 @@ fn tell_progress(rt: &HostRuntime, lab: &Lab, before: u64) {
 fn finish(
     rt: &HostRuntime,
     next: Result<Next, NoMemory>,
-    answer: &mut Answer,
+    answer: &mut Printer,
 ) -> Result<Next, TalkFault> {
     print_answer(rt, answer)?;
     match next {
@@ -74,7 +74,7 @@ fn execute(
     rt: &HostRuntime,
     lab: &mut Lab,
     line: &[u8],
-    answer: &mut Answer,
+    answer: &mut Printer,
 ) -> Result<Next, TalkFault> {
     let mut next = finish(rt, lab.command(line, answer), answer)?;
     for _ in 0..u64::MAX {
@@ -93,7 +93,7 @@ fn obey(
     rt: &HostRuntime,
     lab: &mut Lab,
     line: &[u8],
-    answer: &mut Answer,
+    answer: &mut Printer,
 ) -> Result<bool, TalkFault> {
     match execute(rt, lab, line, answer)? {
         Next::Quit => Ok(false),
@@ -121,7 +121,7 @@ fn talk_once(
     lab: &mut Lab,
     reader: &mut StdinLock<'_>,
     line: &mut Vec<u8>,
-    answer: &mut Answer,
+    answer: &mut Printer,
 ) -> Result<bool, TalkFault> {
     print(rt, b"> ")?;
     if !read_line(reader, line)? {
@@ -134,7 +134,7 @@ fn talk_once(
 
 /// Reads commands from the standard input up to one that ends the talk, or to the end, and writes their
 /// answers.
-pub fn talk(rt: &HostRuntime, lab: &mut Lab, answer: &mut Answer) -> Result<(), TalkFault> {
+pub fn talk(rt: &HostRuntime, lab: &mut Lab, answer: &mut Printer) -> Result<(), TalkFault> {
     let mut reader = rt.reader();
     let mut line = Vec::new(rt.alloc());
     let mut goes_on = Ok(true);

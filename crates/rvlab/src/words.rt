@@ -1,7 +1,8 @@
-//! The words of the command line, read with `clap`: `rvlab SOURCE [--input F] [--pages P] [--slots S]`.
+//! The words of the command line, read with `clap`: `rvlab SOURCE [--input F] [--pages P]
+//! [--slots S] [--json]`.
 use clap::{Arg, ArgAction, ArgMatches, Command, Error};
 use rv_lab::Sizes;
-use rv_words::{input_arg, pages_arg, slots_arg};
+use rv_options::{input_arg, pages_arg, slots_arg};
 use std::alloc::{AllocError, Global};
 
 /// What the words of the command line ask for.
@@ -13,6 +14,8 @@ pub struct Words<'a> {
     pub input: Option<&'a str>,
     /// The sizes of the board.
     pub sizes: Sizes,
+    /// Whether each command line gets a line of JSON.
+    pub is_json: bool,
 }
 
 /// Returns the positional argument SOURCE.
@@ -24,6 +27,14 @@ fn source_arg<'a>(alloc: Global) -> Arg<'a> {
         .action(ArgAction::Set)
 }
 
+/// Returns the option for JSON.
+fn json_arg<'a>(alloc: Global) -> Arg<'a> {
+    Arg::new(alloc, "json")
+        .long("json")
+        .help("answer each command line by a line of JSON")
+        .action(ArgAction::SetTrue)
+}
+
 /// Returns the arguments of the command, in their order.
 fn lab_args<'a>(alloc: Global) -> Result<Vec<Arg<'a>>, AllocError> {
     Ok(vec![in alloc;
@@ -31,6 +42,7 @@ fn lab_args<'a>(alloc: Global) -> Result<Vec<Arg<'a>>, AllocError> {
         input_arg(alloc),
         pages_arg(alloc),
         slots_arg(alloc),
+        json_arg(alloc),
     ]?)
 }
 
@@ -65,9 +77,11 @@ pub fn read_words<'a>(alloc: Global, words: &'a [&'a str]) -> Result<Words<'a>, 
         pages: number(&matches, "pages", 256),
         slots: number(&matches, "slots", 1024),
     };
+    let is_json = matches.get_flag("json");
     Ok(Words {
         source,
         input,
         sizes,
+        is_json,
     })
 }

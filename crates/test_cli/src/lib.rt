@@ -5,10 +5,6 @@
 #[cfg(test)]
 mod faults;
 #[cfg(test)]
-mod readers;
-#[cfg(test)]
-mod rows;
-#[cfg(test)]
 mod runs;
 #[cfg(test)]
 mod texts;

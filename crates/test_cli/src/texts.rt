@@ -1,6 +1,8 @@
 //! Readers and writers that move few bytes a call, fail, or are interrupted.
 ghost use Rattle.std.specs.Prelude.{◌≡◌, false};
 
+mod readers;
+
 use crate::runs::{DEFAULTS, HELLO};
 use rv_cli::{
     CliFault, Ending, FileIn, FileOut, InFailed, MemoryIn, MemoryOut, Options, TextIn, TextOut,

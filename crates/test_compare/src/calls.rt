@@ -3,9 +3,9 @@
 use crate::{same_everywhere, same_registers};
 use rv_board::{Board, Event};
 use rv_cache::Decoded;
-use rv_lists::{Input, TimedInput};
 use rv_monitor::{Session, Stop};
 use rv_ram::ByteMemory;
+use rv_timeline::{Input, TimedInput};
 
 /// Returns the event that an input is.
 pub fn event(input: Input) -> Event {

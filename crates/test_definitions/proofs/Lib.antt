@@ -4,3 +4,4 @@ pub mod Machine
 pub mod Running
 pub mod Programs
 pub mod Quiet
+pub mod Lists

@@ -7,6 +7,7 @@
 //! The rows have what the standards say, and no value that the program printed.
 #![tactic(auto)]
 
+mod controller;
 mod protection;
 mod registers;
 mod runs;
@@ -15,6 +16,7 @@ mod traps;
 mod values;
 mod words;
 
+pub use controller::controllers_are_defined;
 pub use protection::accesses_are_defined;
 pub use registers::{registers_are_defined, rights_are_defined};
 pub use runs::runs_are_defined;

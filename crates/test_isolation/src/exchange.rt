@@ -27,7 +27,7 @@ fn check_other_order(alloc: Global, one: &BootedBoard) -> Checked<()> {
 }
 
 /// Checks that a line and a byte may come in either order.
-pub fn check_line_and_byte(alloc: Global) -> Checked<()> {
+fn check_line_and_byte(alloc: Global) -> Checked<()> {
     let one = board_after(alloc, line_event(4, true)?, Event::Rx(65))?;
     check_other_order(alloc, &one)
 }
@@ -40,7 +40,13 @@ fn check_levels(alloc: Global, first: bool, second: bool, sources: u32) -> Check
 }
 
 /// Checks that the last of two levels of a line stays.
-pub fn check_levels_of_one_source(alloc: Global) -> Checked<()> {
+fn check_levels_of_one_source(alloc: Global) -> Checked<()> {
     check_levels(alloc, true, false, 0)?;
     check_levels(alloc, false, true, 0x10)
+}
+
+/// Checks which outside events may be exchanged.
+pub fn check_exchanges(alloc: Global) -> Checked<()> {
+    check_line_and_byte(alloc)?;
+    check_levels_of_one_source(alloc)
 }

@@ -16,14 +16,9 @@ use std::process::ExitCode;
 
 /// Does all checks.
 fn check_all(alloc: Global) -> Checked<()> {
-    runs::check_trap_ends_run(alloc)?;
-    runs::check_outside_events_count(alloc)?;
-    runs::check_nothing_is_done(alloc)?;
-    secrets::check_secret_word(alloc)?;
-    secrets::check_no_entry(alloc)?;
-    secrets::check_borders(alloc)?;
-    exchange::check_line_and_byte(alloc)?;
-    exchange::check_levels_of_one_source(alloc)
+    runs::check_runs(alloc)?;
+    secrets::check_secrets(alloc)?;
+    exchange::check_exchanges(alloc)
 }
 
 fn main(rt: HostRuntime) -> ExitCode {

@@ -4,18 +4,23 @@ use rv_board::{BootedBoard, Event};
 use std::alloc::Global;
 use test_compare::same_but_for_memory;
 
-/// A source whose user code may neither read nor execute the word `secret`: entry 0 is NA4 there, and grants
-/// nothing.
+/// The front of a source whose user code may neither read nor execute the word `secret`: entry 0 is NA4 there,
+/// and grants nothing.
 const WORD: &[u8] =
-    b"la t0,secret\nsrli t0,t0,2\ncsrw pmpaddr0,t0\nli t0,-1\ncsrw pmpaddr1,t0\nli t0,0x1F10\ncsrw pmpcfg0,t0\nla t0,user\ncsrw mepc,t0\nla t1,secret\nmret\nuser: lw a0,0(t1)\nsecret: .word ";
+    b"\nla t0,secret\nsrli t0,t0,2\ncsrw pmpaddr0,t0\nli t0,-1\ncsrw pmpaddr1,t0\nli t0,0x1F10\ncsrw pmpcfg0,t0\nla t0,user\ncsrw mepc,t0\nla t1,secret\nmret\nuser:\n";
 
-/// The same source with the entries 8 and 9 in place of 0 and 1.
+/// The same front with the entries 8 and 9 in place of 0 and 1.
 const WORD_BY_HIGH_ENTRIES: &[u8] =
-    b"la t0,secret\nsrli t0,t0,2\ncsrw pmpaddr8,t0\nli t0,-1\ncsrw pmpaddr9,t0\nli t0,0x1F10\ncsrw pmpcfg2,t0\nla t0,user\ncsrw mepc,t0\nla t1,secret\nmret\nuser: lw a0,0(t1)\nsecret: .word ";
+    b"\nla t0,secret\nsrli t0,t0,2\ncsrw pmpaddr8,t0\nli t0,-1\ncsrw pmpaddr9,t0\nli t0,0x1F10\ncsrw pmpcfg2,t0\nla t0,user\ncsrw mepc,t0\nla t1,secret\nmret\nuser:\n";
 
-/// The same source without a configuration of these entries, so that none matches.
+/// A source of that kind without a configuration of these entries, so that none matches.
 const NO_ENTRY: &[u8] =
     b"la t0,secret\nsrli t0,t0,2\ncsrw pmpaddr8,t0\nli t0,-1\ncsrw pmpaddr9,t0\nli t0,0x1F10\nla t0,user\ncsrw mepc,t0\nla t1,secret\nmret\nuser: lw a0,0(t1)\nsecret: .word 1";
+
+/// The user code after these fronts, and the end of the source.
+const LOAD: &[u8] = b"lw a0,0(t1)";
+
+const WORD_END: &[u8] = b"\nsecret: .word FILL";
 
 /// The front of a source whose user code may read and execute all from `user` to `end` (TOR), read and write
 /// the word `word` (NA4) and the 16 bytes of `area` (NAPOT), and nothing else. It begins with its own address
@@ -53,103 +58,42 @@ fn append(source: &mut Vec<u8>, piece: &[u8]) -> Checked<()> {
         .ok_or("memory is refused")
 }
 
-/// Boots a source whose last word is `word`, and runs it up to the first step of user code.
-fn boot_with_word(alloc: Global, front: &[u8], word: &[u8]) -> Checked<BootedBoard> {
-    let mut source = Vec::new(alloc);
-    append(&mut source, front)?;
-    append(&mut source, word)?;
-    boot_to_user_code(alloc, source.as_slice())
+/// Appends these pieces to a source.
+fn append_all(source: &mut Vec<u8>, pieces: &[&[u8]]) -> Checked<()> {
+    for piece in pieces {
+        append(source, piece)?;
+    }
+    Ok(())
 }
 
 // A function that owns a board drops it at each `?`, which costs proof: so it only lends it to another.
 
-/// Checks that two boards begin user code in the same way.
-fn check_beginnings(one: &BootedBoard, other: &BootedBoard) -> Checked<()> {
-    check(
-        one.steps() == 15 && one.pc() == 0x8000_003c,
-        "where user code begins",
-    )?;
-    check(
-        same_but_for_memory(one, other),
-        "two boards before user code",
-    )
-}
-
-/// Checks that both boards do no more than a step, whose load is refused.
-fn check_refused_loads(one: &mut BootedBoard, other: &mut BootedBoard) -> Checked<()> {
-    let first = run_user(one, &[Event::Step; 2])?;
-    let second = run_user(other, &[Event::Step; 2])?;
-    check(
-        first == 1 && second == 1,
-        "the steps up to the refused load",
-    )?;
-    check(
-        last_trap_is(one, 5, 0x8000_003c, 0x8000_0040),
-        "the refused load",
-    )
-}
-
-/// Checks that two boards are the same except for the word.
-fn check_ends(one: &BootedBoard, other: &BootedBoard) -> Checked<()> {
-    check(
-        same_but_for_memory(one, other),
-        "two boards after a refused load",
-    )?;
-    let words = one.ram(0x8000_0040) == Some(1) && other.ram(0x8000_0040) == Some(2);
-    check(words, "the words that were not loaded")
-}
-
-/// Checks that two boards are the same before and after the refused load of their words.
-fn check_both(one: &mut BootedBoard, other: &mut BootedBoard) -> Checked<()> {
-    check_beginnings(one, other)?;
-    check_refused_loads(one, other)?;
-    check_ends(one, other)
-}
-
-/// Boots a board whose word is 2, and checks it beside another.
-fn check_beside(alloc: Global, front: &[u8], one: &mut BootedBoard) -> Checked<()> {
-    let mut other = boot_with_word(alloc, front, b"2")?;
-    check_both(one, &mut other)
-}
-
-/// Checks that two boards which differ in a word that user code tries to load are the same afterwards.
-fn check_word(alloc: Global, front: &[u8]) -> Checked<()> {
-    let mut one = boot_with_word(alloc, front, b"1")?;
-    check_beside(alloc, front, &mut one)
-}
-
-/// Checks that a word which user code may neither read nor execute is not loaded, whichever entries keep it.
-pub fn check_secret_word(alloc: Global) -> Checked<()> {
-    check_word(alloc, WORD)?;
-    check_word(alloc, WORD_BY_HIGH_ENTRIES)
-}
-
-/// Checks that the first fetch of user code is refused.
-fn check_refused_fetch(board: &mut BootedBoard) -> Checked<()> {
-    check(
-        board.steps() == 14 && board.pc() == 0x8000_0038,
-        "where user code begins",
-    )?;
-    let done = run_user(board, &[Event::Step; 2])?;
-    let refused = last_trap_is(board, 1, 0x8000_0038, 0x8000_0038);
-    check(done == 1 && refused, "the refused fetch")
-}
-
-/// Checks that user code is not even fetched where no entry matches.
-pub fn check_no_entry(alloc: Global) -> Checked<()> {
-    let mut board = boot_to_user_code(alloc, NO_ENTRY)?;
-    check_refused_fetch(&mut board)
-}
-
-/// Boots the board of a row, with the byte `fill` in all places that user code may not see.
-fn boot_filled(alloc: Global, fill: &[u8], code: &[u8]) -> Checked<BootedBoard> {
+/// Boots a source, with the value `fill` in all places that user code may not see.
+fn boot_filled(
+    alloc: Global,
+    fill: &[u8],
+    front: &[u8],
+    code: &[u8],
+    end: &[u8],
+) -> Checked<BootedBoard> {
     let mut source = Vec::new(alloc);
-    append(&mut source, b".equ FILL,")?;
-    append(&mut source, fill)?;
-    append(&mut source, BORDERS)?;
-    append(&mut source, code)?;
-    append(&mut source, BORDERS_END)?;
+    let pieces = [b".equ FILL,".as_slice(), fill, front, code, end];
+    append_all(&mut source, &pieces)?;
     boot_to_user_code(alloc, source.as_slice())
+}
+
+/// Two boards that differ where user code may not see.
+#[derive(Drop)]
+struct Pair {
+    one: BootedBoard,
+    other: BootedBoard,
+}
+
+/// Boots a source with two values in all places that user code may not see.
+fn boot_pair(alloc: Global, front: &[u8], code: &[u8], end: &[u8]) -> Checked<Pair> {
+    let one = boot_filled(alloc, b"0x5a", front, code, end)?;
+    let other = boot_filled(alloc, b"0xa5", front, code, end)?;
+    Ok(Pair { one, other })
 }
 
 /// The end of a run of user code: how many events are done, and the cause of the trap that ends them.
@@ -160,21 +104,65 @@ struct End {
 }
 
 /// Checks that both boards do as many events and are the same at the end.
-fn check_ends_at_border(one: &mut BootedBoard, other: &mut BootedBoard, end: End) -> Checked<()> {
-    let first = run_user(one, &[Event::Step; 8])?;
-    let second = run_user(other, &[Event::Step; 8])?;
+fn check_end(pair: &mut Pair, end: End) -> Checked<()> {
+    let first = run_user(&mut pair.one, &[Event::Step; 8])?;
+    let second = run_user(&mut pair.other, &[Event::Step; 8])?;
+    let done = first == end.done && second == end.done;
     check(
-        first == end.done && second == end.done,
+        done && last_cause_is(&pair.one, end.cause),
         "the steps up to a border",
     )?;
-    check(last_cause_is(one, end.cause), "what happens at a border")?;
-    check(same_but_for_memory(one, other), "two boards after a border")
+    check(
+        same_but_for_memory(&pair.one, &pair.other),
+        "two boards after a border",
+    )
 }
 
-/// Boots the board of a row with another byte, and checks it beside this one.
-fn check_row_beside(alloc: Global, code: &[u8], one: &mut BootedBoard, end: End) -> Checked<()> {
-    let mut other = boot_filled(alloc, b"0xa5", code)?;
-    check_ends_at_border(one, &mut other, end)
+/// Checks that two boards begin user code in the same way, at `secret` less a word.
+fn check_beginnings(pair: &Pair) -> Checked<()> {
+    check(
+        pair.one.steps() == 15
+            && pair.one.pc() == 0x8000_003c
+            && same_but_for_memory(&pair.one, &pair.other),
+        "two boards before user code",
+    )
+}
+
+/// Checks that the load of the word was refused, which differs between the boards.
+fn check_words(pair: &Pair) -> Checked<()> {
+    check(
+        last_trap_is(&pair.one, 5, 0x8000_003c, 0x8000_0040)
+            && pair.one.ram(0x8000_0040) == Some(0x5a)
+            && pair.other.ram(0x8000_0040) == Some(0xa5),
+        "the refused load",
+    )
+}
+
+/// Checks that two boards are the same before and after the refused load of their words.
+fn check_loads(pair: &mut Pair) -> Checked<()> {
+    check_beginnings(pair)?;
+    check_end(pair, End { done: 1, cause: 5 })?;
+    check_words(pair)
+}
+
+/// Checks that two boards which differ in a word that user code tries to load are the same afterwards.
+fn check_word(alloc: Global, front: &[u8]) -> Checked<()> {
+    let mut pair = boot_pair(alloc, front, LOAD, WORD_END)?;
+    check_loads(&mut pair)
+}
+
+/// Checks that the first fetch of user code is refused.
+fn check_refused_fetch(board: &mut BootedBoard) -> Checked<()> {
+    let begins = board.steps() == 14 && board.pc() == 0x8000_0038;
+    let done = run_user(board, &[Event::Step; 2])?;
+    let refused = last_trap_is(board, 1, 0x8000_0038, 0x8000_0038);
+    check(begins && done == 1 && refused, "the refused fetch")
+}
+
+/// Checks that user code is not even fetched where no entry matches.
+fn check_no_entry(alloc: Global) -> Checked<()> {
+    let mut board = boot_to_user_code(alloc, NO_ENTRY)?;
+    check_refused_fetch(&mut board)
 }
 
 /// Checks that the two boards of a row do its events, end with its cause, and differ only where user code may
@@ -187,14 +175,24 @@ fn check_row(alloc: Global, row: &[u8]) -> Checked<()> {
         done: (*done % 16) as usize,
         cause: (*cause % 16) as u32,
     };
-    let mut one = boot_filled(alloc, b"0x5a", code)?;
-    check_row_beside(alloc, code, &mut one, end)
+    let mut pair = boot_pair(alloc, BORDERS, code, BORDERS_END)?;
+    check_end(&mut pair, end)
 }
 
 /// Checks that no access at the borders of a region tells what lies beside it.
-pub fn check_borders(alloc: Global) -> Checked<()> {
+fn check_borders(alloc: Global) -> Checked<()> {
     for row in ROWS.iter() {
         check_row(alloc, row)?;
     }
     Ok(())
+}
+
+/// Checks that user code learns nothing of what it may not see: a word, whichever entries keep it, what no entry
+/// has, and what lies beside a region.
+pub fn check_secrets(alloc: Global) -> Checked<()> {
+    for front in [WORD, WORD_BY_HIGH_ENTRIES] {
+        check_word(alloc, front)?;
+    }
+    check_no_entry(alloc)?;
+    check_borders(alloc)
 }

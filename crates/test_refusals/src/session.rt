@@ -3,9 +3,9 @@ use rv_asm::{FaultKind, Program, assemble};
 use rv_base::NoMemory;
 use rv_board::{BootFault, BootedBoard};
 use rv_cache::DecodeCache;
-use rv_lists::{Timeline, TimelineFault};
 use rv_monitor::{Next, Session, Stop};
 use rv_ram::PagedRam;
+use rv_timeline::{Timeline, TimelineFault};
 use std::alloc::Global;
 
 type BootedSession = Session<PagedRam, DecodeCache>;

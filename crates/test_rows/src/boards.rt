@@ -7,9 +7,9 @@ use rv_asm::{Program, assemble};
 use rv_base::{NoMemory, cut_lines};
 use rv_board::{Board, BootedBoard};
 use rv_cache::{DecodeCache, Decoded, NoCache};
-use rv_lists::Timeline;
 use rv_monitor::{Next, Session};
 use rv_ram::{ByteMemory, FlatMemory, PagedRam};
+use rv_timeline::Timeline;
 use std::alloc::Global;
 use test_compare::same_everywhere;
 

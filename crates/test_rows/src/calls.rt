@@ -7,7 +7,7 @@ use crate::boards::{NO_MEMORY, flat_board, limit, paged_board, paged_session, pr
 use crate::row::Row;
 use rv_base::{NoMemory, RAM_BASE};
 use rv_board::Event;
-use rv_lists::TimedInput;
+use rv_timeline::TimedInput;
 use std::alloc::Global;
 use test_compare::{Calls, event, same_in_calls, same_in_runs};
 

@@ -12,9 +12,8 @@
 //! - `> `: a line of the report, which is asked for by the first of them
 #![tactic(auto)]
 
-use rv_asm::diagnose;
 use rv_base::{NoMemory, cut_lines};
-use rv_sentences::{append_report, explain};
+use rv_diagnosis::{append_report, diagnose, explain};
 use std::alloc::{AllocError, Global};
 use std::io::{self, Write};
 use std::process::ExitCode;

@@ -1,20 +1,12 @@
-//! The public surface that users of the libraries write code by: every item is called here by its name and
-//! with its signature, so a change of either doesn't compile. A user's own memory and cache stand here too.
+//! The public surface that users of the libraries write code by, with a user's own memory and cache; and
+//! boards and sessions that rows of test_rows can't show.
 #![tactic(auto)]
 
 #[cfg(test)]
-mod assembling;
-#[cfg(test)]
-mod devices;
-#[cfg(test)]
-mod instructions;
-#[cfg(test)]
-mod machine;
+mod boards;
 #[cfg(test)]
 mod memories;
 #[cfg(test)]
-mod protection;
+mod programs;
 #[cfg(test)]
-mod runs;
-#[cfg(test)]
-mod sessions;
+mod surface;

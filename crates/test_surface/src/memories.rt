@@ -7,11 +7,29 @@ use rv_ram::{ByteMemory, FlatMemory, PagedRam};
 use std::alloc::Global;
 use std::test::Fail;
 
-/// A user's own memory, with the four calls of the surface alone.
+/// A user's own memory, with the four calls of the surface alone: so each store is one call of `write`. After
+/// `good` writes it refuses the next `refusals` ones.
 #[derive(Drop)]
 pub struct OwnMemory {
     /// What it keeps its bytes in.
     pub memory: FlatMemory,
+    /// How many writes are still done.
+    pub good: u32,
+    /// How many writes are refused after these.
+    pub refusals: u32,
+}
+
+impl OwnMemory {
+    /// Returns a memory that refuses no write.
+    pub fn over(memory: FlatMemory) -> OwnMemory
+        ensures { result.memory ≡ memory }
+    {
+        OwnMemory {
+            memory,
+            good: 0,
+            refusals: 0,
+        }
+    }
 }
 
 impl ByteMemory for OwnMemory {
@@ -30,6 +48,12 @@ impl ByteMemory for OwnMemory {
     }
 
     fn write(&mut self, off: u32, width: Width, value: u32) -> Result<(), NoMemory> {
+        if self.good > 0 {
+            self.good -= 1;
+        } else if self.refusals > 0 {
+            self.refusals -= 1;
+            return Err(NoMemory);
+        }
         self.memory.write(off, width, value)
     }
 }
@@ -85,9 +109,7 @@ fn keeps<C: Decoded>(cache: &mut C, instr: Instr) -> [bool; 3] {
 fn memories(alloc: Global) -> Result<[(u32, u8, u32); 3], NoMemory> {
     let flat: Result<FlatMemory, NoMemory> = FlatMemory::new(alloc, 1);
     let paged: Result<PagedRam, NoMemory> = PagedRam::new(alloc, 1);
-    let mut own = OwnMemory {
-        memory: FlatMemory::new(alloc, 1)?,
-    };
+    let mut own = OwnMemory::over(FlatMemory::new(alloc, 1)?);
     Ok([used(&mut flat?)?, used(&mut paged?)?, used(&mut own)?])
 }
 

@@ -1,11 +1,12 @@
--- What is said of all lines, by recursion on the number of a line. The language is this project's own: docs/ASSEMBLER.md.
+-- What is said of all lines by their numbers, and the lines of a listing.
+-- The language is this project's own: docs/ASSEMBLER.md.
 -- Not to audit: private contracts alone cite this.
-use Rattle.std.specs.Prelude.{ℕ, zero, suc, ◌+◌, ◌%◌, Bool, false, not, ◌&&◌, ◌==◌, nat_lt, ℤ, is_some, option_and_then, List, [], ◌∷◌, ◌++◌, map, length, get_or, slice_get, Option, Some, None, if◌then◌else◌, Result, Ok, Err}
-use Rattle.std.specs.List.{find}
-use Rattle.std.specs.Option.{option_map, option_map_or, option_or, unwrap_or}
-use Rattle.std.specs.Result.{result_err, result_unwrap_or}
+use Rattle.std.specs.Prelude.{ℕ, suc, ◌+◌, ◌%◌, Bool, false, not, ◌&&◌, ◌==◌, nat_lt, ℤ, is_some, option_and_then, List, [], ◌∷◌, ◌++◌, map, length, get_or, Option, Some, None, if◌then◌else◌, Ok, ◌≡◌, ◌<◌}
+use Rattle.std.specs.List.{flat_map, range_with_len}
+use Rattle.std.specs.Option.{option_map}
+use Rattle.std.specs.Result.{result_err}
 use Rattle.rv_base.specs.Lines.{lines}
-use Rattle.rv_source.specs.Reading.{Parsed}
+use Rattle.rv_source.specs.Reading.{Parsed, parsed as parsed_of}
 use Rattle.rv_base.specs.Limits.{ram_base, image_limit}
 use Rattle.rv_source.specs.declared.line.Label.{Label}
 use Rattle.rv_source.specs.declared.statement.Statement.{Statement}
@@ -14,17 +15,15 @@ use Rattle.rv_program.specs.declared.fault.FaultKind.TheVariants.{DuplicateSymbo
 use Rattle.rv_base.specs.Tables.{lookup}
 use Rattle.rv_asm.specs.Symbols.{operand_value}
 use Rattle.rv_asm.specs.Listing.{row}
-use Rattle.rv_asm.specs.Support.Kept.{Valuation}
-use Rattle.rv_asm.specs.Support.Constants.{is_unknown, is_instruction}
-use Rattle.rv_program.specs.Program.{Assembly}
+use Rattle.rv_asm.specs.Support.Statements.{Valuation, is_unknown, is_instruction}
 use Rattle.rv_program.specs.declared.fault.FaultKind.{FaultKind}
 use Rattle.rv_program.specs.declared.fault.AsmFault.{AsmFault}
-use Rattle.rv_asm.specs.Layout.{Known, line_at, known_before, labelled, definitions, labels_in, names_in, redefines, phase_two_fault}
+use Rattle.rv_asm.specs.Layout.{Known, line_at, known_before, labelled, labels_in, names_in, redefines}
 pub use Rattle.rv_asm.specs.Layout.{address}
-use Rattle.rv_source.specs.Reading.{parsed as parsed_of}
 use Rattle.rv_program.specs.Faults.{kind_of}
-use Rattle.rv_asm.specs.Assembly.{all_parsed, line_bytes}
-use Rattle.rv_asm.specs.Assembly.{faults_in}
+use Rattle.rv_asm.specs.Assembly.{all_parsed, line_bytes, faults_in}
+use Rattle.std.specs.List.Sorted.{IsNonDecreasing, IsNonDecreasingBy}
+use Rattle.rv_asm.specs.Lines.{Listed, Located, bytes_of}
 
 -- a line with no label and no statement, as every line past the end
 abbrev pub blank : Parsed
@@ -36,50 +35,31 @@ names lines k = (known_before lines k).definitions.names
 
 -- ---- over the numbers below n, in their order
 
--- the first of f 0, f 1, .. that is Some
-unfoldable pub first : {A : Type 0} → (ℕ → Option A) → ℕ → Option A
-first f zero = None
-first f (suc n) = option_or (first f n) (f n)
-
 -- f 0, f 1, .. joined
 unfoldable pub joined : {A : Type 0} → (ℕ → List A) → ℕ → List A
-joined f zero = []
-joined f (suc n) = joined f n ++ f n
+joined f n = flat_map f (range_with_len 0 n)
 
 -- f 0, f 1, .. and f n
 unfoldable pub up_to : (ℕ → ℕ) → ℕ → List ℕ
-up_to f zero = f zero ∷ []
-up_to f (suc n) = up_to f n ++ f (suc n) ∷ []
+up_to f n = map f (range_with_len 0 (suc n))
+
+-- the faults of those of n lines that have one
+unfoldable pub all_faults : (ℕ → Option FaultKind) → ℕ → List AsmFault
+all_faults fault n = faults_in fault n
 
 -- ---- the image, or its fault
 
+-- the fault for which a line can't be read, if there is one
+abbrev pub unread_kind : List ℕ → Option FaultKind
+unread_kind text = option_map kind_of (result_err (parsed_of text))
+
 -- the fault of line k in phase one, if it has one
 abbrev pub phase_one_fault : List (List ℕ) → ℕ → Option FaultKind
-phase_one_fault texts k = option_map kind_of (result_err (parsed_of (get_or texts k [])))
+phase_one_fault texts k = unread_kind (get_or texts k [])
 
 -- the fault of line k in phase three, if it has one
 abbrev pub phase_three_fault : List Parsed → ℕ → Option FaultKind
 phase_three_fault lines k = result_err (line_bytes lines k)
-
--- the fault of the first faulty line among n lines
-abbrev pub first_fault : (ℕ → Option FaultKind) → ℕ → Option AsmFault
-first_fault fault n = first (λ k. option_map (λ kind. record { line = suc k; kind = kind }) (fault k)) n
-
-abbrev pub joined_bytes : List Parsed → List ℕ
-joined_bytes lines = joined (λ k. result_unwrap_or (line_bytes lines k) []) (length lines)
-
-abbrev pub first_of_phases : List (List ℕ) → Option AsmFault
-first_of_phases texts =
-    let n = length texts in
-    option_or (first_fault (phase_one_fault texts) n)
-    (option_or (first_fault (phase_two_fault (all_parsed texts)) n)
-    (first_fault (phase_three_fault (all_parsed texts)) n))
-
-unfoldable pub assembled_by : List ℕ → Result Assembly AsmFault
-assembled_by source =
-    let texts = lines source in
-    option_map_or (λ fault. Err fault) (first_of_phases texts)
-    (Ok (record { bytes = joined_bytes (all_parsed texts); symbols = (definitions (all_parsed texts)).names }))
 
 -- what is known at the statement of line k
 abbrev pub known_on : List Parsed → ℕ → Known
@@ -121,28 +101,37 @@ fault_on k known line =
     if relabels known line.labels then Some DuplicateSymbol
     else fault_stated k (labelled k known line.labels) line.statement
 
--- ---- all faults
+-- the fault of line k, if it has one
+abbrev pub faults_at : ℕ → Option FaultKind → List AsmFault
+faults_at k None = []
+faults_at k (Some kind) = record { line = suc k; kind = kind } ∷ []
 
--- the faults of those of the first n lines that have one, in order
-abbrev pub all_faults : (ℕ → Option FaultKind) → ℕ → List AsmFault
-all_faults fault n =
-    joined (λ k. option_map_or (λ kind. record { line = suc k; kind = kind } ∷ []) (fault k) []) n
+-- ---- the lines of a listing, one by one, and looked up
 
--- those in the first of three phases that has any
-abbrev pub faults_of_phases : (one two three : ℕ → Option FaultKind) → ℕ → List AsmFault
-faults_of_phases one two three n = unwrap_or
-    (find (λ faults. is_some (slice_get faults 0)) (map (λ f. faults_in f n) (one ∷ two ∷ three ∷ []))) []
+-- with a line more, from an address up to another
+abbrev pub with_line : ℕ → List Label → ℕ → Located → Located
+with_line here ls end p = record {
+  addresses = p.addresses ++ end ∷ [];
+  labels = p.labels ++ labels_in here ls;
+}
 
-abbrev pub unless_faulty : List AsmFault → List AsmFault → List AsmFault
-unless_faulty [] later = later
-unless_faulty (fault ∷ faults) later = fault ∷ faults
+-- the first n lines
+abbrev pub located : List Parsed → ℕ → Located
+located ls n = record { addresses = up_to (address ls) n; labels = labels ls n }
 
--- the first of some faults
-abbrev pub first_of : List AsmFault → Option AsmFault
-first_of [] = None
-first_of (fault ∷ faults) = Some fault
+-- the addresses of labels never fall
+abbrev pub LabelsRise : List (List ℕ × ℕ) → Type 0
+LabelsRise ls = IsNonDecreasingBy (λ l. l.1) ls
 
--- the fault of a result
-abbrev pub fault_in : {A : Type 0} → Result A AsmFault → Option AsmFault
-fault_in (Ok x) = None
-fault_in (Err fault) = Some fault
+-- lines lie one after the other, and so do the labels
+pub record LieInOrder (p : Located) : Type 0 where
+  pub some : 0 < length p.addresses
+  pub first : get_or p.addresses 0 0 ≡ ram_base
+  pub rises : IsNonDecreasing p.addresses
+  pub labels : LabelsRise p.labels
+
+-- the bytes of each line are those of the assembly, and joined in order they are the image
+pub record AreLinesOf (source : List ℕ) (l : Listed) : Type 0 where
+  pub each : (k : ℕ) → k < length (lines source) →
+      line_bytes (all_parsed (lines source)) k ≡ Ok (bytes_of l (suc k))
+  pub all : flat_map (λ k. bytes_of l (suc k)) (range_with_len 0 (length (lines source))) ≡ l.assembly.bytes

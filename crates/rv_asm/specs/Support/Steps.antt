@@ -1,28 +1,35 @@
 -- The states of the assembler from line to line. proofs/ proves that they add up to Assembly.antt.
 -- Not to audit: private contracts alone cite this.
-use Rattle.std.specs.Prelude.{◌≡◌, ℕ, suc, ◌+◌, List, [], ◌∷◌, ◌++◌, length, ℤ, pos, Option, Some, None, Result, Ok, Err}
+use Rattle.std.specs.Prelude.{◌≡◌, ℕ, ◌+◌, false, List, [], ◌∷◌, ◌++◌, ℤ, pos, Option, Some, Result, Ok, Err, length, None, is_some, if◌then◌else◌}
+use Rattle.std.specs.List.{flat_map}
 use Rattle.std.specs.Option.{option_map}
 use Rattle.std.specs.Result.{result_err, result_unwrap_or}
 use Rattle.rv_base.specs.Limits.{ram_base, image_limit}
-use Rattle.rv_source.specs.Reading.{Parsed}
+use Rattle.rv_source.specs.Reading.{Parsed, parsed}
 use Rattle.rv_source.specs.declared.expression.Atom.{Atom}
+use Rattle.rv_source.specs.declared.expression.Atom.TheVariants.{Number}
 use Rattle.rv_source.specs.declared.expression.Term.{Term}
+use Rattle.rv_source.specs.declared.operand.Operand.{Operand}
+use Rattle.rv_source.specs.declared.operand.Form.TheVariants as f
 use Rattle.rv_source.specs.declared.statement.Statement.{Statement}
 use Rattle.rv_program.specs.declared.fault.FaultKind.{FaultKind}
 use Rattle.rv_program.specs.declared.fault.AsmFault.{AsmFault}
 use Rattle.rv_asm.specs.declared.fixup.Waiting.{Waiting}
 use Rattle.rv_asm.specs.declared.kept.Kept.{Kept}
 use Rattle.rv_asm.specs.declared.kept.Kept.TheVariants as kept
-use Rattle.rv_asm.specs.declared.single.Single.{Single}
+use Rattle.rv_asm.specs.declared.kept.Single.{Single}
 use Rattle.rv_asm.specs.Symbols.{Definitions, atom_value, sum_value, operand_value}
 pub use Rattle.rv_asm.specs.Layout.{Known, labelled, stated}
 unfoldable pub use Rattle.rv_asm.specs.Layout.{known_before}
 use Rattle.rv_asm.specs.Layout.{line_at, row_at, phase_two_fault}
-use Rattle.rv_asm.specs.Support.Counted.{phase_one_fault, fault_stated_by, fault_stated, fault_on, first_fault, joined}
-use Rattle.rv_asm.specs.Listing.{◌>>=◌, bytes}
-use Rattle.rv_asm.specs.Assembly.{all_parsed}
-use Rattle.rv_asm.specs.Support.Constants.{KeptLine, stated_in, statement_bytes}
-use Rattle.rv_asm.specs.Support.Kept.{Valuation, added, wanted, kinds, with_value}
+use Rattle.rv_asm.specs.Support.Counted.{all_faults, faults_at, joined, address, names, fault_on, located, with_line as noted_with}
+use Rattle.rv_asm.specs.Listing.{bytes}
+use Rattle.rv_asm.specs.Support.Statements.{Valuation, added, wanted, kinds, with_value, placed_by}
+use Rattle.rv_base.specs.Lines.{lines}
+use Rattle.rv_source.specs.declared.line.Label.{Label}
+use Rattle.rv_asm.specs.Lines.{Located}
+use Rattle.rv_asm.specs.Assembly.{all_parsed, assembled}
+use Rattle.rv_asm.specs.AllFaults.{new_labels, kept, faults_of}
 
 -- the address following the largest image
 abbrev pub image_end : ℕ
@@ -44,19 +51,22 @@ abbrev pub IsSum : List Term → Single → Type 0
 IsSum terms s = (ds : Definitions) → (line here : ℕ) → sum_value ds line here terms ≡ single_value ds line
     here s
 
+-- the terms of an operand: those of a text, which has the value 0, are 0 alone
+abbrev pub expression_of : Operand → List Term
+expression_of x = elim x.form as (λ _. List Term)
+    [ f.Value part e base ↦ e | f.Text bytes ↦ record { negative = false; atom = Number 0 } ∷ [] ]
+
 abbrev pub waiting_bytes : ℕ → Waiting → Option ℤ → Result (List ℕ) FaultKind
 waiting_bytes here waiting value = wanted (with_value here waiting) value
 
-abbrev pub line_text_bytes : Definitions → ℕ → ℕ → KeptLine → Result (List ℕ) FaultKind
-line_text_bytes ds line here text =
-    statement_bytes text.constant (operand_value ds line here) here (stated_in text.bytes)
+unfoldable pub sums_bytes : Definitions → ℕ → ℕ → Waiting → List (List Term) → Result (List ℕ) FaultKind
+sums_bytes ds line here waiting sums = placed_by (with_value here waiting) sums (sum_value ds line here)
 
 unfoldable pub kept_bytes : Definitions → ℕ → ℕ → Kept → Result (List ℕ) FaultKind
-kept_bytes ds line here kept.Nothing = Ok []
 kept_bytes ds line here (kept.Instructions instructions) = Ok (bytes (kinds instructions))
-kept_bytes ds line here (kept.Waiting waiting value) = waiting_bytes here waiting
-    (single_value ds line here value)
-kept_bytes ds line here (kept.Line text) = line_text_bytes ds line here text
+kept_bytes ds line here (kept.Ready bs) = Ok bs
+kept_bytes ds line here (kept.One waiting value) = waiting_bytes here waiting (single_value ds line here value)
+kept_bytes ds line here (kept.Many waiting sums) = sums_bytes ds line here waiting sums
 
 -- a statement with its place: its line, counted from 0, and its address
 pub record Item : Type 0 where
@@ -73,22 +83,16 @@ abbrev pub appended : List ℕ → Result (List ℕ) FaultKind → Result (List 
 appended out (Ok bs) = Ok (out ++ bs)
 appended out (Err kind) = Err kind
 
--- the fault with the number of its line, which counts from 1
-abbrev pub at_line : {A : Type 0} → ℕ → Result A FaultKind → Result A AsmFault
-at_line k (Ok x) = Ok x
-at_line k (Err kind) = Err (record { line = suc k; kind = kind })
+-- the bytes of a line or an item; none if it has a fault
+abbrev pub listed : Result (List ℕ) FaultKind → List ℕ
+listed r = result_unwrap_or r []
 
--- the state after a step for each element, up to the first that fails
-unfoldable pub run : {S X E : Type 0} → (S → X → Result S E) → S → List X → Result S E
-run step s [] = Ok s
-run step s (x ∷ xs) = step s x >>= λ t. run step t xs
+abbrev pub item_listed : Definitions → Item → List ℕ
+item_listed ds item = listed (item_bytes ds item)
 
--- with the bytes of one more item
-unfoldable pub item_step : Definitions → List ℕ → Item → Result (List ℕ) AsmFault
-item_step ds out item = at_line item.line (appended out (item_bytes ds item))
-
-abbrev pub image_of : Definitions → List Item → Result (List ℕ) AsmFault
-image_of ds items = run (item_step ds) [] items
+-- its fault, if it has one
+abbrev pub item_faults : Definitions → Item → List AsmFault
+item_faults ds item = faults_at item.line (result_err (item_bytes ds item))
 
 -- ---- one line
 
@@ -103,54 +107,22 @@ values_of k known = operand_value known.definitions k known.address
 abbrev pub with_line : ℕ → Known → Parsed → Known
 with_line k known line = stated k (labelled k known line.labels) line.statement
 
--- a result, unless there is a fault
-abbrev pub unless : {E A : Type 0} → Option E → Result A E → Result A E
-unless (Some fault) m = Err fault
-unless None m = m
-
--- nothing, or the fault of a statement of line k in phase two
-unfoldable pub free : Definitions → ℕ → ℕ → Statement → Result (Unit {0}) FaultKind
-free ds k here statement = unless (fault_stated_by ds.names (operand_value ds k here) here statement) (Ok tt)
-
--- following a statement of line k, or its fault
-unfoldable pub after_statement : ℕ → Known → Option Statement → Result Known FaultKind
-after_statement k known statement = unless (fault_stated k known statement) (Ok (stated k known statement))
-
--- following line k, or its fault
-unfoldable pub after_line : ℕ → Known → Parsed → Result Known FaultKind
-after_line k known line = unless (fault_on k known line) (Ok (with_line k known line))
-
 -- the bytes of the statement of line k, once all symbols are known
 abbrev pub stated_bytes : Definitions → ℕ → Known → Option Statement → Result (List ℕ) FaultKind
 stated_bytes ds k known statement = (row_at k known statement).contents (operand_value ds k known.address)
 
--- items have, in addition, the bytes of a statement of line k, once the labels of the line are defined
-abbrev pub AddsOptional : ℕ → Known → Option Statement → List Item → List Item → Type 0
-AddsOptional k known statement old new = (ds : Definitions) →
-    image_of ds new ≡
-    (image_of ds old >>= λ out. at_line k (appended out (stated_bytes ds k known statement)))
+-- items have, in addition, the bytes of a statement of line k, or its fault
+pub record Adds (k : ℕ) (known : Known) (statement : Option Statement) (old new : List Item) (ds : Definitions) :
+    Type 0 where
+  pub bytes : flat_map (item_listed ds) new
+      ≡ flat_map (item_listed ds) old ++ listed (stated_bytes ds k known statement)
+  pub faults : flat_map (item_faults ds) new
+      ≡ flat_map (item_faults ds) old ++ faults_at k (result_err (stated_bytes ds k known statement))
 
-abbrev pub Adds : ℕ → Known → Statement → List Item → List Item → Type 0
-Adds k known statement = AddsOptional k known (Some statement)
-
--- in addition, the bytes of line k
+-- in addition, those of line k
 abbrev pub AddsLine : ℕ → Known → Parsed → List Item → List Item → Type 0
-AddsLine k known line = AddsOptional k (labelled k known line.labels) line.statement
-
--- ---- the first two phases
-
--- what is known before line n, or the first fault of the lines before it in phase two
-unfoldable pub laid_out : List Parsed → ℕ → Result Known AsmFault
-laid_out lines n = unless (first_fault (phase_two_fault lines) n) (Ok (known_before lines n))
-
--- with one more line, which is line k
-abbrev pub extended : ℕ → Parsed → Result Known AsmFault → Result Known AsmFault
-extended k line m = m >>= λ known. at_line k (after_line k known line)
-
--- the state after all lines of a source, or its first fault in the first two phases
-unfoldable pub lines_laid_out : List (List ℕ) → Result Known AsmFault
-lines_laid_out texts =
-    unless (first_fault (phase_one_fault texts) (length texts)) (laid_out (all_parsed texts) (length texts))
+AddsLine k known line old new =
+    (ds : Definitions) → Adds k (labelled k known line.labels) line.statement old new ds
 
 -- ---- the third phase
 
@@ -159,13 +131,65 @@ abbrev pub bytes_by : Definitions → List Parsed → ℕ → Result (List ℕ) 
 bytes_by ds lines k =
     stated_bytes ds k (labelled k (known_before lines k) (line_at lines k).labels) (line_at lines k).statement
 
-abbrev pub listed : Result (List ℕ) FaultKind → List ℕ
-listed r = result_unwrap_or r []
-
--- the bytes of the first n lines, or their first fault in phase three
-unfoldable pub written : Definitions → List Parsed → ℕ → Result (List ℕ) AsmFault
-written ds lines n = unless (first_fault (λ k. result_err (bytes_by ds lines k)) n)
-    (Ok (joined (λ k. listed (bytes_by ds lines k)) n))
+-- items have the bytes and the faults of the first n lines
+pub record Written (lines : List Parsed) (n : ℕ) (items : List Item) (ds : Definitions) : Type 0 where
+  pub bytes : flat_map (item_listed ds) items ≡ joined (λ k. listed (bytes_by ds lines k)) n
+  pub faults : flat_map (item_faults ds) items ≡ all_faults (λ k. result_err (bytes_by ds lines k)) n
 
 abbrev pub Writes : List Parsed → ℕ → List Item → Type 0
-Writes lines n items = (ds : Definitions) → image_of ds items ≡ written ds lines n
+Writes lines n items = (ds : Definitions) → Written lines n items ds
+
+-- ---- the lines of a source, laid out one by one, and its faults
+
+-- line k without its statement, and without labels that define a name a second time
+abbrev pub cleared : List Parsed → ℕ → Parsed
+cleared ls k =
+    record { labels = new_labels (address ls k) (names ls k) (line_at ls k).labels; statement = None }
+
+-- labels but those that define a name a second time
+abbrev pub new_among : Known → List Label → List Label
+new_among known ls = new_labels known.address known.definitions.names ls
+
+-- what is known after line k, which is cleared if it is faulty
+unfoldable pub known_after : ℕ → Known → Parsed → Known
+known_after k known line =
+    if is_some (fault_on k known line) then labelled k known (new_among known line.labels)
+    else with_line k known line
+
+-- the fault of line k in phase two, judged by the lines that are kept before it
+abbrev pub judged : List Parsed → ℕ → Option FaultKind
+judged lines k = phase_two_fault (kept lines k) k
+
+-- line k is laid out, or has this fault
+pub record LaysOut (k : ℕ) (known : Known) (line : Parsed) (fault : Option FaultKind) (after : Known)
+    (old new : List Item) : Type 0 where
+  pub fault_is : fault ≡ fault_on k known line
+  pub known_is : after ≡ known_after k known line
+  pub adds : fault ≡ None → AddsLine k known line old new
+
+-- line k is read and laid out, its fault is appended, and it is noted
+pub record Takes (k : ℕ) (text : List ℕ) (known after : Known) (items more : List Item)
+    (notes noted : Option Located) (faults found : List AsmFault) : Type 0 where
+  pub line : Parsed
+  pub read : parsed text ≡ Ok line
+  pub fault : Option FaultKind
+  pub lays : LaysOut k known line fault after items more
+  pub finds : found ≡ faults ++ faults_at k fault
+  pub notes_line : noted ≡ option_map (noted_with known.address line.labels after.address) notes
+
+-- the first n lines are laid out
+pub record LaidOut (ls : List Parsed) (n : ℕ) (known : Known) (items : List Item) (first notes : Option Located)
+    (faults : List AsmFault) : Type 0 where
+  pub known_is : known ≡ known_before (kept ls n) n
+  pub faults_are : faults ≡ all_faults (judged ls) n
+  pub writes : faults ≡ [] → Writes ls n items
+  pub notes_are : faults ≡ [] → notes ≡ option_map (λ _. located ls n) first
+
+-- these are the faults of a source; if there are none, these are its image, its names and its notes
+pub record IsExamined (source : List ℕ) (faults : List AsmFault) (bytes : List ℕ) (known : Known)
+    (first notes : Option Located) : Type 0 where
+  pub faults_are : faults ≡ faults_of (lines source)
+  pub keeps : is_some notes ≡ is_some first
+  pub accepts : faults ≡ [] → assembled source ≡ Ok (record { bytes = bytes; symbols = known.definitions.names })
+  pub notes_are : faults ≡ [] →
+      notes ≡ option_map (λ _. located (all_parsed (lines source)) (length (lines source))) first

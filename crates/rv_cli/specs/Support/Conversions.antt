@@ -7,10 +7,10 @@ use Rattle.rv_monitor.specs.declared.opening.OpenFault.TheVariants as open_fault
 use Rattle.rv_program.specs.declared.fault.AsmFault.{AsmFault}
 use Rattle.rv_program.specs.declared.fault.FaultKind.{FaultKind}
 use Rattle.rv_program.specs.declared.fault.FaultKind.TheVariants as kind
-use Rattle.rv_texts.specs.declared.fault.ReadFault.{ReadFault}
-use Rattle.rv_texts.specs.declared.fault.ReadFault.TheVariants as read
-use Rattle.rv_texts.specs.declared.fault.TextName.{TextName}
-use Rattle.rv_texts.specs.declared.fault.TextName.TheVariants as text
+use Rattle.rv_io.specs.declared.fault.ReadFault.{ReadFault}
+use Rattle.rv_io.specs.declared.fault.ReadFault.TheVariants as read
+use Rattle.rv_io.specs.declared.fault.TextName.{TextName}
+use Rattle.rv_io.specs.declared.fault.TextName.TheVariants as text
 use Rattle.rv_cli.specs.declared.fault.CliFault.{CliFault}
 use Rattle.rv_cli.specs.declared.fault.CliFault.TheVariants as cli
 

@@ -1,66 +1,39 @@
 -- Not to audit: the laws `meaning_inverts` and `one_meaning` say all of `means`: it is what a word means by
 -- `Means`.
--- The kind that a word means, by a search through the operations, and for each through its fields in their
--- ranges. No program runs the search: it defines the function that `decode` computes.
-use Rattle.std.specs.Prelude.{ℕ, zero, suc, ◌^◌, ◌==◌, if◌then◌else◌, ℤ, pos, negsuc, List, [], ◌∷◌, Option, Some, None}
-use Rattle.std.specs.Option.{option_or}
-use Rattle.rv_isa.specs.Number.{modulo}
+-- The kind that a word means: of the operation whose codes it has, with the fields at their places.
+use Rattle.std.specs.Prelude.{ℕ, ◌/◌, ◌%◌, ◌^◌, ◌==◌, ◌&&◌, nat_lt, Bool, if◌then◌else◌, List, [], ◌∷◌, Option, Some, None}
 use Rattle.rv_isa.specs.Fields.{kind_of}
-use Rattle.rv_isa.specs.Fields.{zeroed, with_fields}
-use Rattle.rv_isa.specs.Support.Kinds.{operations, format_of, word}
-use Rattle.rv_isa.specs.declared.format.Format.{Format}
-use Rattle.rv_isa.specs.declared.format.Format.TheVariants.{R, Amount, I, Number, S, B, U, J, Whole}
+use Rattle.rv_isa.specs.Support.Codes.{read}
+use Rattle.rv_isa.specs.Support.Kinds.{operations}
+use Rattle.rv_isa.specs.Table.{row, Encoding, R, Amount, I, Number, S, B, U, J, Whole}
 use Rattle.rv_isa.specs.declared.kind.Kind.{Kind}
 use Rattle.rv_isa.specs.declared.op.Operation.{Operation}
 
--- ---- searches: the result of f at the first place where it has one
+-- whether a word has these codes in its opcode and funct3
+abbrev pub has_two : ℕ → ℕ → ℕ → Bool
+has_two w opcode funct3 = (w % 2 ^ 7 == opcode) && (w / 2 ^ 12 % 2 ^ 3 == funct3)
 
--- among the numbers below n
-unfoldable pub first_below : {A : Type 0} → ℕ → (ℕ → Option A) → Option A
-first_below zero f = None
-first_below (suc n) f = option_or (first_below n f) (f n)
+-- whether a word has the codes of an encoding
+abbrev pub has_codes : ℕ → Encoding → Bool
+has_codes w (R opcode funct3 funct7 _) = has_two w opcode funct3 && (w / 2 ^ 25 == funct7)
+has_codes w (Amount opcode funct3 funct7 _) = has_two w opcode funct3 && (w / 2 ^ 25 == funct7)
+has_codes w (I opcode funct3 _) = has_two w opcode funct3
+has_codes w (Number opcode funct3 _) = has_two w opcode funct3
+has_codes w (S opcode funct3 _) = has_two w opcode funct3
+has_codes w (B opcode funct3 _) = has_two w opcode funct3
+has_codes w (U opcode _) = w % 2 ^ 7 == opcode
+has_codes w (J opcode _) = w % 2 ^ 7 == opcode
+has_codes w (Whole word _) = w == word
 
--- among the whole numbers from -n to n - 1
-unfoldable pub first_within : {A : Type 0} → ℕ → (ℤ → Option A) → Option A
-first_within n f = option_or (first_below n (λ i. f (pos i))) (first_below n (λ i. f (negsuc i)))
+-- the first of these operations whose codes a word has
+abbrev pub first_in : ℕ → List Operation → Option Operation
+first_in w [] = None
+first_in w (x ∷ xs) = if has_codes w (row x).1 then Some x else first_in w xs
 
--- among the even ones of these
-unfoldable pub first_distance : {A : Type 0} → ℕ → (ℤ → Option A) → Option A
-first_distance n f = first_within n (λ z. if modulo z 2 == 0 then f z else None)
+-- the kind of an operation with the fields of a word
+abbrev pub kind_with : ℕ → Option Operation → Option Kind
+kind_with w (Some x) = Some (kind_of (read x w))
+kind_with w None = None
 
--- among the elements of a list
-unfoldable pub first_in : {A B : Type 0} → List A → (A → Option B) → Option B
-first_in [] f = None
-first_in (x ∷ xs) f = option_or (f x) (first_in xs f)
-
--- ---- among the fields that fit a format (sections 2.2 and 2.3): rd, rs1, rs2 and the immediate
-
-abbrev pub first_registers : {A : Type 0} → (ℕ → ℕ → Option A) → Option A
-first_registers f = first_below 32 (λ a. first_below 32 (λ b. f a b))
-
-abbrev pub first_fields : {A : Type 0} → Format → (ℕ → ℕ → ℕ → ℤ → Option A) → Option A
-first_fields (R _ _ _ _ _ _) f =
-    first_registers (λ rd rs1. first_below 32 (λ rs2. f rd rs1 rs2 (pos 0)))
-first_fields (Amount _ _ _ _ _ _) f =
-    first_registers (λ rd rs1. first_below 32 (λ amount. f rd rs1 0 (pos amount)))
-first_fields (I _ _ _ _ _) f = first_registers (λ rd rs1. first_within (2 ^ 11) (λ imm. f rd rs1 0 imm))
-first_fields (Number _ _ _ _ _) f =
-    first_registers (λ rd rs1. first_below (2 ^ 12) (λ imm. f rd rs1 0 (pos imm)))
-first_fields (S _ _ _ _ _) f = first_registers (λ rs1 rs2. first_within (2 ^ 11) (λ imm. f 0 rs1 rs2 imm))
-first_fields (B _ _ _ _ _) f = first_registers (λ rs1 rs2. first_distance (2 ^ 12) (λ imm. f 0 rs1 rs2 imm))
-first_fields (U _ _ _) f = first_below 32 (λ rd. first_below (2 ^ 20) (λ imm. f rd 0 0 (pos imm)))
-first_fields (J _ _ _) f = first_below 32 (λ rd. first_distance (2 ^ 20) (λ imm. f rd 0 0 imm))
-first_fields (Whole _) f = f 0 0 0 (pos 0)
-
--- among the kinds in range of an operation
-abbrev pub first_of : {A : Type 0} → (Kind → Option A) → Operation → Option A
-first_of f operation = first_fields (format_of (zeroed operation))
-    (λ rd rs1 rs2 imm. f (kind_of (with_fields operation rd rs1 rs2 imm)))
-
--- among all kinds in range
-unfoldable pub first_kind : {A : Type 0} → (Kind → Option A) → Option A
-first_kind f = first_in operations (first_of f)
-
--- the kind in range that has the word, or none
 unfoldable pub means : ℕ → Option Kind
-means w = first_kind (λ k. if word k == w then Some k else None)
+means w = if nat_lt w (2 ^ 32) then kind_with w (first_in w operations) else None

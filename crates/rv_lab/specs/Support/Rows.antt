@@ -1,19 +1,15 @@
 -- Not to audit: private contracts alone cite this.
--- The tables of the program, as the definitions have them, and parts of the texts, as the code appends them.
-use Rattle.std.specs.Prelude.{◌≡◌, ℕ, ◌+◌, ◌-◌, ◌*◌, ◌%◌, ◌^◌, ◌==◌, ◌&&◌, Bool, false, List, [], ◌∷◌, ◌++◌, codes, filter, find, get_or, if◌then◌else◌, length, map, min, nat_le, nat_lt, Option, Some, None, IfSome, option_and_then, unwrap_or}
+-- The tables of the program, as the definitions have them, and parts of the answers, as the code finds them.
+use Rattle.std.specs.Prelude.{◌≡◌, ℕ, ◌+◌, ◌-◌, ◌*◌, ◌%◌, ◌^◌, ◌==◌, ◌&&◌, Bool, false, List, [], ◌∷◌, codes, filter, find, if◌then◌else◌, length, map, nat_le, nat_lt, not, Option, Some, None, Result, Ok, Err, option_and_then, unwrap_or}
 use Rattle.std.specs.FinSet as set
 use Rattle.std.specs.Int.{is_in_range}
-use Rattle.std.specs.List.{flat_map, last_or, list_any, position_or_len, range_with_len}
+use Rattle.std.specs.List.{last_or, list_any, position_or_len, range_with_len}
 use Rattle.std.specs.Str.{bytes_eq}
 use Rattle.rv_base.specs.Words.{words}
 use Rattle.std.specs.Option.{option_map, option_map_or, option_or}
 use Rattle.std.specs.Borrow.{Bor}
-use Rattle.rv_base.specs.Lines.{lines}
-use Rattle.rv_base.specs.Digits.{hex}
-use Rattle.rv_isa.specs.Number.{truth}
+use Rattle.rv_isa.specs.Number.{flag}
 use Rattle.rv_pmp.specs.Mode.{is_machine}
-use Rattle.rv_pmp.specs.declared.mode.Mode.{Mode}
-use Rattle.rv_plic.specs.Gateways.{edges_of}
 use Rattle.rv_board.specs.BoardState.{BoardState, csr_of}
 use Rattle.rv_board.specs.declared.event.TrapRecord.{TrapRecord}
 use Rattle.rv_monitor.specs.Views.{byte_at_offset, word_at}
@@ -22,16 +18,10 @@ use Rattle.rv_isa.specs.Names.{register_names}
 use Rattle.rv_operands.specs.Support.Words.{only_of}
 use Rattle.rv_asm.specs.Lines.{Listed, bytes_of}
 use Rattle.rv_operands.specs.Operands.{address, line_number}
-use Rattle.rv_answers.specs.Answer.{Written, Appended, padded}
-use Rattle.rv_answers.specs.Control.{bits_told}
-use Rattle.rv_answers.specs.Forms.{filled}
-use Rattle.rv_answers.specs.Places.{instruction_text}
-use Rattle.rv_answers.specs.Shown.{shown}
+use Rattle.rv_answers.specs.declared.answer.Answer.{Answer}
 use Rattle.rv_recording.specs.declared.until.End.{End}
 use Rattle.rv_recording.specs.declared.until.End.TheVariants as ends
-use Rattle.std.specs.Fmt.{decimal}
-use Rattle.rv_lab.specs.Lines.{bytes_at, excerpt, line_at, line_count, line_row, next_excerpt, rows_or}
-use Rattle.rv_lab.specs.Looks.{place, told, trap_rows}
+use Rattle.rv_lab.specs.Lines.{bytes_at, line_at}
 use Rattle.rv_lab.specs.State.{LabState, board, listing}
 use Rattle.rv_lab.specs.Words.{commands, count_of}
 use Rattle.rv_lab.specs.declared.command.Command.{Command}
@@ -51,26 +41,23 @@ unfoldable pub word_command : List ℕ → Command
 word_command word =
     unwrap_or (option_map (λ r. r.1) (find (λ r. list_any (bytes_eq word) (words r.0)) commands)) Nothing
 
--- a command was read: a word that names none was answered
-abbrev pub IsQuiet : Command → Written → Written → Type 0
-IsQuiet Nothing old new = Unit
-IsQuiet _ old new = new ≡ old
-
 -- the number of the register that words name
 abbrev pub register_of : List (List ℕ) → Option ℕ
 register_of names = option_and_then (λ name. lookup name register_names) (only_of names)
-
--- what stands of a line in a place: its number and its text, or the instruction at an address
-abbrev pub line_or_instruction : LabState → ℕ → List ℕ
-line_or_instruction l a =
-    option_map_or (λ n. padded 6 (decimal n ++ codes ":") ++ shown (get_or (lines l.source) (n - 1) []))
-    (line_at (listing l) a) (instruction_text (word_at (board l) a))
 
 -- the last label at an address of the image or before it, with the distance from it
 unfoldable pub label_at : Listed → ℕ → Option (List ℕ × ℕ)
 label_at l a =
     option_and_then (λ line. option_map (λ label. (label.0, a - label.1))
     (last_or None (filter (λ label. nat_le label.1 a) l.labels))) (line_at l a)
+
+-- ---- an answer
+
+-- the answer is a value where there is one
+abbrev pub Replies : {E : Type 0} → Result (Option Answer) E → Answer → Type 0
+Replies (Ok (Some value)) answer = answer ≡ value
+Replies (Ok None) answer = Unit
+Replies (Err e) answer = ⊥
 
 -- ---- `l`
 
@@ -89,43 +76,10 @@ line_word l n =
     if nat_lt (length (bytes_of (listing l) n)) 4 then None
     else option_and_then (word_at (board l)) (bytes_at (listing l) n)
 
--- the rows of some lines from one on: of those that the source has
-unfoldable pub line_rows : LabState → (first count : ℕ) → List ℕ
-line_rows l first count =
-    flat_map (line_row l) (range_with_len first (min count (length (lines l.source) + 1 - first)))
-
 -- the line that a word stands for: its number, or the line at an address
 abbrev pub line_of : LabState → List ℕ → Option ℕ
 line_of l word =
     option_or (line_number word) (option_and_then (line_at (listing l)) (address (listing l) (board l) word))
-
--- how many lines a source has
-abbrev pub length_text : ℕ → List ℕ
-length_text n = filled (codes "the source has %d line%{s||s}\n") (n ∷ n ∷ [])
-
-abbrev pub list_told : LabState → List (List ℕ) → Option (List ℕ)
-list_told l words = option_map (rows_or (length_text (line_count (listing l))) l) (excerpt l words)
-
-abbrev pub more_told : LabState → List ℕ
-more_told l = rows_or (codes "that was the last line\n") l (next_excerpt l)
-
--- ---- `w` and `r`
-
--- how many steps a board had taken as it halted
-abbrev pub halted_text : ℕ → ℕ → List ℕ
-halted_text code steps = filled (codes "halted with code %d after %d step%{s||s}\n") (code ∷ steps ∷ steps ∷ [])
-
--- pc, the label before it, and the mode
-abbrev pub pc_text : ℕ → List ℕ → Mode → List ℕ
-pc_text pc label mode = codes "  pc   " ++ hex 8 pc ++ label ++ codes "  "
-    ++ filled (codes "%{user|machine} mode\n") (truth (is_machine mode) ∷ [])
-
--- ---- `b` alone
-
--- the row of an address, if a breakpoint is there
-unfoldable pub break_row : LabState → ℕ → List ℕ
-break_row l a =
-    if set.contains l.recording.session.breakpoints.addresses a then place l a ++ codes "\n" else []
 
 -- ---- runs of the monitor
 
@@ -135,29 +89,21 @@ stop_word ends.Halted = codes "halted"
 stop_word ends.Breakpoint = codes "break"
 stop_word _ = codes "limit"
 
--- ---- `p` and `e`
-
--- a control register as machine mode reads it, and what its bits say
-unfoldable pub csr_text : BoardState → List ℕ → ℕ → List ℕ
-csr_text b name csr =
-    option_map_or (λ w. hex 8 w ++ bits_told (length b.traps) name w) (csr_of b csr) (codes "--------")
+-- ---- `e` and `dev`
 
 -- a source that is triggered by edges
 unfoldable pub edge_source : List (List ℕ) → Option ℕ
 edge_source words =
     option_and_then (λ s. if is_in_range 24 31 s then Some s else None) (count_of 0 31 words)
 
-unfoldable pub pending_text : LabState → ℕ → List ℕ
-pending_text l s =
-    let n = edges_of (board l).machine.bus.plic.edges s in
-    filled (codes "source %d: %d pending edge%{s||s}\n") (s ∷ n ∷ n ∷ [])
+-- the cause of the interrupt that is taken next, by the words of mstatus, mie and mip
+unfoldable pub first_pending : BoardState → Option ℕ
+first_pending b =
+    let csr : ℕ → ℕ = λ n. unwrap_or (csr_of b n) 0 in
+    if is_machine b.machine.mode && not (flag (csr 0x300) 3) then None else option_map (λ code. 2 ^ 31 + code)
+    (find (λ code. flag (csr 0x344) code && flag (csr 0x304) code) (11 ∷ 3 ∷ 7 ∷ []))
 
 -- ---- `m`
-
--- row k of n cells from an address on, where a row of 16 bytes has `wide` of them
-unfoldable pub dump_row : (ℕ → List (Option ℕ) → List ℕ) → (ℕ → ℕ → Option ℕ) → (wide a n k : ℕ) → List ℕ
-dump_row row cell wide a n k =
-    let at = (a + 16 * k) % 2 ^ 32 in row at (map (cell at) (range_with_len 0 (min wide (n - wide * k))))
 
 -- word i from an address on
 abbrev pub word_cell : BoardState → ℕ → ℕ → Option ℕ
@@ -176,17 +122,3 @@ text_length b a n = position_or_len (λ offset. char_at b a offset == 0) (range_
 abbrev pub comes_again : TrapRecord → Option TrapRecord → Bool
 comes_again t next =
     option_map_or (λ u. (t.cause == u.cause) && ((t.epc == u.epc) && (t.tval == u.tval))) next false
-
-abbrev pub traps_told : LabState → List ℕ
-traps_told l =
-    if length (board l).traps == 0 then codes "no trap so far\n" else trap_rows l 0 (board l).traps
-
--- ---- the text
-
--- a text, where no word follows the command
-abbrev pub alone : List (List ℕ) → List ℕ → Option (List ℕ)
-alone words text = if length words == 0 then Some text else None
-
--- a command that looks appends its text
-abbrev pub Tells : Command → List ℕ → LabState → Written → Written → Type 0
-Tells command operands l old new = IfSome (told command operands l) (Appended old new)

@@ -1,17 +1,20 @@
 -- Not to audit: private contracts alone cite this.
 -- Calls of parts of a lab, and those that stopped short.
-use Rattle.std.specs.Prelude.{◌≡◌, ℕ, zero, suc, List, if◌then◌else◌}
-use Rattle.rv_lists.specs.declared.input.Input.{Input}
-use Rattle.rv_monitor.specs.State.{SessionState, after}
+use Rattle.std.specs.Prelude.{◌≡◌, ℕ, zero, suc, ◌-◌, List, Option, Some, None, if◌then◌else◌, nat_lt}
+use Rattle.rv_timeline.specs.declared.input.Input.{Input}
+use Rattle.rv_monitor.specs.State.{after}
 use Rattle.rv_monitor.specs.Stops.{may_step}
 use Rattle.rv_recording.specs.Recording.{RecordingState, gone_back, with_timed}
-use Rattle.rv_lab.specs.Commands.{Leaves, RunsFor, begun, with_inputs}
+use Rattle.rv_lab.specs.Commands.{Leaves, begun, with_console, with_inputs}
 use Rattle.rv_lab.specs.Refusals.{Leads}
 use Rattle.rv_lab.specs.State.{LabState}
 use Rattle.rv_lab.specs.declared.command.Command.{Command}
 use Rattle.rv_lab.specs.declared.command.Command.TheVariants.{Break, Clear, Receive, Line, Monitor}
 use Rattle.rv_lab.specs.declared.command.Command.TheVariants as command
+use Rattle.rv_recording.specs.declared.until.End.{End}
+use Rattle.rv_recording.specs.declared.until.End.TheVariants.{Limit}
 use Rattle.rv_lab.specs.declared.plan.Goal.{Goal}
+use Rattle.rv_lab.specs.declared.plan.Plan.{Plan}
 
 -- ---- single steps
 
@@ -26,7 +29,7 @@ stepped_by (suc k) r = stepped_by k (stepped r)
 
 -- a lab that went back to after its first n steps, with which the next command is compared
 abbrev pub backed : LabState → ℕ → LabState
-backed l n = record (begun l) { recording = gone_back l.recording n; before = n }
+backed l n = with_console (record (begun l) { recording = gone_back l.recording n; before = n })
 
 abbrev pub Traced : ℕ → LabState → LabState → Type 0
 Traced n old new = new ≡ record old { recording = stepped_by n old.recording }
@@ -53,12 +56,8 @@ Changes _ operands old new = new ≡ old
 abbrev pub Gives : List Input → LabState → LabState → Type 0
 Gives inputs old new = new ≡ with_inputs old inputs
 
--- a session stopped short of what it was to do
-abbrev pub IsShort : (SessionState → SessionState → Type 0) → SessionState → SessionState → Type 0
-IsShort Does old new =
-    (done : SessionState) × Does old done × Leads old.timed new.timed × Leads new.timed done.timed
-    × (new ≡ record old { timed = new.timed })
-
--- a call of a run stopped short
-abbrev pub RunsShort : Goal → ℕ → SessionState → SessionState → Type 0
-RunsShort goal n old new = IsShort (RunsFor goal n) old new
+-- the plan of a run after `done` steps of it that ended so, by what it goes on for then
+abbrev pub rest_of : Plan → Goal → End → ℕ → Option Plan
+rest_of p g Limit done =
+    if nat_lt done p.left then Some (record p { goal = g; left = p.left - done }) else None
+rest_of p g end done = None

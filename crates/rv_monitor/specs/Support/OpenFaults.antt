@@ -3,8 +3,8 @@
 -- of `open_session` says of each of those when it comes.
 use Rattle.rv_board.specs.declared.event.BootFault.{BootFault}
 use Rattle.rv_board.specs.declared.event.BootFault.TheVariants as boot
-use Rattle.rv_lists.specs.declared.fault.TimelineFault.{TimelineFault}
-use Rattle.rv_lists.specs.declared.fault.TimelineFault.TheVariants as list
+use Rattle.rv_timeline.specs.declared.fault.TimelineFault.{TimelineFault}
+use Rattle.rv_timeline.specs.declared.fault.TimelineFault.TheVariants as list
 use Rattle.rv_monitor.specs.declared.opening.OpenFault.{OpenFault}
 use Rattle.rv_monitor.specs.declared.opening.OpenFault.TheVariants.{Input, Board, OutOfMemory}
 

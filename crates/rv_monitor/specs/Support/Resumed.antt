@@ -2,7 +2,7 @@
 -- A session that goes on from a board which has taken some of its steps.
 use Rattle.std.specs.Prelude.{ℕ, List}
 use Rattle.rv_board.specs.Support.State.{BoardState}
-use Rattle.rv_lists.specs.declared.input.TimedInput.{TimedInput}
+use Rattle.rv_timeline.specs.declared.input.TimedInput.{TimedInput}
 use Rattle.rv_monitor.specs.State.{TimedState, SessionState, count_before}
 
 -- a board that has taken some steps, and was given the inputs before each of them

@@ -5,8 +5,8 @@ use Rattle.std.specs.Option.{option_map, option_map_or, option_or}
 use Rattle.std.specs.List.{prefix_len, suffix_len}
 use Rattle.rv_base.specs.Tables.{lookup}
 use Rattle.rv_base.specs.Words.{is_blank}
-use Rattle.rv_lists.specs.declared.input.Input.{Input}
-use Rattle.rv_lists.specs.declared.input.Input.TheVariants.{Rx}
+use Rattle.rv_timeline.specs.declared.input.Input.{Input}
+use Rattle.rv_timeline.specs.declared.input.Input.TheVariants.{Rx}
 use Rattle.rv_answers.specs.Memory.{escapes}
 use Rattle.rv_operands.specs.Operands.{address, base_value, line_number, line_with_bytes}
 use Rattle.rv_asm.specs.Lines.{Listed, bytes_of}

@@ -3,7 +3,7 @@
 use Rattle.std.specs.Prelude.{◌≡◌, ℕ, ◌≤◌, List, [], ◌∷◌}
 use Rattle.rv_board.specs.Move.{run}
 use Rattle.rv_board.specs.Support.State.{BoardState}
-use Rattle.rv_lists.specs.declared.input.TimedInput.{TimedInput}
+use Rattle.rv_timeline.specs.declared.input.TimedInput.{TimedInput}
 use Rattle.rv_monitor.specs.Events.{events_of}
 
 -- a board, and the number of steps that it has taken

@@ -2,7 +2,7 @@
 -- What holds of every recording.
 use Rattle.std.specs.Prelude.{◌≡◌, length, None}
 use Rattle.rv_board.specs.Boot.{boot_fault}
-use Rattle.rv_lists.specs.Support.Reading.{HasSteps}
+use Rattle.rv_timeline.specs.Support.Reading.{HasSteps}
 use Rattle.rv_monitor.specs.Laws.{IsReached}
 use Rattle.rv_recording.specs.Recording.{RecordingState, first_board, last_step}
 

@@ -1,6 +1,6 @@
 //! Timed lists that are read, get one input more, or are written.
-use rv_lists::{Input, TimedInput, Timeline, list_text};
 use rv_plic::Source;
+use rv_timeline::{Input, TimedInput, Timeline, list_text};
 use std::alloc::Global;
 use std::process::Abort;
 use std::test::Fail;

@@ -1,5 +1,5 @@
 //! Timed lists that are refused.
-use rv_lists::{Timeline, TimelineFault};
+use rv_timeline::{Timeline, TimelineFault};
 use std::alloc::Global;
 use std::process::Abort;
 

@@ -1,49 +1,24 @@
-use Rattle.std.proofs.Common.{length, refl}
-use Rattle.std.proofs.lemmas.Result.{err_from_is_err_and}
-use Rattle.rv_base.specs.Lines.{lines}
-use Rattle.rv_asm.specs.Assembly.{all_parsed}
-use Rattle.rv_asm.specs.Support.Steps.{lines_laid_out, written}
-use Rattle.rv_asm.proofs.Runs.{fails_bind}
-use Rattle.rv_asm.proofs.Whole.{whole, finished, program_of, image_fits}
+use Rattle.std.proofs.Common.{rules, ◌≡◌, ◌∙◌, [], sym}
+use Rattle.std.specs.Prelude.{Some, slice_get}
+use Rattle.std.specs.Result.{result_err}
+use Rattle.rv_asm.specs.Assembly.{assembled}
+use Rattle.rv_asm.proofs.Reading.{fault_at, fails_at}
+use Rattle.rv_asm.proofs.Lined.{accepted, fits}
+use Rattle.rv_asm.proofs.Examining.{first_said, none_first, is_err}
 use Rattle.rv_asm.proofs.assembler.assemble_noting.Goals as goal
-
-pub returns-in_err-lay_out-clause-program : goal.returns-in_err-lay_out-clause-program
-returns-in_err-lay_out-clause-program c =
-    let p = err_from_is_err_and c.from_residual.result c.from_residual.ensures.1 in
-    let fault = c.in_err-lay_out.field-0.0 in
-    let texts = lines c.args.source.now in
-    let f = fails_bind fault.kind fault (lines_laid_out texts) (finished texts)
-    c.in_err-lay_out.ensures.layout in
-    rw (p.1, p.2, whole c.args.source.now) f
-
-pub returns-in_err-bytes-clause-program : goal.returns-in_err-bytes-clause-program
-returns-in_err-bytes-clause-program c =
-    let p = err_from_is_err_and c.from_residual-in_err-bytes.result c.from_residual-in_err-bytes.ensures.1 in
-    let fault = c.in_err-bytes.field-0.0 in
-    let texts = lines c.args.source.now in
-    let ds = c.lay_out.new.known.definitions in
-    let g = rw (c.symbols.ensures, c.deref.ensures.value, c.in_ok-lay_out.ensures.items ds) at
-    c.in_err-bytes.ensures in
-    let f = fails_bind fault.kind fault (written ds (all_parsed texts) (length texts)) (program_of ds) g in
-    rw (p.1, p.2, whole c.args.source.now, c.in_ok-lay_out.ensures.layout) f
 
 pub new-requires : goal.new-requires
 new-requires c =
-    let ds = c.lay_out.new.known.definitions in
-    let image = rw (c.symbols.ensures, c.deref.ensures.value, c.in_ok-lay_out.ensures.items ds) at
-    c.in_ok-bytes.ensures in
-    image_fits c.args.source.now c.lay_out.new.known c.in_ok-bytes.bytes.items
-    c.in_ok-lay_out.ensures.layout image
+    let none : c.in_ok-faults.field-0.faults.items ≡ [] =
+    none_first c.in_ok-faults.field-0.faults.items (search rules) in
+    let is = c.in_ok-faults.ensures.accepts none in
+    fits c.args.source.now _ (accepted c.args.source.now _ is)
 
 pub returns-clause-program : goal.returns-clause-program
 returns-clause-program c =
-    let ds = c.lay_out.new.known.definitions in
-    let image = rw (c.symbols.ensures, c.deref.ensures.value, c.in_ok-lay_out.ensures.items ds) at
-    c.in_ok-bytes.ensures in
-    rw (
-      whole c.args.source.now,
-      c.in_ok-lay_out.ensures.layout,
-      image,
-      c.new.ensures,
-      c.into_names.ensures,
-    ) refl
+    let first : slice_get c.in_ok-faults.field-0.faults.items 0 ≡ Some c.in-Some.first.now = search rules in
+    let fault : result_err (assembled c.args.source.now) ≡ Some c.in-Some.first.now =
+    sym (first_said c.args.source.now) ∙ (rw c.in_ok-faults.ensures.faults_are at first) in
+    fails_at c.in-Some.first.now.line c.in-Some.first.now.kind c.at.result (assembled c.args.source.now)
+    (fault_at c.in-Some.first.now.line c.in-Some.first.now.kind c.at.result c.at.ensures)
+    (is_err (assembled c.args.source.now) c.in-Some.first.now fault)

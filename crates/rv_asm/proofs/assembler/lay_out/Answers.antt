@@ -1,27 +1,25 @@
-use Rattle.std.proofs.Common.{◌≡◌, ◌∙◌, ◌∷◌, ◌+◌, length, ap, sym, arith, rules}
-use Rattle.std.specs.Prelude.{Ok}
+use Rattle.std.proofs.Common.{◌≡◌, ◌∙◌, ◌∷◌, [], length, refl, ap, arith}
 use Rattle.rv_base.specs.Lines.{lines}
-use Rattle.rv_program.specs.Faults.{Gives}
 use Rattle.rv_asm.specs.Assembly.{all_parsed}
-use Rattle.rv_asm.specs.Support.Steps.{Known, laid_out}
-use Rattle.rv_asm.specs.Support.Taken.{so_far}
-use Rattle.rv_asm.proofs.Reading.{begun, laid_out-zero, up_to_laid_out, writes_line, read_more, read_line_at, laid_out_more, unread, read_all}
-use Rattle.rv_asm.proofs.Listed.{writes_none}
-use Rattle.rv_asm.proofs.Lined.{noted_begun, noted_line}
+use Rattle.rv_asm.specs.Support.Counted.{all_faults}
+use Rattle.rv_asm.proofs.Counting.{none_appended}
+use Rattle.rv_asm.proofs.Reading.{all_left, left_more, none_left, unread_more}
+use Rattle.rv_asm.proofs.Examining.{kept_up_to, laid_begun, laid_more}
 use Rattle.rv_asm.proofs.assembler.lay_out.Goals as goal
 
 pub loop-text-init : goal.loop-text-init
+unfolding all_faults
 loop-text-init c =
     let all : c.into_iter-text-iterator.result ≡ lines c.args.source.now =
     c.into_iter-text-iterator.ensures.into_iter_gives ∙ c.cut_lines-text-items.ensures.cut in
     record {
       can_next = tt;
       is_finite = tt;
-      read = rw all (begun (lines c.args.source.now));
-      layout = laid_out-zero (all_parsed (lines c.args.source.now)) ∙ ap (λ (s : Known). Ok s)
-          (sym c.requires.known);
-      writes = rw c.requires.items (writes_none (all_parsed (lines c.args.source.now)));
-      notes = noted_begun (all_parsed (lines c.args.source.now)) c.args.notes.now c.requires.notes;
+      left = rw all (all_left (lines c.args.source.now));
+      unread = c.requires.unread;
+      laid = λ _. laid_begun (all_parsed (lines c.args.source.now)) c.args.known.now c.args.items.now.items
+          c.args.notes.now c.args.misplaced.now.items c.requires.known c.requires.items c.requires.notes c.requires.misplaced;
+      keeps = refl;
       counted = omega (
         arith,
         ap length c.into_iter-text-iterator.ensures.into_iter_gives,
@@ -30,66 +28,39 @@ loop-text-init c =
     }
 
 pub take-requires-clause-up_to : goal.take-requires-clause-up_to
-take-requires-clause-up_to c =
-    up_to_laid_out (all_parsed (lines c.args.source.now)) c.loop-text.number
-    (so_far c.loop-text.fault c.loop-text.known) c.loop-text.invariant.layout
-
-pub returns-in-Err-clause-layout : goal.returns-in-Err-clause-layout
-returns-in-Err-clause-layout c =
-    let why = c.in-Err.ensures.err in
-    unread (lines c.args.source.now) c.loop-text.text-iterator c.loop-text.number c.loop-text.invariant.read
-    c.in-Some.text.now c.next.new.self c.in-Some.ensures.steps
-    why.kind c.in-Err.unread _ why.fails why.at (search rules)
+take-requires-clause-up_to c none =
+    rw (c.loop-text.invariant.laid none).known_is (kept_up_to (all_parsed (lines c.args.source.now)) c.loop-text.number)
 
 pub loop-text-preserved : goal.loop-text-preserved
 loop-text-preserved c =
     let texts = lines c.args.source.now in
-    let rest = c.loop-text.text-iterator in
     let n = c.loop-text.number in
-    let so = c.loop-text.invariant.read in
+    let rest = c.loop-text.text-iterator in
+    let left = c.loop-text.invariant.left in
     let text = c.in-Some.text.now in
     let after = c.next.new.self in
     let cut : rest ≡ text ∷ after = c.in-Some.ensures.steps in
-    let took = c.in_default.ensures.ok in
-    let layout : Gives (λ s. s) (so_far c.take.new.fault c.take.new.known) (laid_out (all_parsed texts) (n + 1)) =
-    rw (← laid_out_more texts rest n so text after cut took.line took.read)
-    (took.state (laid_out (all_parsed texts) n) c.loop-text.invariant.layout) in
+    let took = c.in_ok-take.ensures in
+    let none : c.take.new.unread.items ≡ [] → c.loop-text.unread.items ≡ [] =
+    λ h. (none_appended c.loop-text.unread.items c.take.new.unread.items n _ took.unread h).0 in
     record {
       can_next = tt;
       is_finite = tt;
-      read = read_more texts rest n so text after cut took.line took.read;
-      layout = layout;
-      writes = writes_line (all_parsed texts) n c.loop-text.fault c.take.new.fault c.loop-text.known
-          c.loop-text.items.items c.take.new.items.items took.line
-          (read_line_at texts rest n so text after cut took.line took.read)
-          c.loop-text.invariant.layout c.loop-text.invariant.writes took.adds;
-      notes = noted_line _ (all_parsed texts) n c.loop-text.fault c.take.new.fault c.loop-text.known c.take.new.known
-          c.args.notes.now c.loop-text.notes c.take.new.notes took.line
-          (read_line_at texts rest n so text after cut took.line took.read)
-          c.loop-text.invariant.layout layout c.loop-text.invariant.notes took.adds took.notes_line;
+      left = left_more texts rest n left text after cut;
+      unread = unread_more texts rest n left text after cut _ _ c.loop-text.invariant.unread took.unread;
+      laid = λ h. laid_more texts rest n left text after cut c.loop-text.known _ c.loop-text.items.items _
+          c.args.notes.now c.loop-text.notes _ c.loop-text.misplaced.items _
+          (c.loop-text.invariant.laid (none h)) (took.takes h);
+      keeps = took.keeps ∙ c.loop-text.invariant.keeps;
       counted = omega (arith, c.loop-text.invariant.counted, ap length cut);
     }
 
-pub returns-in-None-fault-clause-layout : goal.returns-in-None-fault-clause-layout
-returns-in-None-fault-clause-layout c =
-    rw (read_all (lines c.args.source.now) c.loop-text.text-iterator c.loop-text.number
-    c.loop-text.invariant.read c.in-None.ensures.steps.0).0
-    (rw c.in-None-fault.is at c.loop-text.invariant.layout)
+pub returns-clause-unread : goal.returns-clause-unread
+returns-clause-unread c =
+    rw (none_left (lines c.args.source.now) c.loop-text.text-iterator c.loop-text.number
+    c.loop-text.invariant.left c.in-None.ensures.steps.0) c.loop-text.invariant.unread
 
-pub returns-in-None-fault-clause-items : goal.returns-in-None-fault-clause-items
-returns-in-None-fault-clause-items c =
-    let all = read_all (lines c.args.source.now) c.loop-text.text-iterator c.loop-text.number
-    c.loop-text.invariant.read c.in-None.ensures.steps.0 in
-    rw all.1 (rw c.in-None-fault.is at c.loop-text.invariant.writes)
-
-pub returns-in-None-fault-clause-notes : goal.returns-in-None-fault-clause-notes
-returns-in-None-fault-clause-notes c =
-    let all = read_all (lines c.args.source.now) c.loop-text.text-iterator c.loop-text.number
-    c.loop-text.invariant.read c.in-None.ensures.steps.0 in
-    rw all.1 (rw c.in-None-fault.is at c.loop-text.invariant.notes)
-
-pub returns-in-Some-fault-clause-layout : goal.returns-in-Some-fault-clause-layout
-returns-in-Some-fault-clause-layout c =
-    rw (read_all (lines c.args.source.now) c.loop-text.text-iterator c.loop-text.number
-    c.loop-text.invariant.read c.in-None.ensures.steps.0).0
-    (rw c.in-Some-fault.is at c.loop-text.invariant.layout)
+pub returns-clause-laid : goal.returns-clause-laid
+returns-clause-laid c =
+    rw (none_left (lines c.args.source.now) c.loop-text.text-iterator c.loop-text.number
+    c.loop-text.invariant.left c.in-None.ensures.steps.0) c.loop-text.invariant.laid

@@ -1,6 +1,6 @@
 use Rattle.std.proofs.Common.{◌^◌, rules, arith}
 use Rattle.rv_isa.specs.Number.{modulo}
-use Rattle.rv_asm.specs.Support.Constants.{IsTaken}
+use Rattle.rv_asm.specs.Support.Statements.{IsTaken}
 use Rattle.rv_asm.specs.Listing.{row}
 use Rattle.rv_asm.specs.Values.{gap}
 use Rattle.rv_asm.proofs.Sizes.{padded}

@@ -2,11 +2,10 @@ use Rattle.std.proofs.Common.{◌≡◌, rules, length}
 use Rattle.std.proofs.lemmas.Result.{err_from_is_err_and}
 use Rattle.rv_base.specs.Lines.{lines}
 use Rattle.rv_asm.specs.Assembly.{all_parsed, assembled}
-use Rattle.rv_asm.specs.Support.Counted.{joined, up_to}
+use Rattle.rv_asm.specs.Support.Counted.{joined, up_to, located}
 use Rattle.rv_asm.specs.Support.Steps.{known_before}
-use Rattle.rv_asm.specs.Support.Looked.{located}
 use Rattle.rv_asm.specs.Lines.{listed}
-use Rattle.rv_asm.proofs.Runs.{fails_bind}
+use Rattle.rv_asm.proofs.Reading.{fails_bind}
 use Rattle.rv_asm.proofs.Lined.{accepted, listing_is, lie_in_order, reaches_end, are_lines}
 use Rattle.rv_asm.proofs.listing.list.Goals as goal
 

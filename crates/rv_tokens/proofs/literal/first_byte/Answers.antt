@@ -1,6 +1,6 @@
 use Rattle.std.proofs.Common.{◌≡◌, ◌≤◌, length, sym, ◌∙◌, arith}
 use Rattle.rv_tokens.proofs.Longest.{longest_at, longest_less, longest_zero}
-use Rattle.rv_tokens.proofs.Spellings.{string_byte_in, first_byte_within}
+use Rattle.rv_tokens.proofs.Escapes.{string_byte_in, first_byte_within}
 use Rattle.rv_tokens.proofs.literal.first_byte.Goals as goal
 
 pub loop-n-init : goal.loop-n-init

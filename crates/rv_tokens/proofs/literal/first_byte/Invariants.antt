@@ -1,7 +1,7 @@
 use Rattle.std.proofs.Common.{◌≡◌, ◌≤◌, length}
 use Rattle.rv_tokens.specs.Literals.{longest}
 use Rattle.rv_tokens.specs.Support.Partial.{first_byte}
-use Rattle.rv_tokens.proofs.Spellings.{string_byte_in}
+use Rattle.rv_tokens.proofs.Escapes.{string_byte_in}
 use Rattle.rv_tokens.proofs.literal.first_byte.Given as goal
 
 abbrev pub invariant-loop-n : goal.invariant-loop-n

@@ -1,5 +1,5 @@
 use Rattle.std.proofs.Common.{◌≡◌, ◌+◌, ◌≤◌, length}
-use Rattle.rv_tokens.specs.Support.Partial.{tokens_after, with_tokens}
+use Rattle.rv_tokens.specs.Support.Cuts.{tokens_after, with_tokens}
 use Rattle.rv_tokens.proofs.scan.cut.Given as goal
 
 abbrev pub invariant-loop-rest : goal.invariant-loop-rest

@@ -1,56 +1,41 @@
-use Rattle.std.proofs.Common.{rules, ◌≡◌, ◌∙◌, ◌++◌, ◌∷◌, [], ap, sym, false}
-use Rattle.std.specs.Prelude.{None, Some}
-use Rattle.std.proofs.lemmas.Result.{err_from_is_err_and}
+use Rattle.std.proofs.Common.{rules, ◌≡◌, ◌∙◌, ◌++◌, ◌∷◌, [], ap, sym, true, false}
 use Rattle.std.proofs.lemmas.Int.{to_z-of_z}
 use mir.Syntax.{w64}
 use mir.Val.{SFits}
-use Rattle.rv_source.specs.Reading.{Parsed}
 use Rattle.rv_asm.specs.Support.Steps.{Known}
 use Rattle.rv_asm.specs.Support.Counted.{relabels}
-use Rattle.rv_asm.proofs.Laying.{labelled_twice, all_labelled, statement_follows, nothing_follows}
-use Rattle.rv_asm.proofs.Listed.{adds_none}
-use Rattle.rv_asm.proofs.Placing.{adds}
+use Rattle.rv_asm.proofs.Laying.{lays_duplicate, lays_nothing, lays_fault, lays}
 use Rattle.rv_asm.proofs.layout.Known.add.Goals as goal
 
-pub returns-then-is_some-clause-known : goal.returns-then-is_some-clause-known
-returns-then-is_some-clause-known c = labelled_twice _ _ _ (sym c.in_ok-new_labels.ensures.index ∙ search rules)
+pub returns-then-branch : goal.returns-then-branch
+returns-then-branch c =
+    let twice : relabels c.args.self.now c.args.labels.now ≡ true = sym c.in_ok-new_labels.ensures.old ∙ search rules in
+    lays_duplicate c.args.number c.args.self.now _ c.args.items.now.items c.new_labels.new.self c.args.items.now.items
+    twice c.in_ok-new_labels.ensures.known
 
-pub returns-in_default-clause-known : goal.returns-in_default-clause-known
-returns-in_default-clause-known c =
-    let line : Parsed = record { labels = c.args.labels.now; statement = c.args.statement.now } in
-    let once : relabels c.args.self.now line.labels ≡ false = sym c.in_ok-new_labels.ensures.index ∙ search rules in
-    nothing_follows c.args.number c.args.self.now line _ once c.in_ok-new_labels.ensures.known (search rules)
+pub returns-in_default : goal.returns-in_default
+returns-in_default c =
+    let once : relabels c.args.self.now c.args.labels.now ≡ false = sym c.in_ok-new_labels.ensures.old ∙ search rules in
+    lays_nothing c.args.number c.args.self.now _ c.args.items.now.items c.new_labels.new.self
+    once c.in_ok-new_labels.ensures.known (search rules)
 
-pub returns-in_default-clause-items : goal.returns-in_default-clause-items
-returns-in_default-clause-items c =
-    let none : c.args.statement.now ≡ None = search rules in
-    rw none (adds_none c.args.number _ c.args.items.now.items)
+pub returns-in-Err : goal.returns-in-Err
+returns-in-Err c =
+    let once : relabels c.args.self.now c.args.labels.now ≡ false = sym c.in_ok-new_labels.ensures.old ∙ search rules in
+    lays_fault c.args.number c.args.self.now _ c.args.items.now.items c.new_labels.new.self
+    once c.in_ok-new_labels.ensures.known c.in-Some.statement (search rules) c.in-Err.kind
+    (rw (c.scope.ensures.symbols, c.scope.ensures.line, c.scope.ensures.here) at c.in-Err.ensures.fault)
 
-pub returns-in_err-constant-clause-known : goal.returns-in_err-constant-clause-known
-returns-in_err-constant-clause-known c =
-    let line : Parsed = record { labels = c.args.labels.now; statement = c.args.statement.now } in
-    let once : relabels c.args.self.now line.labels ≡ false = sym c.in_ok-new_labels.ensures.index ∙ search rules in
-    let parsed : line.statement ≡ Some c.in-Some.statement = search rules in
-    let p = err_from_is_err_and c.from_residual-in_err-constant.result c.from_residual-in_err-constant.ensures.1 in
-    let follows = statement_follows c.args.number c.args.self.now line _ once c.in_ok-new_labels.ensures.known in
-    rw (p.1, p.2, follows, parsed) c.in_err-constant.ensures.known
-
-pub returns-clause-known : goal.returns-clause-known
-returns-clause-known c =
-    let line : Parsed = record { labels = c.args.labels.now; statement = c.args.statement.now } in
-    let once : relabels c.args.self.now line.labels ≡ false = sym c.in_ok-new_labels.ensures.index ∙ search rules in
-    let parsed : line.statement ≡ Some c.in-Some.statement = search rules in
-    rw (statement_follows c.args.number c.args.self.now line _ once c.in_ok-new_labels.ensures.known, parsed)
-    c.in_ok-constant.ensures.known
-
-pub returns-clause-items : goal.returns-clause-items
-returns-clause-items c =
-    let line : Parsed = record { labels = c.args.labels.now; statement = c.args.statement.now } in
-    let once : relabels c.args.self.now line.labels ≡ false = sym c.in_ok-new_labels.ensures.index ∙ search rules in
-    let parsed : line.statement ≡ Some c.in-Some.statement = search rules in
-    let pushed : c.push.new.self.items ≡ c.args.items.now.items ++ c.new-item.result ∷ [] = search rules in
-    let fits : SFits w64 c.in_ok-constant.constant = search rules in
+pub returns : goal.returns
+returns c =
+    let once : relabels c.args.self.now c.args.labels.now ≡ false = sym c.in_ok-new_labels.ensures.old ∙ search rules in
+    let pushed : c.push.new.self.items ≡ c.args.items.now.items ++ c.in_ok-item.item ∷ [] = search rules in
+    let fits : SFits w64 c.in-Ok.extent.constant = search rules in
     let here = ap (λ (s : Known). s.address) c.self.view_is in
-    rw (parsed, ← all_labelled c.args.number c.args.self.now line _ once c.in_ok-new_labels.ensures.known, pushed)
-    (adds c.args.number _ c.in-Some.statement _ c.in_ok-constant.ensures.constant c.args.items.now.items c.new-item.result
-    c.new-item.ensures.at (rw here at (simp to_z-of_z at c.new-item.ensures.bytes)))
+    let on = c.new_labels.new.self in
+    rw pushed (lays c.args.number c.args.self.now _ c.args.items.now.items on once c.in_ok-new_labels.ensures.known
+    c.in-Some.statement (search rules) c.in-Ok.extent.constant _ c.in_ok-item.item
+    (rw (c.scope.ensures.symbols, c.scope.ensures.line, c.scope.ensures.here) at c.in-Ok.ensures.fault)
+    (rw (c.scope.ensures.symbols, c.scope.ensures.line, c.scope.ensures.here) at c.in-Ok.ensures.known)
+    (search rules)
+    c.in_ok-item.ensures.at (rw here at (simp to_z-of_z at c.in_ok-item.ensures.bytes)))

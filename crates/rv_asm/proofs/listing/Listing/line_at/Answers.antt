@@ -1,6 +1,6 @@
 use Rattle.std.proofs.Common.{◌≡◌, ◌∙◌, ap, sym, arith, length}
 use Rattle.rv_asm.specs.Lines.{Located}
-use Rattle.rv_asm.proofs.Listings.{one_line, no_line}
+use Rattle.rv_asm.proofs.Cuts.{one_line, no_line}
 use Rattle.rv_asm.proofs.listing.Listing.line_at.Goals as goal
 use Rattle.rv_asm.proofs.listing.Listing.line_at.Goals.{else-count-gt0-via-then-count-gt0+else-count-len, else-count-gt0-via-else-count-gt0}
 

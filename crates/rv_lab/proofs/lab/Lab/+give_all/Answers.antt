@@ -6,7 +6,7 @@ use Rattle.rv_lab.proofs.lab.Lab.+give_all.Goals as goal
 pub returns-in_err-give-clause-err : goal.returns-in_err-give-clause-err
 returns-in_err-give-clause-err t c =
     on_err c.from_residual.result (StopsShort (Gives c.args.inputs.now) c.args.self.now c.give.new.self)
-    (gave_nothing c.args.self.now c.give.new.self c.args.inputs.now c.in_err-give.ensures.err)
+    (gave_nothing c.args.self.now c.give.new.self c.args.inputs.now c.requires c.in_err-give.ensures.err)
 
 pub returns-clause-err : goal.returns-clause-err
 returns-clause-err t c =

@@ -13,7 +13,7 @@ returns-then-branch-clause-traced t c =
 pub returns-in_err-trace_step-clause-err : goal.returns-in_err-trace_step-clause-err
 returns-in_err-trace_step-clause-err t c =
     on_err c.from_residual.result (StopsShort (Traced c.args.count) c.args.self.now c.trace_step.new.self)
-    (traced_short c.args.count c.args.self.now c.trace_step.new.self (omega arith)
+    (traced_short c.args.count c.args.self.now c.trace_step.new.self (omega arith) c.requires
     c.in_err-trace_step.ensures.err c.in_err-trace_step.ensures.others)
 
 pub returns-then-branch-clause-err : goal.returns-then-branch-clause-err

@@ -1,5 +1,4 @@
-use Rattle.std.proofs.Common.{◌∙◌, sym, ap}
-use Rattle.rv_lab.specs.State.{LabState}
+use Rattle.std.proofs.Common.{◌∙◌, sym}
 use Rattle.rv_lab.proofs.Bounds.{piece_short_within, piece_within}
 use Rattle.rv_lab.proofs.Short.{continued}
 use Rattle.rv_lab.proofs.lab.Lab.go_on.Goals as goal
@@ -7,7 +6,7 @@ use Rattle.rv_lab.proofs.lab.Lab.go_on.Goals as goal
 pub returns-in_err-next-clause-err : goal.returns-in_err-next-clause-err
 returns-in_err-next-clause-err c =
     continued c.from_residual.result c.args.self.now.plan c.in-Some.plan c.args.self.now c.go_on_with.new.self
-    (sym (ap (λ (l : LabState). l.plan) c.self.view_is) ∙ c.in-Some.is) c.in_err-next.ensures.err
+    (sym c.plan.ensures ∙ c.in-Some.is) c.in_err-next.ensures.err
 
 pub returns-clause-bound : goal.returns-clause-bound
 returns-clause-bound c =

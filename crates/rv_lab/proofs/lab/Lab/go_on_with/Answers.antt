@@ -1,10 +1,7 @@
-use Rattle.std.proofs.Common.{rules, ap, arith}
-use Rattle.rv_lab.specs.State.{LabState}
-use Rattle.rv_lab.proofs.Short.{piece_err}
+use Rattle.rv_lab.proofs.Runs.{told_piece}
 use Rattle.rv_lab.proofs.lab.Lab.go_on_with.Goals as goal
 
-pub returns-in_err-end-clause-err : goal.returns-in_err-end-clause-err
-returns-in_err-end-clause-err c =
-    piece_err c.from_residual.result c.args.plan c.min-most.result c.args.self.now c.end_run.new.self
-    c.run_piece.new.self (omega (arith, c.min-most.ensures, c.max.ensures, ap (λ (l : LabState). l.piece) c.self.view_is))
-    (first_of (search rules, cc)) c.in_err-end.ensures.err c.in_err-end.ensures.others
+pub returns-in-Some-clause-goes_on : goal.returns-in-Some-clause-goes_on
+returns-in-Some-clause-goes_on c =
+    told_piece c.args.plan c.in-Some.rest c.plan.result c.args.self.now c.take_piece.new.self c.tell_piece.new.self
+    c.in_ok-end.ensures.piece c.plan.ensures c.in-Some.is c.tell_piece.ensures

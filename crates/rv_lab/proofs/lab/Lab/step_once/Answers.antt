@@ -1,5 +1,5 @@
 use Rattle.std.proofs.Common.{◌∙◌, ap, sym}
-use Rattle.rv_lists.specs.Timed.{never_falls}
+use Rattle.rv_timeline.specs.Timed.{never_falls}
 use Rattle.rv_lab.specs.State.{LabState}
 use Rattle.rv_lab.specs.Support.Short.{IsOnWay, stepped}
 use Rattle.rv_lab.proofs.Short.{on_err, step_refused}

@@ -1,7 +1,7 @@
 use Rattle.std.proofs.Common.{List}
 use Rattle.std.specs.Vec.{vec_len}
 use Rattle.rv_board.specs.Support.State.{BoardState}
-use Rattle.rv_lists.specs.declared.input.TimedInput.{TimedInput}
+use Rattle.rv_timeline.specs.declared.input.TimedInput.{TimedInput}
 use Rattle.rv_recording.specs.Support.Kept.{AreKept}
 use Rattle.rv_recording.proofs.kept.KeptStates.forget_after.Given as goal
 

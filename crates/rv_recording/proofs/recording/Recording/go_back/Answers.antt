@@ -1,5 +1,4 @@
-use Rattle.std.proofs.Common.{◌≡◌, ◌∙◌, ◌*◌, ap, sym, min, arith}
-use Rattle.rv_board.specs.Boot.{reset}
+use Rattle.std.proofs.Common.{◌≡◌, ◌∙◌, ap, sym, min, arith}
 use Rattle.rv_board.specs.Move.{run}
 use Rattle.rv_monitor.specs.Events.{events_of}
 use Rattle.rv_recording.specs.Recording.{RecordingState, first_board, gone_back}
@@ -9,10 +8,7 @@ use Rattle.rv_recording.proofs.recording.Recording.go_back.Goals as goal
 
 pub invariant_of-self : goal.invariant_of-self
 invariant_of-self c =
-    let before : c.in-Ok.start.0
-    ≡ run (reset c.self.inside.session.program.bytes (4096 * c.self.inside.pages))
-    (events_of c.self.inside.session.timed.inputs 0 c.in-Ok.start.1) =
-    c.in-Ok.ensures.run
+    let before = c.in-Ok.ensures.run
     ∙ ap (λ (r : RecordingState). run (first_board r) (events_of r.session.timed.inputs 0 c.in-Ok.start.1))
     (sym c.self.view_is) in
     back_any c.self.inside.session c.resume.new.self c.self.inside.pages c.self.inside.slots c.self.inside.kept
@@ -28,10 +24,7 @@ returns-clause-ok c = elim c.match-resume.branch [
       ap (λ r. r.session.timed.taken) c.self.view_is in
       let count : c.min-count.result ≡ min c.args.steps c.args.self.now.session.timed.taken =
       omega (arith, c.min-count.ensures, c.taken.ensures.value) in
-      let before : c.in-Ok.start.0
-      ≡ run (reset c.self.inside.session.program.bytes (4096 * c.self.inside.pages))
-      (events_of c.self.inside.session.timed.inputs 0 c.in-Ok.start.1) =
-      c.in-Ok.ensures.run
+      let before = c.in-Ok.ensures.run
       ∙ ap (λ (r : RecordingState). run (first_board r) (events_of r.session.timed.inputs 0 c.in-Ok.start.1))
       (sym c.self.view_is) in
       rw w.result-is

@@ -1,0 +1,197 @@
+//! The text of an answer.
+use crate::many::Many;
+use itoa::Buffer;
+use rv_base::{NoMemory, byte_digits, word_digits};
+use rv_isa::{Instr, write_instr};
+use std::alloc::Global;
+use std::marker::Model;
+
+/// A text that answers are appended to. Where memory runs out it takes nothing more, and remembers that.
+pub struct Printer {
+    alloc: Global,
+    bytes: Vec<u8>,
+    is_cut: bool,
+}
+
+// Hand-written: a derived `Drop` would be proved anew at each exit (docs/PROVING.md).
+impl Drop for Printer {
+    fn drop(self) {
+        let Printer {
+            alloc: _,
+            bytes: _,
+            is_cut: _,
+        } = self;
+    }
+}
+
+impl Model for Printer {
+    ghost use Rattle.rv_answers.specs.Printer.{Written};
+
+    ghost Value = { Written };
+
+    ghost view = { λ a. record { bytes = a.bytes.items; is_cut = a.is_cut } };
+}
+
+impl Printer {
+    ghost use Rattle.std.specs.Prelude.{◌≡◌, [], true, false, IfOk};
+    ghost use Rattle.std.specs.Fmt.{decimal};
+    ghost use Rattle.rv_answers.specs.Printer.{Appended};
+
+    /// Returns an empty answer. It doesn't allocate.
+    pub fn new(alloc: Global) -> Printer
+        ensures { result ≡ record { bytes = []; is_cut = false } }
+    {
+        Printer {
+            alloc,
+            bytes: Vec::new(alloc),
+            is_cut: false,
+        }
+    }
+
+    /// Returns the text.
+    pub fn bytes(&self) -> &[u8]
+        ensures { result.now ≡ self.now.bytes }
+    {
+        self.bytes.as_slice()
+    }
+
+    /// Whether memory ran out, so that a piece is missing at the end.
+    pub fn is_cut(&self) -> bool
+        ensures { result ≡ self.now.is_cut }
+    {
+        self.is_cut
+    }
+
+    /// Returns the bytes, if no piece is missing at their end.
+    pub fn whole(self) -> Result<Many<u8>, NoMemory>
+        ensures { IfOk result (λ t. t ≡ self.bytes) }
+    {
+        let Printer {
+            alloc: _,
+            bytes,
+            is_cut,
+        } = self;
+        if is_cut {
+            Err(NoMemory)
+        } else {
+            Ok(Many::of(bytes))
+        }
+    }
+
+    /// Makes the answer empty.
+    pub fn clear(&mut self)
+        ensures { self.new ≡ record { bytes = []; is_cut = false } }
+    {
+        self.bytes.clear();
+        self.is_cut = false;
+    }
+
+    /// Returns the allocator.
+    pub fn alloc(&self) -> Global {
+        self.alloc
+    }
+
+    /// Notes that memory ran out, so that a piece is missing at the end.
+    pub fn cut(&mut self)
+        ensures { self.new ≡ record self.old { is_cut = true } }
+    {
+        self.is_cut = true;
+    }
+
+    /// Appends a piece.
+    pub fn put(&mut self, piece: &[u8])
+        ensures { Appended self.old self.new piece.now }
+    {
+        if self.is_cut {
+            return;
+        }
+        self.is_cut = self.bytes.extend_from_slice(piece).is_err();
+    }
+
+    /// Appends a text.
+    pub fn say(&mut self, text: &str)
+        ensures { Appended self.old self.new text.now }
+    {
+        self.put(text.as_bytes());
+    }
+
+    /// Appends a byte.
+    pub fn byte(&mut self, byte: u8) {
+        self.put(&[byte]);
+    }
+
+    /// Appends the eight hexadecimal digits of a word.
+    pub fn word(&mut self, word: u32) {
+        self.put(&word_digits(word));
+    }
+
+    /// Appends the two hexadecimal digits of a byte.
+    pub fn digits(&mut self, byte: u8) {
+        self.put(&byte_digits(byte));
+    }
+
+    /// Appends a number in decimal.
+    pub fn number(&mut self, number: u64)
+        ensures { Appended self.old self.new (decimal number) }
+    {
+        let mut buffer = Buffer::new();
+        self.put(buffer.format(number).as_bytes());
+    }
+
+    /// Appends a signed number in decimal.
+    pub fn signed(&mut self, number: i32) {
+        let mut buffer = Buffer::new();
+        self.put(buffer.format(number).as_bytes());
+    }
+
+    /// Appends `count` spaces.
+    pub fn spaces(&mut self, count: usize) {
+        for _ in 0..count {
+            self.byte(b' ');
+        }
+    }
+
+    /// Appends a text, and spaces up to a width.
+    pub fn padded(&mut self, text: &[u8], width: usize) {
+        self.put(text);
+        self.spaces(width.saturating_sub(text.len()));
+    }
+
+    /// Appends the number of a line and a colon, and spaces up to a width.
+    pub fn line_number(&mut self, number: usize) {
+        let mut buffer = Buffer::new();
+        let digits = buffer.format(number).as_bytes();
+        let width = 5usize.saturating_sub(digits.len());
+        self.put(digits);
+        self.put(b":");
+        self.spaces(width);
+    }
+
+    /// Appends that a text isn't what a command wants, and why.
+    pub fn refuse(&mut self, command: &str, text: &[u8], why: &str) {
+        self.say(command);
+        self.say(": `");
+        self.put(text);
+        self.say("` ");
+        self.say(why);
+    }
+
+    /// Ends a line with where to find an example of a command.
+    pub fn see_help(&mut self, command: &str) {
+        self.say("; `help ");
+        self.say(command);
+        self.say("` has an example\n");
+    }
+
+    /// Ends the line.
+    pub fn end(&mut self) {
+        self.put(b"\n");
+    }
+
+    /// Appends the text of an instruction.
+    pub fn instruction(&mut self, instr: Instr) {
+        if !self.is_cut {
+            self.is_cut = write_instr(instr, &mut self.bytes).is_err();
+        }
+    }
+}

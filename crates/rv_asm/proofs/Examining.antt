@@ -1,0 +1,340 @@
+-- The lines of a source, laid out one by one, and its faults.
+use Rattle.std.proofs.Common.{◌≡◌, ℕ, zero, suc, ◌+◌, ◌<◌, ◌≤◌, Bool, true, false, cond, List, [], ◌∷◌, length, refl, sym, ap, ◌∙◌, arith, add-one}
+use Rattle.std.specs.Prelude.{Option, None, Some, IfSome, is_some, set, slice_get, Result, Ok, Err, ◌==◌}
+use Rattle.std.specs.Option.{option_map, option_or}
+use Rattle.std.specs.Result.{result_err}
+use Rattle.std.specs.List.{flat_map}
+use Rattle.std.proofs.lemmas.List.{length-set, get_or-set_same, get_or-set_other}
+use Rattle.std.proofs.lemmas.Bool.Decides.{nat_tests}
+use Rattle.rv_base.specs.Lines.{lines}
+use Rattle.rv_base.specs.Limits.{ram_base, image_limit}
+use Rattle.rv_source.specs.Reading.{Parsed}
+use Rattle.rv_program.specs.Program.{Assembly}
+use Rattle.rv_program.specs.declared.fault.FaultKind.{FaultKind}
+use Rattle.rv_program.specs.declared.fault.AsmFault.{AsmFault}
+use Rattle.rv_asm.specs.Layout.{line_at, phase_two_fault, definitions}
+use Rattle.rv_asm.specs.Lines.{Located}
+use Rattle.rv_asm.specs.Assembly.{all_parsed, assembled}
+use Rattle.rv_asm.specs.AllFaults.{kept, faults_of}
+use Rattle.rv_asm.specs.Support.Counted.{address, blank, fault_on, faults_at, all_faults, phase_one_fault, phase_three_fault, located}
+use Rattle.rv_asm.specs.Support.Steps.{Known, Item, start, known_before, labelled, with_line, item_faults, item_listed, Written, Writes, new_among, cleared, known_after, judged, Takes, LaidOut, IsExamined}
+use Rattle.rv_asm.proofs.Counting.{answer, first_found, found_by, image_by, faults_none, faults_more, first_append, first_same, found_one, found_two, found_three, assembled_is, none_appended, none_last, none_before}
+use Rattle.rv_asm.proofs.Laying.{IsUpTo, phase_two_is, not_stated, up_to_before, writes_none, writes_more}
+use Rattle.rv_asm.proofs.Lined.{within_line, noted_begun, noted_more}
+use Rattle.rv_asm.proofs.Reading.{LeftOf, length-parsed, is_before, read_line_at}
+
+-- ---- the lines that are kept
+
+one_more : (xs : List Parsed) (n : ℕ) → known_before xs (suc n) ≡ with_line n (known_before xs n) (line_at xs n)
+unfolding known_before
+one_more xs n = refl
+
+with_same : (n : ℕ) (s t : Known) (line other : Parsed) → s ≡ t → line ≡ other →
+    with_line n s line ≡ with_line n t other
+with_same n s t line other e f = rw (e, f) refl
+
+none_before_first : (xs ys : List Parsed) → known_before xs 0 ≡ known_before ys 0
+unfolding known_before
+none_before_first xs ys = refl
+
+-- a line changes nothing that is known before it
+known_other : (xs : List Parsed) (k : ℕ) (line : Parsed) (n : ℕ) → n ≤ k →
+    known_before (set xs k line) n ≡ known_before xs n
+known_other xs k line zero h = none_before_first (set xs k line) xs
+known_other xs k line (suc n) h =
+    let other : line_at (set xs k line) n ≡ line_at xs n =
+    get_or-set_other xs k n line blank (λ e. omega (arith, h, e)) in
+    one_more (set xs k line) n
+    ∙ with_same n (known_before (set xs k line) n) (known_before xs n) (line_at (set xs k line) n) (line_at xs n)
+    (known_other xs k line n (omega (arith, h))) other
+    ∙ sym (one_more xs n)
+
+length_by : (xs : List Parsed) (k : ℕ) (line : Parsed) (b : Bool) → length (cond b (set xs k line) xs) ≡ length xs
+length_by xs k line true = length-set xs k line
+length_by xs k line false = refl
+
+length_kept : (ls : List Parsed) (n : ℕ) → length (kept ls n) ≡ length ls
+unfolding kept
+length_kept ls zero = refl
+length_kept ls (suc n) = length_by (kept ls n) n (cleared (kept ls n) n) (is_some (judged ls n)) ∙ length_kept ls n
+
+other_by : (xs : List Parsed) (k n : ℕ) (line : Parsed) (b : Bool) → k < n →
+    line_at (cond b (set xs k line) xs) n ≡ line_at xs n
+other_by xs k n line true h = get_or-set_other xs k n line blank (λ e. omega (arith, h, e))
+other_by xs k n line false h = refl
+
+later_line : (ls : List Parsed) (n k : ℕ) → n ≤ k → line_at (kept ls n) k ≡ line_at ls k
+unfolding kept
+later_line ls zero k h = refl
+later_line ls (suc n) k h =
+    other_by (kept ls n) n k (cleared (kept ls n) n) (is_some (judged ls n)) (omega (arith, h))
+    ∙ later_line ls n k (omega (arith, h))
+
+-- the address of line n isn't past the largest image
+abbrev IsWithin : List Parsed → ℕ → Type 0
+IsWithin xs n = address xs n ≤ ram_base + image_limit
+
+after_faulty : (n : ℕ) (s : Known) (line : Parsed) → is_some (fault_on n s line) ≡ true →
+    known_after n s line ≡ labelled n s (new_among s line.labels)
+unfolding known_after
+after_faulty n s line e = rw e refl
+
+after_right : (n : ℕ) (s : Known) (line : Parsed) → is_some (fault_on n s line) ≡ false →
+    known_after n s line ≡ with_line n s line
+unfolding known_after
+after_right n s line e = rw e refl
+
+known_by : (xs : List Parsed) (n : ℕ) (b : Bool) → IsWithin xs n → n < length xs → is_some (phase_two_fault xs n) ≡ b →
+    known_before (cond b (set xs n (cleared xs n)) xs) (suc n)
+    ≡ known_after n (known_before xs n) (line_at xs n)
+known_by xs n true within h e =
+    let line : Parsed = cleared xs n in
+    let s : Known = known_before xs n in
+    let here : line_at (set xs n line) n ≡ line = get_or-set_same xs n line blank h in
+    one_more (set xs n line) n
+    ∙ with_same n (known_before (set xs n line) n) s (line_at (set xs n line) n) line
+    (known_other xs n line n (omega arith)) here
+    ∙ not_stated n (labelled n s line.labels)
+    ∙ sym (after_faulty n s (line_at xs n) (sym (ap is_some (phase_two_is xs n within)) ∙ e))
+known_by xs n false within h e =
+    one_more xs n ∙ sym (after_right n (known_before xs n) (line_at xs n) (sym (ap is_some (phase_two_is xs n within)) ∙ e))
+
+unfaulty : (o : Option FaultKind) → is_some o ≡ false → o ≡ None
+unfaulty None h = refl
+unfaulty (Some kind) h = absurd cc
+
+within_by : (xs : List Parsed) (n : ℕ) (b : Bool) → IsWithin xs n → n < length xs → is_some (phase_two_fault xs n) ≡ b →
+    IsWithin (cond b (set xs n (cleared xs n)) xs) (suc n)
+within_by xs n true within h e =
+    let s : Known = known_before xs n in
+    let is = known_by xs n true within h e ∙ after_faulty n s (line_at xs n) (sym (ap is_some (phase_two_is xs n within)) ∙ e) in
+    let at = ap (λ (k : Known). k.address) is in
+    rw at within
+within_by xs n false within h e = within_line xs n (unfaulty (phase_two_fault xs n) e)
+
+within_kept : (ls : List Parsed) (n : ℕ) → n ≤ length ls → IsWithin (kept ls n) n
+unfolding kept known_before
+within_kept ls zero h = omega arith
+within_kept ls (suc n) h =
+    within_by (kept ls n) n (is_some (judged ls n)) (within_kept ls n (omega (arith, h))) (rw (length_kept ls n) h) refl
+
+pub judged_is : (ls : List Parsed) (n : ℕ) → n < length ls →
+    judged ls n ≡ fault_on n (known_before (kept ls n) n) (line_at ls n)
+judged_is ls n h =
+    phase_two_is (kept ls n) n (within_kept ls n (omega (arith, h)))
+    ∙ ap (fault_on n (known_before (kept ls n) n)) (later_line ls n n (omega arith))
+
+pub known_kept : (ls : List Parsed) (n : ℕ) → n < length ls →
+    known_before (kept ls (suc n)) (suc n) ≡ known_after n (known_before (kept ls n) n) (line_at ls n)
+unfolding kept
+known_kept ls n h =
+    known_by (kept ls n) n (is_some (judged ls n)) (within_kept ls n (omega (arith, h))) (rw (length_kept ls n) h) refl
+    ∙ ap (known_after n (known_before (kept ls n) n)) (later_line ls n n (omega arith))
+
+-- where no line is faulty all are kept
+kept_all : (ls : List Parsed) (n : ℕ) → all_faults (judged ls) n ≡ [] → kept ls n ≡ ls
+unfolding kept
+kept_all ls zero h = refl
+kept_all ls (suc n) h =
+    rw (none_last (judged ls) n h) (kept_all ls n (none_before (judged ls) n (suc n) h (omega arith)))
+
+-- ---- laying out
+
+pub kept_up_to : (ls : List Parsed) (n : ℕ) → IsUpTo n (known_before (kept ls n) n)
+kept_up_to ls n = up_to_before (kept ls n) n
+
+pub laid_begun : (ls : List Parsed) (known : Known) (items : List Item) (notes : Option Located)
+    (faults : List AsmFault) → known ≡ start → items ≡ [] → IfSome notes (λ n. n ≡ located [] 0) → faults ≡ [] →
+    LaidOut ls 0 known items notes notes faults
+unfolding kept known_before all_faults
+laid_begun ls known items notes faults k i n f = record {
+  known_is = k;
+  faults_are = f;
+  writes = λ _. rw i (writes_none ls);
+  notes_are = λ _. noted_begun ls notes n;
+}
+
+module _ (texts rest : List (List ℕ)) (n : ℕ) (so : LeftOf texts rest n) (text : List ℕ)
+    (after : List (List ℕ)) (cut : rest ≡ text ∷ after) (s t : Known) (items more : List Item)
+    (first notes noted : Option Located) (faults found : List AsmFault)
+    (laid : LaidOut (all_parsed texts) n s items first notes faults)
+    (takes : Takes n text s t items more notes noted faults found) where
+  abbrev ls : List Parsed
+  ls = all_parsed texts
+
+  at : line_at ls n ≡ takes.line
+  at = read_line_at texts rest n so text after cut takes.line takes.read
+
+  before : n < length ls
+  before = is_before texts rest n so text after cut
+
+  known_more : t ≡ known_before (kept ls (suc n)) (suc n)
+  known_more = takes.lays.known_is ∙ rw (laid.known_is, ← at) (sym (known_kept ls n before))
+
+  fault_here : takes.fault ≡ judged ls n
+  fault_here = takes.lays.fault_is ∙ rw (laid.known_is, ← at) (sym (judged_is ls n before))
+
+  found_more : found ≡ all_faults (judged ls) (suc n)
+  found_more = takes.finds ∙ rw (laid.faults_are, fault_here) (sym (faults_more (judged ls) n))
+
+  module _ (none : found ≡ []) where
+    none_so_far : (faults ≡ []) × (takes.fault ≡ None)
+    none_so_far = none_appended faults found n takes.fault takes.finds none
+
+    all_so_far : kept ls n ≡ ls
+    all_so_far = kept_all ls n (sym laid.faults_are ∙ none_so_far.0)
+
+    here : s ≡ known_before ls n
+    here = laid.known_is ∙ ap (λ xs. known_before xs n) all_so_far
+
+    there : t ≡ known_before ls (suc n)
+    there = known_more ∙ ap (λ xs. known_before xs (suc n)) (kept_all ls (suc n) (sym found_more ∙ none))
+
+    writes_line : Writes ls (suc n) more
+    writes_line = writes_more ls n items more (laid.writes none_so_far.0)
+        (rw (← here, at) (takes.lays.adds none_so_far.1))
+
+    notes_line : noted ≡ option_map (λ _. located ls (suc n)) first
+    notes_line = takes.notes_line ∙ rw (laid.notes_are none_so_far.0, here, there, ← at) (noted_more ls n first)
+
+  pub laid_more : LaidOut ls (n + 1) t more first noted found
+  laid_more = rw add-one (record {
+    known_is = known_more;
+    faults_are = found_more;
+    writes = writes_line;
+    notes_are = notes_line;
+  })
+
+-- ---- the first fault
+
+same_by : (xs : List Parsed) (n : ℕ) (before : List AsmFault) → all_faults (judged xs) n ≡ before →
+    option_or (slice_get before 0) (slice_get (faults_at n (judged xs n)) 0)
+    ≡ option_or (slice_get before 0) (slice_get (faults_at n (phase_two_fault xs n)) 0)
+same_by xs n (fault ∷ faults) e = refl
+same_by xs n [] e = rw (kept_all xs n e) refl
+
+first_more : (fault : ℕ → Option FaultKind) (n : ℕ) → slice_get (all_faults fault (suc n)) 0
+    ≡ option_or (slice_get (all_faults fault n) 0) (slice_get (faults_at n (fault n)) 0)
+first_more fault n = ap (λ xs. slice_get xs 0) (faults_more fault n) ∙ first_append (all_faults fault n) (faults_at n (fault n))
+
+first_judged : (xs : List Parsed) (n : ℕ) →
+    slice_get (all_faults (judged xs) n) 0 ≡ slice_get (all_faults (phase_two_fault xs) n) 0
+first_judged xs zero = rw (faults_none (judged xs), faults_none (phase_two_fault xs)) refl
+first_judged xs (suc n) =
+    first_more (judged xs) n
+    ∙ same_by xs n (all_faults (judged xs) n) refl
+    ∙ ap (λ o. option_or o (slice_get (faults_at n (phase_two_fault xs n)) 0)) (first_judged xs n)
+    ∙ sym (first_more (phase_two_fault xs) n)
+
+first_answer : (faults : List AsmFault) (a : Assembly) → slice_get faults 0 ≡ result_err (answer faults a)
+first_answer [] a = refl
+first_answer (fault ∷ faults) a = refl
+
+pub all_are : (texts : List (List ℕ)) → faults_of texts ≡ found_by (judged (all_parsed texts)) texts
+unfolding faults_of all_faults
+all_are texts = refl
+
+module _ (source : List ℕ) where
+  abbrev texts : List (List ℕ)
+  texts = lines source
+
+  abbrev parsed : List Parsed
+  parsed = all_parsed (lines source)
+
+  abbrev n : ℕ
+  n = length (lines source)
+
+  two_same : slice_get (found_by (judged parsed) texts) 0 ≡ slice_get (found_by (phase_two_fault parsed) texts) 0
+  two_same = first_same (all_faults (phase_one_fault texts) n) (all_faults (judged parsed) n)
+      (all_faults (phase_two_fault parsed) n) (all_faults (phase_three_fault parsed) n) (first_judged parsed n)
+
+  -- the first of the faults is that of the assembly
+  pub first_said : slice_get (faults_of texts) 0 ≡ result_err (assembled source)
+  first_said =
+      ap (λ faults. slice_get faults 0) (all_are texts)
+      ∙ two_same
+      ∙ first_answer (found_by (phase_two_fault parsed) texts) (image_by texts)
+      ∙ ap result_err (sym (assembled_is source))
+
+  accepts_by : (faults found : List AsmFault) (a : Assembly) → found ≡ [] → slice_get found 0 ≡ slice_get faults 0 →
+      answer faults a ≡ Ok a
+  accepts_by [] found a none e = refl
+  accepts_by (fault ∷ faults) found a none e = absurd (let no : None ≡ Some fault = rw none at e in cc)
+
+  -- without faults it is accepted
+  accepted : found_by (judged parsed) texts ≡ [] → assembled source ≡ Ok (image_by texts)
+  accepted none = assembled_is source ∙ accepts_by _ (found_by (judged parsed) texts) (image_by texts) none two_same
+
+  -- ---- the phases together
+
+  module _ (one : List AsmFault) (first_is : one ≡ all_faults (phase_one_fault texts) n) (bytes : List ℕ) (known : Known)
+      (first notes : Option Located) (keeps : is_some notes ≡ is_some first) where
+    refused : (faults : List AsmFault) → found_by (judged parsed) texts ≡ faults → (faults ≡ [] → ⊥) →
+        IsExamined source faults bytes known first notes
+    refused faults e some = record {
+      faults_are = sym (all_are texts ∙ e);
+      keeps = keeps;
+      accepts = λ h. absurd (some h);
+      notes_are = λ h. absurd (some h);
+    }
+
+    pub in_one : (one ≡ [] → ⊥) → IsExamined source one bytes known first notes
+    in_one h = refused one
+        (rw (← first_is) (found_one one (all_faults (judged parsed) n) (all_faults (phase_three_fault parsed) n) h)) h
+
+    module _ (none : one ≡ []) (items : List Item) (two : List AsmFault)
+        (laid : LaidOut parsed n known items first notes two) where
+      later : found_by (judged parsed) texts ≡ first_found one two (all_faults (phase_three_fault parsed) n)
+      later = rw (← first_is, ← laid.faults_are) refl
+
+      pub in_two : (two ≡ [] → ⊥) → IsExamined source two bytes known first notes
+      in_two h = refused two (later ∙ found_two one two (all_faults (phase_three_fault parsed) n) none h) h
+
+      module _ (no_two : two ≡ []) where
+        all_kept : kept parsed n ≡ parsed
+        all_kept = kept_all parsed n (sym laid.faults_are ∙ no_two)
+
+        known_last : known ≡ known_before parsed (length parsed)
+        known_last = laid.known_is ∙ rw (all_kept, length-parsed texts) refl
+
+        symbols_are : known.definitions ≡ definitions parsed
+        symbols_are = ap (λ (s : Known). s.definitions) known_last
+
+        written : Written parsed n items known.definitions
+        written = laid.writes no_two known.definitions
+
+        pub in_three : (three : List AsmFault) → three ≡ flat_map (item_faults known.definitions) items →
+            (three ≡ [] → bytes ≡ flat_map (item_listed known.definitions) items) →
+            IsExamined source three bytes known first notes
+        in_three three e b =
+            let late : three ≡ all_faults (phase_three_fault parsed) n = e ∙ written.faults ∙ rw symbols_are refl in
+            let all : found_by (judged parsed) texts ≡ three = later ∙ rw (← late) (found_three one two three none no_two) in
+            record {
+              faults_are = sym (all_are texts ∙ all);
+              keeps = keeps;
+              accepts = λ h. accepted (all ∙ h) ∙ rw (b h, written.bytes, symbols_are, length-parsed texts) refl;
+              notes_are = λ _. laid.notes_are no_two;
+            }
+
+-- ---- lists that are empty or not
+
+pub filled_by : (faults seen : List AsmFault) (b : Bool) → seen ≡ faults → b ≡ (length seen == 0) → b ≡ false →
+    faults ≡ [] → ⊥
+filled_by [] seen b s e h z =
+    let t : b ≡ true = rw s at e in absurd (let no : true ≡ false = rw t at h in cc)
+filled_by (fault ∷ faults) seen b s e h z = absurd cc
+
+pub empty_by : (faults seen : List AsmFault) (b : Bool) → seen ≡ faults → b ≡ (length seen == 0) → b ≡ true → faults ≡ []
+empty_by [] seen b s e h = refl
+empty_by (fault ∷ faults) seen b s e h =
+    let is : true ≡ (length (fault ∷ faults) == 0) = sym h ∙ (rw s at e) in
+    let none : length (fault ∷ faults) ≡ 0 = grind (arith, nat_tests, is) in
+    absurd (omega (arith, none))
+
+pub none_first : (faults : List AsmFault) → slice_get faults 0 ≡ None → faults ≡ []
+none_first [] h = refl
+none_first (fault ∷ faults) h = absurd cc
+
+pub is_err : {A : Type 0} (r : Result A AsmFault) (fault : AsmFault) → result_err r ≡ Some fault → r ≡ Err fault
+is_err (Ok x) fault h = absurd cc
+is_err (Err e) fault h = cc

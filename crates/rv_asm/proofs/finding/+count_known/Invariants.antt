@@ -1,5 +1,0 @@
-use Rattle.std.proofs.Common.{length}
-use Rattle.rv_asm.proofs.finding.+count_known.Given as goal
-
-abbrev pub decreases-count_known : goal.decreases-count_known
-decreases-count_known l = length l.tokens.now

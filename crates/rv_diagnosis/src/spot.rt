@@ -1,0 +1,91 @@
+//! Places in lines.
+use crate::diagnosis::Diagnosis;
+use rv_base::{cut_lines, is_blank};
+
+/// A place in a line: what stands before it, the place, and what stands after it.
+#[derive(Clone, Copy)]
+pub(crate) struct Spot<'a> {
+    pub before: &'a [u8],
+    pub piece: &'a [u8],
+    pub after: &'a [u8],
+    /// The place and what stands after it.
+    pub rest: &'a [u8],
+}
+
+/// Returns the line with a number, counted from 1; nothing if there are fewer lines.
+pub(crate) fn line_text(source: &[u8], number: usize) -> &[u8] {
+    let mut left = number.saturating_sub(1);
+    for text in cut_lines(source) {
+        if left == 0 {
+            return text;
+        }
+        left -= 1;
+    }
+    &[]
+}
+
+/// Returns the place of a diagnosis in its line.
+pub(crate) fn spot_of<'a>(line: &'a [u8], diagnosis: &Diagnosis) -> Spot<'a> {
+    let column = diagnosis.column.saturating_sub(1).min(line.len());
+    let (before, rest) = line.split_at(column);
+    let (piece, after) = rest.split_at(diagnosis.length.min(rest.len()));
+    Spot {
+        before,
+        piece,
+        after,
+        rest,
+    }
+}
+
+/// Returns the first byte of a text that is no blank; 0 if there is none.
+pub(crate) fn first_byte(text: &[u8]) -> u8 {
+    text.iter()
+        .copied()
+        .find(|byte| !is_blank(*byte))
+        .unwrap_or(0)
+}
+
+/// Returns the last byte of a text that is no blank; 0 if there is none.
+pub(crate) fn last_byte(text: &[u8]) -> u8 {
+    let mut last = 0;
+    for byte in text {
+        if !is_blank(*byte) {
+            last = *byte;
+        }
+    }
+    last
+}
+
+/// Whether a name may have a byte.
+pub(crate) fn is_in_name(byte: u8) -> bool {
+    byte.is_ascii_alphanumeric() || byte == b'_' || byte == b'.' || byte == b'$'
+}
+
+/// Returns the bytes at the beginning of a text that a name may have.
+pub(crate) fn run_of(text: &[u8]) -> &[u8] {
+    let len = text
+        .iter()
+        .position(|byte| !is_in_name(*byte))
+        .unwrap_or(text.len());
+    text.split_at(len.min(text.len())).0
+}
+
+/// Returns a text without the blanks at its beginning.
+pub(crate) fn skip_blanks(text: &[u8]) -> &[u8] {
+    let len = text
+        .iter()
+        .position(|byte| !is_blank(*byte))
+        .unwrap_or(text.len());
+    text.split_at(len.min(text.len())).1
+}
+
+/// Returns how often a byte stands in a text.
+pub(crate) fn count_of(text: &[u8], wanted: u8) -> usize {
+    let mut count: usize = 0;
+    for byte in text {
+        if *byte == wanted {
+            count = count.saturating_add(1);
+        }
+    }
+    count
+}

@@ -1,0 +1,301 @@
+-- The interrupt that a step takes, and those that stay pending.
+use Rattle.std.proofs.Common.{◌≡◌, ℕ, ◌+◌, ◌-◌, ◌*◌, ◌/◌, ◌%◌, ◌^◌, ◌<◌, ◌==◌, Bool, true, false, List, [], ◌∷◌, Option, Some, None, Result, Ok, Err, nat_le, nat_lt, arith, refl, sym, ap, subst, ◌∙◌}
+use Rattle.std.specs.Prelude.{◌&&◌, ◌||◌, not, if◌then◌else◌}
+use Rattle.std.specs.List.{list_any}
+use Rattle.std.specs.FinSet.{contains, contains-union}
+use Rattle.std.specs.Option.{option_map_or}
+use Rattle.std.specs.Result.{is_ok, result_ok}
+use Rattle.std.proofs.lemmas.Cmp.{nat_cmp_total}
+use Rattle.std.proofs.lemmas.Bool.{le-leb, leb-true, or_left, or_right}
+use Rattle.rv_isa.specs.Width.{bytes_of}
+use Rattle.rv_isa.specs.Support.Loads.{load_width}
+use Rattle.rv_isa.specs.Support.Meaning.{means}
+use Rattle.rv_isa.specs.Word.{word}
+use Rattle.rv_isa.specs.Alu.{is_taken}
+use Rattle.rv_isa.specs.declared.op.CsrOp.{CsrOp}
+use Rattle.rv_isa.specs.declared.op.LoadOp.{LoadOp}
+use Rattle.rv_isa.specs.declared.op.Width.{Width}
+use Rattle.rv_isa.specs.declared.kind.Kind.{Kind}
+use Rattle.rv_isa.specs.declared.kind.Kind.TheVariants.{Jal, Jalr, Branch, Load, Store, Csr, CsrImm, Ecall, Ebreak, Mret, Wfi}
+use Rattle.rv_pmp.specs.Mode.{is_machine, level}
+use Rattle.rv_pmp.specs.Pmp.{grants}
+use Rattle.rv_pmp.specs.declared.access.Access.TheVariants.{Read, Write, Execute}
+use Rattle.rv_pmp.specs.declared.mode.Mode.{Mode}
+use Rattle.rv_pmp.specs.declared.mode.Mode.TheVariants as mode
+use Rattle.rv_csr.specs.State.{CsrState}
+use Rattle.rv_csr.specs.Registers.{read, write}
+use Rattle.rv_csr.specs.Support.Interruptible.{cause_of, pending_by_cases}
+use Rattle.rv_csr.proofs.Pending.{by_cases}
+use Rattle.rv_plic.specs.Sources.{sources}
+use Rattle.rv_plic.specs.Gateways.{PlicState, forwarded, requests}
+use Rattle.rv_plic.specs.Plic.{is_notified, outranks, priority_of}
+use Rattle.rv_mmio.specs.Timer.{TimerState, is_due}
+use Rattle.rv_mmio.specs.Timer as timer
+use Rattle.rv_bus.specs.State.{BusState}
+use Rattle.rv_bus.specs.Access.{fetch, lines_of, load, store}
+use Rattle.rv_bus.proofs.Windows.{one_address}
+use Rattle.rv_hart.specs.State.{Machine}
+use Rattle.rv_hart.specs.Effect.{csr_written, effect, execute, plus, reg, require, trap}
+use Rattle.rv_hart.specs.Fetch.{fetch_result}
+use Rattle.rv_hart.specs.Laws.{StaysPending, accessed, first_interrupt, interrupt_taken, is_best}
+use Rattle.rv_hart.specs.Step.{step, ticked, tries, fetched, attempt, finished, counts, enter}
+use Rattle.rv_hart.specs.Support.EffectParts.{Effect, at_next, branch_effect, csr_value, decoded_word, exchange_effect, exchange_result, fetched_word, is_write, jump_effect, load_effect, load_result, may_access, misaligned_load, misaligned_store, next, outcome_of, refused_load, refused_store, registers_with, return_effect, store_effect, store_result, wait_effect, with_result, write_result}
+use Rattle.rv_hart.proofs.Devices.{Reaches, nothing, loaded, stored, reaches}
+use Rattle.rv_hart.proofs.Exchanged.{exchange_is}
+use Rattle.rv_hart.proofs.Rows.{IfRetired}
+use Rattle.rv_hart.specs.declared.trap.Trap.{Trap}
+
+-- ---- no instruction traps with the cause of an interrupt
+
+abbrev IsException : {A : Type 0} → Result A Trap → Type 0
+IsException (Ok x) = Unit {0}
+IsException (Err t) = nat_le (2 ^ 31) t.cause ≡ false
+
+required : (cause tval : ℕ) (passes : Bool) (new : Machine) → nat_le (2 ^ 31) cause ≡ false
+    → IsException (require cause tval passes (Ok new))
+required cause tval true new low = tt
+required cause tval false new low = low
+
+by_access : (aligned granted : Bool) (x refused misaligned : Effect) → IsException x → IsException refused
+    → IsException misaligned → IsException (if aligned then (if granted then x else refused) else misaligned)
+by_access true true x refused misaligned done r s = done
+by_access true false x refused misaligned done r s = r
+by_access false granted x refused misaligned done r s = s
+
+module _ (m : Machine) where
+  branches : (taken : Bool) (target : ℕ) → IsException (branch_effect m taken target)
+  unfolding branch_effect
+  branches true target = required 0 target (target % 4 == 0) (record m { pc = target }) refl
+  branches false target = tt
+
+  jumps : (rd target : ℕ) → IsException (jump_effect m rd target)
+  unfolding jump_effect
+  jumps rd target =
+      required 0 target (target % 4 == 0)
+      (record m { registers = registers_with m.registers rd (next m.pc); pc = target }) refl
+
+  loaded_by : (op : LoadOp) (rd addr : ℕ) (r : Option (ℕ × BusState)) → IsException (load_result m op rd addr r)
+  loaded_by op rd addr None = refl
+  loaded_by op rd addr (Some r) = tt
+
+  loads : (op : LoadOp) (rd addr : ℕ) → IsException (load_effect m op rd addr)
+  unfolding load_effect
+  loads op rd addr =
+      let w = load_width op in
+      by_access (addr % bytes_of w == 0) (may_access m Read addr w) (load_result m op rd addr (load m.bus addr w))
+      (refused_load addr) (misaligned_load addr) (loaded_by op rd addr (load m.bus addr w)) refl refl
+
+  stored_by : (addr : ℕ) (after : Option BusState) → IsException (store_result m addr after)
+  stored_by addr None = refl
+  stored_by addr (Some b) = tt
+
+  stores : (w : Width) (addr v : ℕ) → IsException (store_effect m w addr v)
+  unfolding store_effect
+  stores w addr v =
+      by_access (addr % bytes_of w == 0) (may_access m Write addr w) (store_result m addr (store m.bus addr w v))
+      (refused_store addr) (misaligned_store addr) (stored_by addr (store m.bus addr w v)) refl refl
+
+  exchanges : (k : Kind) (op : CsrOp) (field operand rd csr : ℕ)
+      → IsException (exchange_effect k m op field operand rd csr)
+  unfolding exchange_effect
+  exchanges k op field operand rd csr = by (read m.csrs csr m.mode (lines_of m.bus)) where
+    after : (old : ℕ) (wrote : Option CsrState) → IsException (write_result k m rd old wrote)
+    after old None = refl
+    after old (Some csrs) = tt
+
+    or_not : (old : ℕ) (writes : Bool)
+        → IsException
+        (if writes then write_result k m rd old (write m.csrs csr m.mode (csr_value op old operand))
+        else Ok (with_result m rd old))
+    or_not old true = after old (write m.csrs csr m.mode (csr_value op old operand))
+    or_not old false = tt
+
+    by : (old : Option ℕ) → IsException (exchange_result k m op field operand rd csr old)
+    by None = refl
+    by (Some old) = or_not old (is_write op field)
+
+  returns : (d : Mode) → IsException (return_effect m d)
+  unfolding return_effect
+  returns mode.User = refl
+  returns mode.Machine = tt
+
+  calls : (d : Mode) → IsException {A = Machine} (trap (8 + level d) 0)
+  calls mode.User = refl
+  calls mode.Machine = refl
+
+exceptions : (m : Machine) (k : Kind) → IsException (effect k m)
+unfolding execute jump_effect branch_effect load_effect store_effect exchange_effect return_effect wait_effect
+exceptions m (Jal rd offset) = jumps m rd (plus m.pc offset)
+exceptions m (Jalr rd base offset) = jumps m rd (plus (reg m base) offset / 2 * 2)
+exceptions m (Branch cond rs1 rs2 offset) =
+    branches m (is_taken cond (reg m rs1) (reg m rs2)) (plus m.pc offset)
+exceptions m (Load op rd base offset) = loads m op rd (plus (reg m base) offset)
+exceptions m (Store w source base offset) = stores m w (plus (reg m base) offset) (reg m source)
+exceptions m (Csr op rd rs1 csr) =
+    subst (λ e. IsException e) (sym (exchange_is (Csr op rd rs1 csr) m (reg m rs1) rd csr op rs1))
+    (exchanges m (Csr op rd rs1 csr) op rs1 (reg m rs1) rd csr)
+exceptions m (CsrImm op rd imm csr) =
+    subst (λ e. IsException e) (sym (exchange_is (CsrImm op rd imm csr) m imm rd csr op imm))
+    (exchanges m (CsrImm op rd imm csr) op imm imm rd csr)
+exceptions m Ecall = calls m m.mode
+exceptions m Ebreak = refl
+exceptions m Mret = returns m m.mode
+exceptions m Wfi = required 2 (word Wfi) (is_machine m.mode || not m.csrs.mstatus.tw) (at_next m) refl
+exceptions m k = tt
+
+module _ (m : Machine) where
+  fetches : IsException (fetch_result m)
+  unfolding fetch_result
+  fetches = by (grants m.csrs.pmp m.mode Execute m.pc 4) where
+    decoded : (w : ℕ) (k : Option Kind) → IsException (decoded_word w k)
+    decoded w None = refl
+    decoded w (Some k) = tt
+
+    read_word : (w : Option ℕ) → IsException (fetched_word m.pc w)
+    read_word None = refl
+    read_word (Some w) = decoded w (means w)
+
+    by : (granted : Bool) → IsException (require 1 m.pc granted (fetched_word m.pc (fetch m.bus.ram m.pc)))
+    by true = read_word (fetch m.bus.ram m.pc)
+    by false = refl
+
+  retires : (halt : Option ℕ) → interrupt_taken (outcome_of halt) ≡ None
+  retires None = refl
+  retires (Some code) = refl
+
+  traps : (t : Trap) → nat_le (2 ^ 31) t.cause ≡ false → interrupt_taken (attempt m (Err t)).1 ≡ None
+  traps t low = ap (λ b. if b then Some (t.cause - 2 ^ 31) else None) low
+
+  settles : (k : Kind) (e : Effect) → IsException e → interrupt_taken (finished m (csr_written k) e).1 ≡ None
+  settles k (Ok new) is = retires new.bus.halt
+  settles k (Err t) is = traps t is
+
+  attempts : (f : Result Kind Trap) → IsException f → interrupt_taken (attempt m f).1 ≡ None
+  attempts (Ok k) is = settles k (effect k m) (exceptions m k)
+  attempts (Err t) is = traps t is
+
+  -- ---- the interrupt that is taken
+
+  taken_by : (barred external software timer : Bool)
+      → interrupt_taken (attempt m (option_map_or (λ cause. trap cause 0)
+      (if barred then None else cause_of external software timer) (fetch_result m))).1
+      ≡ (if barred then None
+      else (if external then Some 11 else (if software then Some 3 else (if timer then Some 7 else None))))
+  taken_by true external software timer = attempts (fetch_result m) fetches
+  taken_by false true software timer = refl
+  taken_by false false true timer = refl
+  taken_by false false false true = refl
+  taken_by false false false false = attempts (fetch_result m) fetches
+
+  taken : interrupt_taken (attempt m (fetched m)).1 ≡ first_interrupt m.csrs m.mode (lines_of m.bus)
+  unfolding pending_by_cases
+  taken =
+      ap (λ p. interrupt_taken (attempt m (option_map_or (λ cause. trap cause 0) p (fetch_result m))).1)
+      (by_cases m.csrs m.mode (lines_of m.bus))
+      ∙ taken_by (is_machine m.mode && not m.csrs.mstatus.mie) _ _ _
+
+pub first_taken : (m : Machine)
+    → interrupt_taken (step m).1 ≡ first_interrupt m.csrs m.mode (lines_of (ticked m).bus)
+unfolding step
+first_taken m = taken (ticked m)
+
+-- ---- those that stay pending
+
+due_ticked : (t : TimerState) → t.time + 1 < 2 ^ 64 → is_due t ≡ true → is_due (timer.ticked t) ≡ true
+due_ticked t small due =
+    le-leb t.compare ((t.time + 1) % 2 ^ 64) (omega (arith, leb-true t.compare t.time due))
+
+any_more : {X : Type 0} (f g : X → Bool) (xs : List X) → ((x : X) → f x ≡ true → g x ≡ true)
+    → list_any f xs ≡ true → list_any g xs ≡ true
+any_more f g [] each any = any
+any_more f g (x ∷ xs) each any = by (f x) refl any (any_more f g xs each) where
+  by : (b : Bool) → f x ≡ b → (b || list_any f xs) ≡ true → (list_any f xs ≡ true → list_any g xs ≡ true)
+      → (g x || list_any g xs) ≡ true
+  by true is any rest = or_left (g x) (list_any g xs) (each x is)
+  by false is any rest = or_right (g x) (list_any g xs) (rest any)
+
+or_more : (a b c more : Bool) → (a && b && c) ≡ true → ((a || more) && b && c) ≡ true
+or_more true b c more is = is
+or_more false b c more is = absurd cc
+
+notified_forwarded : (p : PlicState) → is_notified p ≡ true → is_notified (forwarded p) ≡ true
+unfolding is_notified
+notified_forwarded p =
+    any_more (outranks p p.threshold) (outranks (forwarded p) p.threshold) sources (λ s is.
+    ap (λ b. b && contains p.enabled s && nat_lt p.threshold (priority_of p s))
+    (contains-union nat_cmp_total p.pending (requests p) s)
+    ∙ or_more (contains p.pending s) (contains p.enabled s) (nat_lt p.threshold (priority_of p s))
+    (contains (requests p) s) is)
+
+module _ (m : Machine) where
+  -- whether what was fetched retires a load or a store at some addresses
+  abbrev retires_at : ℕ → ℕ → Kind → Effect → Bool
+  retires_at first size k e =
+      is_ok e && option_map_or (λ addr. nat_le first addr && nat_lt (addr - first) size) (accessed k m) false
+
+  abbrev reaches_by : ℕ → ℕ → Result Kind Trap → Bool
+  reaches_by first size f = option_map_or (λ k. retires_at first size k (effect k m)) (result_ok f) false
+
+  record Leaves (at_timer at_controller at_claim : Bool) (new : Machine) : Type 0 where
+    timer : at_timer ≡ false → new.bus.timer ≡ m.bus.timer
+    controller : at_controller ≡ false → new.bus.plic ≡ m.bus.plic
+    sources : (s : ℕ) → (at_claim && is_best m.bus.plic s) ≡ false → contains m.bus.plic.pending s ≡ true
+        → contains new.bus.plic.pending s ≡ true
+
+  trapped : (a b c : Bool) (t : Trap) → Leaves a b c (attempt m (Err t)).0
+  unfolding counts enter
+  trapped a b c t = record { timer = λ _. refl; controller = λ _. refl; sources = λ s out on. on }
+
+  -- of an instruction that accesses an address it is known whether that is among others
+  there : (k : Kind) (new : Machine) (first size a : ℕ) → accessed k m ≡ Some a
+      → (nat_le first a && nat_lt (a - first) size) ≡ retires_at first size k (Ok new)
+  there k new first size a at =
+      ap (λ x. option_map_or (λ addr. nat_le first addr && nat_lt (addr - first) size) x false) (sym at)
+
+  left_by : (k : Kind) (new : Machine) → Reaches m k new
+      → Leaves (retires_at 0x02000000 0xc000 k (Ok new)) (retires_at 0x0c000000 0x4000000 k (Ok new))
+      (retires_at 0x0c200004 1 k (Ok new)) (counts new true (csr_written k))
+  unfolding counts
+  left_by k new (nothing still) = record {
+    timer = λ _. ap (λ (b : BusState). b.timer) still;
+    controller = λ _. ap (λ (b : BusState). b.plic) still;
+    sources = λ s out on. ap (λ (b : BusState). contains b.plic.pending s) still ∙ on;
+  }
+  left_by k new (loaded a at granted leaves) = record {
+    timer = λ _. leaves.timer;
+    controller = λ out. leaves.plic (there k new 0x0c000000 0x4000000 a at ∙ out);
+    sources = λ s out. leaves.pending s
+        (ap (λ t. t && is_best m.bus.plic s) (sym (one_address 0x0c200004 a) ∙ there k new 0x0c200004 1 a at) ∙ out);
+  }
+  left_by k new (stored a at granted leaves) = record {
+    timer = λ out. leaves.timer (there k new 0x02000000 0xc000 a at ∙ out);
+    controller = λ out. leaves.plic (there k new 0x0c000000 0x4000000 a at ∙ out);
+    sources = λ s out. leaves.pending s;
+  }
+
+  ended : (k : Kind) (e : Effect) → IfRetired (Reaches m k) e
+      → Leaves (retires_at 0x02000000 0xc000 k e) (retires_at 0x0c000000 0x4000000 k e)
+      (retires_at 0x0c200004 1 k e) (finished m (csr_written k) e).0
+  ended k (Ok new) reached = left_by k new reached
+  ended k (Err t) reached = trapped _ _ _ t
+
+  leaves : (f : Result Kind Trap)
+      → Leaves (reaches_by 0x02000000 0xc000 f) (reaches_by 0x0c000000 0x4000000 f) (reaches_by 0x0c200004 1 f)
+      (attempt m f).0
+  leaves (Ok k) = ended k (effect k m) (reaches m k)
+  leaves (Err t) = trapped _ _ _ t
+
+pending_forwarded : (p : PlicState) (s : ℕ) → contains p.pending s ≡ true → contains (forwarded p).pending s ≡ true
+pending_forwarded p s on =
+    contains-union nat_cmp_total p.pending (requests p) s ∙ or_left (contains p.pending s) (contains (requests p) s) on
+
+pub stay_pending : (m : Machine) → StaysPending m (step m).0
+unfolding step tries
+stay_pending m =
+    let kept = leaves (ticked m) (fetched (ticked m)) in
+    record {
+      software = λ out high. ap (λ (t : TimerState). t.software) (kept.timer out) ∙ high;
+      timer = λ out small high. ap is_due (kept.timer out) ∙ due_ticked m.bus.timer small high;
+      external = λ out high. ap is_notified (kept.controller out) ∙ notified_forwarded m.bus.plic high;
+      sources = λ s out on. kept.sources s out (pending_forwarded m.bus.plic s on);
+    }

@@ -1,0 +1,235 @@
+-- To audit: public contracts cite this.
+-- The JSON of an answer (this project's own: docs/JSON.md), by the labels of the source with their addresses.
+use Rattle.std.specs.Prelude.{ℕ, List, [], ◌∷◌, codes, encode_utf8_all, filter, map, nat_le, Option, Some, None, option_and_then, option_map}
+use Rattle.std.specs.List.{last_or}
+use Prim.Native.String.{String}
+use Rattle.serde_json.specs.Data.{Data, Members, null, boolean, number, unsigned, string, array, object, no_members, member}
+use Rattle.serde_json.specs.View.{items_of}
+use Rattle.rv_pmp.specs.declared.mode.Mode.{Mode}
+use Rattle.rv_pmp.specs.declared.mode.Mode.TheVariants.{User, Machine}
+use Rattle.rv_program.specs.Faults.{title_of}
+use Rattle.rv_program.specs.declared.fault.FaultKind.{FaultKind}
+use Rattle.rv_answers.specs.declared.answer.Answer.{Answer}
+use Rattle.rv_answers.specs.declared.answer.Answer.TheVariants as answers
+use Rattle.rv_answers.specs.declared.answer.Look.{Look}
+use Rattle.rv_answers.specs.declared.answer.Look.TheVariants as looks
+use Rattle.rv_answers.specs.declared.answer.Refusal.{Refusal}
+use Rattle.rv_answers.specs.declared.answer.Why.{Why}
+use Rattle.rv_answers.specs.declared.answer.Why.TheVariants as why
+use Rattle.rv_answers.specs.declared.rows.Row.{Row}
+use Rattle.rv_answers.specs.declared.values.Bits.{Bits}
+use Rattle.rv_answers.specs.declared.values.Bits.TheVariants as bits
+use Rattle.rv_answers.specs.declared.values.Cells.{Cells}
+use Rattle.rv_answers.specs.declared.values.Cells.TheVariants as cells
+use Rattle.rv_answers.specs.declared.values.Clock.{Clock}
+use Rattle.rv_answers.specs.declared.values.ControlValue.{ControlValue}
+use Rattle.rv_answers.specs.declared.values.Devices.{Devices}
+use Rattle.rv_answers.specs.declared.values.Dump.{Dump}
+use Rattle.rv_answers.specs.declared.values.Edges.{Edges}
+use Rattle.rv_answers.specs.declared.values.Interrupts.{Interrupts}
+use Rattle.rv_answers.specs.declared.values.Place.{Place}
+use Rattle.rv_answers.specs.declared.values.Port.{Port}
+use Rattle.rv_answers.specs.declared.values.Range.{Range}
+use Rattle.rv_answers.specs.declared.values.Region.{Region}
+use Rattle.rv_answers.specs.declared.values.RegisterFile.{RegisterFile}
+use Rattle.rv_answers.specs.declared.values.RegisterValue.{RegisterValue}
+use Rattle.rv_answers.specs.declared.values.Rights.{Rights}
+use Rattle.rv_answers.specs.declared.values.SourceState.{SourceState}
+use Rattle.rv_answers.specs.declared.values.Standing.{Standing}
+use Rattle.rv_answers.specs.declared.values.Trap.{Trap}
+use Rattle.rv_json.specs.declared.faults.Fault.{Fault}
+
+-- ---- parts
+
+abbrev pub natural : ℕ → Data
+natural n = number (unsigned n)
+
+-- a string whose characters are bytes
+unfoldable pub text_data : List ℕ → Data
+text_data bytes = string (encode_utf8_all bytes)
+
+unfoldable pub option_data : {A : Type 0} → (A → Data) → Option A → Data
+option_data f None = null
+option_data f (Some x) = f x
+
+unfoldable pub list_data : {A : Type 0} → (A → Data) → List A → Data
+list_data f xs = array (items_of (map f xs))
+
+-- members of an object, in their order
+abbrev pub members : List (String × Data) → Members
+members [] = no_members
+members (m ∷ ms) = member (codes m.0) m.1 (members ms)
+
+-- an object of some kind
+abbrev pub kind : String → List (String × Data) → Data
+kind name ms = object (members (("kind", string (codes name)) ∷ ms))
+
+unfoldable pub mode_data : Mode → Data
+mode_data User = string (codes "user")
+mode_data Machine = string (codes "machine")
+
+-- the last label at an address or before it, if the address lies in the image
+unfoldable pub label_of : List (List ℕ × ℕ) → Place → Option (List ℕ)
+label_of ls p = option_and_then
+    (λ d. option_map (λ l. l.0) (last_or None (filter (λ l. nat_le l.1 p.address) ls))) p.distance
+
+unfoldable pub place_data : List (List ℕ × ℕ) → Place → Data
+place_data ls p = object (members (("address", natural p.address) ∷ ("label", option_data text_data (label_of ls p))
+    ∷ ("distance", option_data natural p.distance) ∷ ("line", option_data natural p.line)
+    ∷ ("word", option_data natural p.word) ∷ []))
+
+-- ---- `w`, `r`, `p`, `m`, `l`, `t` and `e`
+
+unfoldable pub standing_data : List (List ℕ × ℕ) → Standing → Data
+standing_data ls s = kind "where" (("steps", natural s.steps) ∷ ("mode", mode_data s.mode)
+    ∷ ("halted", option_data natural s.halted) ∷ ("here", place_data ls s.here) ∷ [])
+
+unfoldable pub file_data : List (List ℕ × ℕ) → RegisterFile → Data
+file_data ls f = kind "registers" (("before", list_data natural f.before) ∷ ("now", list_data natural f.now)
+    ∷ ("mode", mode_data f.mode) ∷ ("here", place_data ls f.here) ∷ [])
+
+unfoldable pub register_data : RegisterValue → Data
+register_data r = kind "register" (("register", natural r.register) ∷ ("value", natural r.value) ∷ [])
+
+unfoldable pub bits_data : Bits → Data
+bits_data (bits.Status mie mpie mpp mprv tw) = kind "status" (("mie", boolean mie) ∷ ("mpie", boolean mpie)
+    ∷ ("mpp", boolean mpp) ∷ ("mprv", boolean mprv) ∷ ("tw", boolean tw) ∷ [])
+bits_data (bits.Lines software timer external) = kind "lines" (("software", boolean software)
+    ∷ ("timer", boolean timer) ∷ ("external", boolean external) ∷ [])
+bits_data (bits.Cause cause) = kind "cause" (("cause", natural cause) ∷ [])
+
+unfoldable pub control_data : ControlValue → Data
+control_data c = kind "csr" (("name", text_data c.name) ∷ ("csr", natural c.csr)
+    ∷ ("value", option_data natural c.value) ∷ ("bits", option_data bits_data c.bits) ∷ [])
+
+-- what memory holds, by the way to show it
+unfoldable pub cells_data : Cells → Data
+cells_data (cells.Bytes bytes) = list_data (option_data natural) bytes
+cells_data (cells.Words words) = list_data (option_data natural) words
+cells_data (cells.Text bytes) = text_data bytes
+
+unfoldable pub format_data : Cells → Data
+format_data (cells.Bytes bytes) = string (codes "bytes")
+format_data (cells.Words words) = string (codes "words")
+format_data (cells.Text bytes) = string (codes "text")
+
+unfoldable pub dump_data : Dump → Data
+dump_data d = kind "memory" (("address", natural d.address) ∷ ("format", format_data d.cells)
+    ∷ ("cells", cells_data d.cells) ∷ [])
+
+unfoldable pub row_data : Row → Data
+row_data r = object (members (("number", natural r.number) ∷ ("is_here", boolean r.is_here)
+    ∷ ("is_marked", boolean r.is_marked) ∷ ("address", option_data natural r.address)
+    ∷ ("word", option_data natural r.word) ∷ ("has_more", boolean r.has_more) ∷ []))
+
+unfoldable pub trap_data : List (List ℕ × ℕ) → Trap → Data
+trap_data ls t = object (members (("cause", natural t.cause) ∷ ("value", natural t.value)
+    ∷ ("place", place_data ls t.place) ∷ ("times", natural t.times) ∷ []))
+
+unfoldable pub edges_data : Edges → Data
+edges_data e = kind "edges" (("source", natural e.source) ∷ ("pending", natural e.pending) ∷ [])
+
+-- ---- `dev`
+
+unfoldable pub clock_data : Clock → Data
+clock_data c = object (members (("time", natural c.time) ∷ ("compare", natural c.compare)
+    ∷ ("is_due", boolean c.is_due) ∷ ("software", boolean c.software) ∷ []))
+
+unfoldable pub port_data : Port → Data
+port_data p = object (members (("waiting", natural p.waiting) ∷ ("sent", natural p.sent)
+    ∷ ("overrun", boolean p.overrun) ∷ []))
+
+unfoldable pub interrupts_data : Interrupts → Data
+interrupts_data i = object (members (("mode", mode_data i.mode) ∷ ("mstatus", natural i.mstatus)
+    ∷ ("mie", natural i.mie) ∷ ("mip", natural i.mip) ∷ ("next", option_data natural i.next) ∷ []))
+
+unfoldable pub source_data : SourceState → Data
+source_data s = object (members (("source", natural s.source) ∷ ("is_high", boolean s.is_high)
+    ∷ ("is_pending", boolean s.is_pending) ∷ ("is_claimed", boolean s.is_claimed)
+    ∷ ("is_enabled", boolean s.is_enabled) ∷ ("priority", natural s.priority) ∷ ("edges", natural s.edges) ∷ []))
+
+unfoldable pub rights_data : Rights → Data
+rights_data r = object (members (("read", boolean r.read) ∷ ("write", boolean r.write)
+    ∷ ("execute", boolean r.execute) ∷ []))
+
+unfoldable pub range_data : Range → Data
+range_data r = object (members (("first", natural r.first) ∷ ("last", natural r.last) ∷ []))
+
+unfoldable pub region_data : Region → Data
+region_data r = object (members (("entry", natural r.entry) ∷ ("range", option_data range_data r.range)
+    ∷ ("user", rights_data r.user) ∷ ("machine", rights_data r.machine) ∷ ("is_locked", boolean r.is_locked) ∷ []))
+
+unfoldable pub devices_data : Devices → Data
+devices_data d = kind "devices" (("clock", clock_data d.clock) ∷ ("port", port_data d.port)
+    ∷ ("interrupts", interrupts_data d.interrupts) ∷ ("threshold", natural d.threshold)
+    ∷ ("is_notified", boolean d.is_notified) ∷ ("sources", list_data source_data d.sources)
+    ∷ ("regions", list_data region_data d.regions) ∷ [])
+
+-- ---- refusals
+
+unfoldable pub look_data : Look → Data
+look_data looks.Registers = string (codes "r")
+look_data looks.ControlRegister = string (codes "p")
+look_data looks.Memory = string (codes "m")
+look_data looks.Instruction = string (codes "i")
+look_data looks.List = string (codes "l")
+look_data looks.Edges = string (codes "e")
+
+unfoldable pub why_data : Why → Data
+why_data why.NoAddress = string (codes "no_address")
+why_data why.Missing = string (codes "missing")
+why_data why.NoExtent = string (codes "no_extent")
+why_data (why.NoLine a) = string (codes "no_line")
+why_data why.NoCount = string (codes "no_count")
+why_data why.NoRegister = string (codes "no_register")
+why_data why.NoControlRegister = string (codes "no_control_register")
+why_data why.NoEdgeSource = string (codes "no_edge_source")
+
+-- the address at which no line is
+unfoldable pub lineless : Why → Option ℕ
+lineless (why.NoLine a) = Some a
+lineless _ = None
+
+unfoldable pub refusal_data : Refusal → Data
+refusal_data r = kind "refused" (("command", look_data r.look) ∷ ("text", text_data r.text)
+    ∷ ("why", why_data r.why) ∷ ("address", option_data natural (lineless r.why)) ∷ [])
+
+-- ---- answers
+
+unfoldable pub answer_data : List (List ℕ × ℕ) → Answer → Data
+answer_data ls (answers.Text bytes) = kind "text" (("text", text_data bytes) ∷ [])
+answer_data ls (answers.Where standing) = standing_data ls standing
+answer_data ls (answers.Registers file) = file_data ls file
+answer_data ls (answers.Register one) = register_data one
+answer_data ls (answers.ControlRegister value) = control_data value
+answer_data ls (answers.Memory dump) = dump_data dump
+answer_data ls (answers.Instruction place) = kind "instruction" (("place", place_data ls place) ∷ [])
+answer_data ls (answers.List rows) = kind "list" (("rows", list_data row_data rows) ∷ [])
+answer_data ls (answers.BehindLast count) = kind "behind_last" (("lines", natural count) ∷ [])
+answer_data ls answers.WasLast = kind "was_last" []
+answer_data ls (answers.Breakpoints places) = kind "breakpoints" (("places", list_data (place_data ls) places) ∷ [])
+answer_data ls (answers.Traps traps) = kind "traps" (("traps", list_data (trap_data ls) traps) ∷ [])
+answer_data ls (answers.Edges edges) = edges_data edges
+answer_data ls (answers.Devices devices) = devices_data devices
+answer_data ls (answers.Refused refusal) = refusal_data refusal
+
+-- what a command answers, a word for what follows it, and what the console got meanwhile
+unfoldable pub reply_data : List (List ℕ × ℕ) → Answer → List ℕ → List ℕ → Data
+reply_data ls answer next console = object (members (("answer", answer_data ls answer) ∷ ("next", string next)
+    ∷ ("console", text_data console) ∷ []))
+
+-- ---- a source that is rejected
+
+unfoldable pub fault_number : FaultKind → ℕ
+fault_number k = (title_of k).0
+
+unfoldable pub fault_name : FaultKind → Data
+fault_name k = string (title_of k).1
+
+unfoldable pub fault_data : Fault → Data
+fault_data f = object (members (("line", natural f.line) ∷ ("column", natural f.column)
+    ∷ ("length", natural f.length) ∷ ("number", natural (fault_number f.kind)) ∷ ("name", fault_name f.kind)
+    ∷ ("message", text_data f.message) ∷ ("advice", text_data f.advice) ∷ []))
+
+unfoldable pub faults_data : List Fault → Data
+faults_data faults = kind "faults" (("faults", list_data fault_data faults) ∷ [])

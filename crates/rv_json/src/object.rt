@@ -1,0 +1,92 @@
+//! Objects by their members.
+ghost use Rattle.std.specs.Prelude.{◌≡◌, ◌<◌, List, ℕ, OnOk, min};
+ghost use Rattle.serde_json.specs.Data.{Members, member, no_members, object};
+ghost use Rattle.serde_json.specs.Events.{SendsMembers, SendsValue, members_len};
+ghost use Rattle.rv_json.specs.Support.Labels.{labels};
+
+use crate::names::Names;
+use crate::sent::ToJson;
+use serde::Serializer;
+
+/// Members of an object.
+pub(crate) trait Members {
+    /// Their data, by the labels of the source.
+    ghost members: { List (List ℕ × ℕ) → Self → Members };
+
+    /// Returns how many they are, whatever the labels.
+    fn count(&self) -> usize
+        ensures { (ls : List (List ℕ × ℕ)) → result ≡ min (members_len (members ls self.now)) 18446744073709551615 };
+
+    /// Sends them, and the end of the object.
+    fn send_all<S: Serializer>(&self, names: &Names<'_>, out: &mut S) -> Result<(), S::Error>
+        ensures { OnOk result
+            (SendsMembers (members (labels names.now) self.now) (S.written out.old) (S.written out.new)) };
+}
+
+/// No member.
+#[derive(Clone, Copy)]
+pub(crate) struct End;
+
+impl Members for End {
+    ghost members = { λ _ _. no_members };
+
+    fn count(&self) -> usize {
+        0
+    }
+
+    fn send_all<S: Serializer>(&self, _: &Names<'_>, out: &mut S) -> Result<(), S::Error> {
+        out.end_map()
+    }
+}
+
+/// A member, and those after it.
+#[derive(Clone, Copy)]
+pub(crate) struct Member<'a, T, R> {
+    pub(crate) name: &'a str,
+    pub(crate) value: &'a T,
+    pub(crate) rest: R,
+}
+
+impl<T: ToJson, R: Members> Members for Member<'_, T, R> {
+    ghost members = { λ ls m. member m.name.now (T.json ls m.value.now) (R.members ls m.rest) };
+
+    fn count(&self) -> usize {
+        self.rest.count().saturating_add(1)
+    }
+
+    fn send_all<S: Serializer>(&self, names: &Names<'_>, out: &mut S) -> Result<(), S::Error> {
+        out.key(self.name)?;
+        self.value.send(names, out)?;
+        self.rest.send_all(names, out)
+    }
+}
+
+/// Sends an object.
+pub(crate) fn send_object<M: Members, S: Serializer>(
+    members: &M,
+    names: &Names<'_>,
+    out: &mut S,
+) -> Result<(), S::Error>
+    requires { members_len (M.members (labels names.now) members.now) < 256 }
+    ensures { OnOk result
+        (SendsValue (object (M.members (labels names.now) members.now)) (S.written out.old) (S.written out.new)) }
+{
+    out.begin_map(Some(members.count()))?;
+    members.send_all(names, out)
+}
+
+/// Members of an object, by their names.
+macro_rules! members {
+    () => {
+        $crate::object::End
+    };
+    ($name:literal: $value:expr $(, $names:literal: $values:expr)* $(,)?) => {
+        $crate::object::Member {
+            name: $name,
+            value: &$value,
+            rest: members!($($names: $values),*),
+        }
+    };
+}
+
+pub(crate) use members;

@@ -1,0 +1,125 @@
+//! The JSON texts of an answer, of a command's line, and of a rejected source.
+ghost use Rattle.std.specs.Prelude.{◌≡◌, IfOk, string_bytes};
+ghost use Rattle.serde_json.specs.Events.{SendsValue};
+ghost use Rattle.serde_json.specs.Written.{compact_text};
+ghost use Rattle.rv_asm.specs.Seen.{seen};
+ghost use Rattle.rv_json.specs.Json.{answer_data, faults_data, reply_data};
+ghost use Rattle.rv_json.specs.Support.Labels.{labels};
+
+use crate::faults::{Fault, Faults};
+use crate::names::Names;
+use crate::object::{members, send_object};
+use crate::sent::{Bytes, ToJson};
+use rv_answers::{Answer, Many};
+use rv_asm::{Listing, list};
+use rv_base::NoMemory;
+use serde::{Described, Serialize, Serializer};
+use std::alloc::Global;
+
+/// What has a JSON, beside what names its places.
+#[derive(Clone, Copy)]
+struct Told<'a, T> {
+    value: &'a T,
+    names: Names<'a>,
+}
+
+impl<T: ToJson> Described for Told<'_, T> {
+    ghost writes = { λ t. SendsValue (T.json (labels t.names) t.value.now) };
+}
+
+impl<T: ToJson> Serialize for Told<'_, T> {
+    fn serialize<S: Serializer>(&self, out: &mut S) -> Result<(), S::Error> {
+        self.value.send(&self.names, out)
+    }
+}
+
+/// Returns the JSON of an answer of a lab with a listing, in one line without spaces.
+#[tactic(auto, using(serde_json::proofs::FreeTexts::text_of_value, crate::proofs::Plain::answer_plain))]
+pub fn answer_json(alloc: Global, listing: Listing<'_>, answer: &Answer) -> Result<String, NoMemory>
+    ensures { IfOk result
+        (λ s. string_bytes s ≡ compact_text (answer_data (seen listing.entry).labels answer.now)) }
+{
+    let names = Names { listing, alloc };
+    let told = Told {
+        value: answer,
+        names,
+    };
+    match serde_json::to_string(alloc, &told) {
+        Ok(text) => Ok(text),
+        Err(_) => Err(NoMemory),
+    }
+}
+
+/// What a command answers, a word for what follows it, and what the console got meanwhile.
+#[derive(Clone, Copy)]
+struct Exchange<'a> {
+    answer: &'a Answer,
+    next: &'a str,
+    console: &'a [u8],
+}
+
+impl ToJson for Exchange<'_> {
+    ghost json = { λ ls e. reply_data ls e.answer.now e.next.now e.console.now };
+
+    #[tactic(auto, unfolding(crate::specs::Json::reply_data))]
+    fn send<S: Serializer>(&self, names: &Names<'_>, out: &mut S) -> Result<(), S::Error> {
+        let members = members! {
+            "answer": *self.answer,
+            "next": self.next,
+            "console": Bytes(self.console),
+        };
+        send_object(&members, names, out)
+    }
+}
+
+/// Returns the JSON of what a command answers, with a word for what follows it and what the console got
+/// meanwhile, in one line without spaces.
+#[tactic(auto, using(serde_json::proofs::FreeTexts::text_of_value, crate::proofs::Plain::reply_plain))]
+pub fn reply_json(
+    alloc: Global,
+    listing: Listing<'_>,
+    answer: &Answer,
+    next: &str,
+    console: &[u8],
+) -> Result<String, NoMemory>
+    ensures { IfOk result (λ s. string_bytes s
+        ≡ compact_text (reply_data (seen listing.entry).labels answer.now next.now console.now)) }
+{
+    let exchange = Exchange {
+        answer,
+        next,
+        console,
+    };
+    let names = Names { listing, alloc };
+    let told = Told {
+        value: &exchange,
+        names,
+    };
+    match serde_json::to_string(alloc, &told) {
+        Ok(text) => Ok(text),
+        Err(_) => Err(NoMemory),
+    }
+}
+
+/// Returns the JSON of the faults of a source that is rejected, in one line without spaces.
+#[tactic(auto, using(serde_json::proofs::FreeTexts::text_of_value, crate::proofs::Plain::faults_plain))]
+pub fn faults_json(alloc: Global, faults: &Many<Fault>) -> Result<String, NoMemory>
+    ensures { IfOk result (λ s. string_bytes s ≡ compact_text (faults_data faults.now)) }
+{
+    // They name no place, so any listing serves.
+    let Ok((program, places)) = list(alloc, b"") else {
+        return Err(NoMemory);
+    };
+    let names = Names {
+        listing: Listing {
+            program: &program,
+            places: &places,
+        },
+        alloc,
+    };
+    let value = &Faults(faults);
+    match serde_json::to_string(alloc, &Told { value, names }) {
+        Ok(text) => Ok(text),
+        Err(_) => Err(NoMemory),
+    }
+}

@@ -1,0 +1,235 @@
+-- A run in pieces of any sizes.
+use Rattle.std.proofs.Common.{◌≡◌, ◌∙◌, ℕ, zero, suc, ◌+◌, ◌-◌, ◌≤◌, ◌==◌, Bool, true, false, refl, sym, ap, subst, arith, ⊎_elim}
+use Rattle.std.proofs.lemmas.Bool.{cases_lt, false≢true}
+use Rattle.std.proofs.lemmas.Bool.Decides.{nat_tests}
+use native.Mathlib.Numerals.{unary_clauses}
+use Rattle.std.specs.FinSet as set
+use Rattle.std.specs.Prelude.{◌&&◌, nat_lt, is_none, is_some, length, max, min, pred, if◌then◌else◌, Option, Some, None}
+use Rattle.rv_board.specs.Support.State.{halted_of, pc_of}
+use Rattle.rv_hart.specs.Step.{step}
+use Rattle.rv_monitor.specs.State.{Addresses, IsInTime, SessionState, TimedState, after, with_due}
+use Rattle.rv_monitor.proofs.Steps.{after_more, after_none, in_time_after}
+use Rattle.rv_recording.specs.Out.{open_at}
+use Rattle.rv_recording.specs.Until.{comes, end_at, holds, steps_of}
+use Rattle.rv_recording.specs.declared.until.Condition.{Condition}
+use Rattle.rv_recording.specs.declared.until.End.{End}
+use Rattle.rv_recording.proofs.Counting.{joins, joins_over, over_or_all, same_steps, steps_within}
+use Rattle.rv_lab.specs.State.{LabState, sent, timed}
+use Rattle.rv_lab.specs.Commands.{InPieces, cut, ended, goal_after, gone_on, piece_steps, plan_after, run_ends, with_console, with_steps}
+use Rattle.rv_lab.specs.declared.plan.Plan.{Plan}
+use Rattle.rv_lab.specs.declared.plan.Goal.{Goal}
+use Rattle.rv_lab.specs.declared.plan.Goal.TheVariants as goal
+use Rattle.rv_lab.proofs.Runs.{end_is}
+
+-- ---- the rest of a run is a run
+
+goes_on_at_first : (h : Option ℕ) (r b l : Bool) → is_some (end_is h r b l) ≡ false
+    → is_some (end_is h false false l) ≡ false
+goes_on_at_first (Some code) r b l e = absurd (false≢true (sym e))
+goes_on_at_first None true b l e = absurd (false≢true (sym e))
+goes_on_at_first None false true l e = absurd (false≢true (sym e))
+goes_on_at_first None false false true e = refl
+goes_on_at_first None false false false e = absurd (false≢true (sym e))
+
+above : (n : ℕ) → nat_lt 0 (suc n) ≡ true
+above n = grind (arith, nat_tests)
+
+module _ (s : SessionState) (k : ℕ) (h : IsInTime s.timed) where
+  abbrev mid : SessionState
+  mid = record s { timed = after s.timed k }
+
+  later : (i : ℕ) → after mid.timed i ≡ after s.timed (k + i)
+  later i = after_more s.timed k i h.rising
+
+  -- before its first step it isn't over
+  first_is : (f g : ℕ → Bool) (a : Addresses) → is_some (end_at f a s k) ≡ false → is_some (end_at g a mid 0) ≡ false
+  first_is f g a e =
+      ap (λ (t : TimedState). is_some (end_at g a (record s { timed = t }) 0)) refl
+      ∙ (ap (λ (t : TimedState). is_some (end_is (halted_of t.board) false false (nat_lt t.taken s.limit)))
+      (after_none mid.timed (in_time_after s.timed k h))
+      ∙ goes_on_at_first (halted_of mid.timed.board) (nat_lt 0 k && f k) (nat_lt 0 k && set.contains a (pc_of mid.timed.board))
+      (nat_lt mid.timed.taken s.limit) e)
+
+  -- after others it is over where the whole run is
+  then_is : (f g : ℕ → Bool) (a : Addresses) (j : ℕ) → g (suc j) ≡ f (k + suc j)
+      → end_at g a mid (suc j) ≡ end_at f a s (k + suc j)
+  then_is f g a j same =
+      let here : nat_lt 0 (suc j) ≡ true = above j in
+      let there : nat_lt 0 (k + suc j) ≡ true = grind (arith, nat_tests) in
+      ap (λ (b : Bool). end_is (halted_of (after mid.timed (suc j)).board) (nat_lt 0 (suc j) && b)
+      (nat_lt 0 (suc j) && set.contains a (pc_of (after mid.timed (suc j)).board))
+      (nat_lt (after mid.timed (suc j)).taken s.limit)) same
+      ∙ (ap (λ (c : Bool). end_is (halted_of (after mid.timed (suc j)).board) (c && f (k + suc j))
+      (c && set.contains a (pc_of (after mid.timed (suc j)).board)) (nat_lt (after mid.timed (suc j)).taken s.limit))
+      (here ∙ sym there)
+      ∙ ap (λ (t : TimedState). end_is (halted_of t.board) (nat_lt 0 (k + suc j) && f (k + suc j))
+      (nat_lt 0 (k + suc j) && set.contains a (pc_of t.board)) (nat_lt t.taken s.limit)) (later (suc j)))
+
+  rest_is : (f g : ℕ → Bool) (a : Addresses) → ((j : ℕ) → g (suc j) ≡ f (k + suc j))
+      → is_some (end_at f a s k) ≡ false → (i : ℕ) → is_some (end_at g a mid i) ≡ is_some (end_at f a s (k + i))
+  rest_is f g a same e zero =
+      let none : k + 0 ≡ k = omega arith in
+      first_is f g a e ∙ sym (ap (λ (n : ℕ). is_some (end_at f a s n)) none ∙ e)
+  rest_is f g a same e (suc j) = ap is_some (then_is f g a j (same j))
+
+  open_later : (calls i : ℕ) → open_at (open_at calls s.timed k) mid.timed i ≡ open_at calls s.timed (k + i)
+  unfolding open_at
+  open_later calls zero = simp unary_clauses refl
+  open_later calls (suc i) = simp unary_clauses (rw (open_later calls i) (rw (later i) refl))
+
+  comes_later : (c : Condition) (j : ℕ) → comes c mid.timed (suc j) ≡ comes c s.timed (k + suc j)
+  unfolding comes
+  comes_later c j =
+      let one : pred (k + suc j) ≡ k + j = omega arith in
+      ap (λ (t : TimedState). holds c (step (with_due t).board.machine).1 (after mid.timed (suc j)).board) (later j)
+      ∙ (ap (λ (t : TimedState). holds c (step (with_due (after s.timed (k + j))).board.machine).1 t.board) (later (suc j))
+      ∙ ap (λ (n : ℕ). holds c (step (with_due (after s.timed n)).board.machine).1 (after s.timed (k + suc j)).board) (sym one))
+
+  -- why the rest of a run is over
+  ends_later : (g : Goal) → is_some (run_ends g s k) ≡ false → (i : ℕ)
+      → is_some (run_ends (goal_after g s.timed k) mid i) ≡ is_some (run_ends g s (k + i))
+  ends_later goal.Count e i = rest_is (λ n. false) (λ n. false) set.empty (λ j. refl) e i
+  ends_later goal.Break e i = rest_is (λ n. false) (λ n. false) s.breakpoints.addresses (λ j. refl) e i
+  ends_later (goal.Out calls) e i =
+      rest_is (λ n. open_at calls s.timed n == 0) (λ n. open_at (open_at calls s.timed k) mid.timed n == 0)
+      s.breakpoints.addresses (λ j. ap (λ n. n == 0) (open_later calls (suc j))) e i
+  ends_later (goal.Until c) e i =
+      rest_is (comes c s.timed) (comes c mid.timed) s.breakpoints.addresses (comes_later c) e i
+
+-- ---- the whole run
+
+-- the lab after all of a run
+abbrev whole : Plan → LabState → LabState
+whole p l = record (with_console (with_steps (steps_of (run_ends p.goal l.recording.session) p.left) l)) { plan = None; piece = 0 }
+
+none_some : {A : Type 0} (o : Option A) (x : A) → o ≡ None → o ≡ Some x → ⊥
+none_some o x a b = cc
+
+same_plan : (o : Option Plan) (p q : Plan) → o ≡ Some p → o ≡ Some q → p ≡ q
+same_plan o p q a b = cc
+
+-- the plan that is kept, and what was not yet over
+kept_by : (o : Option End) (b : Bool) (q r : Plan) → (if is_none o && b then Some q else None) ≡ Some r
+    → (is_some o ≡ false) × (b ≡ true) × (q ≡ r)
+kept_by None true q r e = (refl, refl, cc)
+kept_by None false q r e = absurd cc
+kept_by (Some end) b q r e = absurd cc
+
+lost_by : (o : Option End) (b : Bool) (q : Plan) → (if is_none o && b then Some q else None) ≡ None
+    → (is_some o ≡ false → b ≡ false)
+lost_by None true q e h = absurd cc
+lost_by None false q e h = refl
+lost_by (Some end) b q e h = absurd (false≢true (sym h))
+
+module _ (p : Plan) (s : SessionState) (m : ℕ) where
+  abbrev ends : ℕ → Option End
+  ends = run_ends p.goal s
+
+  abbrev k : ℕ
+  k = steps_of ends (min p.left m)
+
+  kept : (r : Plan) → plan_after p s k ≡ Some r
+      → (is_some (ends k) ≡ false) × (nat_lt k p.left ≡ true) × (record p { goal = goal_after p.goal s.timed k; left = p.left - k } ≡ r)
+  unfolding plan_after
+  kept r e = kept_by (ends k) (nat_lt k p.left) _ r e
+
+  lost : plan_after p s k ≡ None → is_some (ends k) ≡ false → nat_lt k p.left ≡ false
+  unfolding plan_after
+  lost e = lost_by (ends k) (nat_lt k p.left) _ e
+
+  -- where no plan is left, the steps are all of the run
+  all_steps : plan_after p s k ≡ None → steps_of ends p.left ≡ k
+  all_steps e = by_end (is_some (ends k)) refl
+    where
+      by_end : (b : Bool) → is_some (ends k) ≡ b → steps_of ends p.left ≡ k
+      by_end true is =
+          let all : min p.left m + (p.left - min p.left m) ≡ p.left = omega arith in
+          subst (λ (n : ℕ). steps_of ends n ≡ k) all (joins_over ends (min p.left m) (p.left - min p.left m) is)
+      by_end false is =
+          let last : nat_lt k p.left ≡ false = lost e is in
+          let most = steps_within ends (min p.left m) in
+          let enough : p.left ≤ k = grind (arith, nat_tests) in
+          let same : min p.left m ≡ p.left = omega (arith, most, enough) in
+          ap (steps_of ends) (sym same)
+
+  -- where one is, the rest of the run makes it whole
+  rest_steps : IsInTime s.timed → (r : Plan) → plan_after p s k ≡ Some r
+      → k + steps_of (run_ends r.goal (record s { timed = after s.timed k })) r.left ≡ steps_of ends p.left
+  rest_steps h r e =
+      let now = kept r e in
+      let full : k ≡ min p.left m = ⊎_elim
+      (λ less. absurd (false≢true (sym now.0 ∙ over_or_all ends (min p.left m) less)))
+      (λ enough. omega (arith, enough, steps_within ends (min p.left m)))
+      (cases_lt k (min p.left m)) in
+      let all : min p.left m + (p.left - k) ≡ p.left = omega (arith, full) in
+      subst (λ (q : Plan). k + steps_of (run_ends q.goal (record s { timed = after s.timed k })) q.left ≡ steps_of ends p.left) now.2
+      (ap (λ n. k + n) (same_steps (run_ends (goal_after p.goal s.timed k) (record s { timed = after s.timed k }))
+      (λ i. ends (k + i)) (ends_later s k h p.goal now.0) (p.left - k))
+      ∙ (sym (joins ends (min p.left m) (p.left - k) now.0) ∙ ap (steps_of ends) all))
+
+-- ---- its pieces
+
+no_pieces : (end l : LabState) → InPieces end l → l.plan ≡ None → end ≡ l
+no_pieces end _ (ended is) none = refl
+no_pieces end _ (cut l p n is rest) none = absurd (none_some l.plan p none is)
+
+whole_again : (p r : Plan) (l : LabState) (n : ℕ) → IsInTime (timed l)
+    → plan_after p l.recording.session (piece_steps p (record l { piece = n })) ≡ Some r
+    → whole r (gone_on p (record l { piece = n })) ≡ whole p l
+whole_again p r l n h e =
+    let s = l.recording.session in
+    let k = piece_steps p (record l { piece = n }) in
+    let joined : after (after s.timed k) (steps_of (run_ends r.goal (record s { timed = after s.timed k })) r.left)
+    ≡ after s.timed (steps_of (run_ends p.goal s) p.left) =
+    after_more s.timed k _ h.rising ∙ ap (after s.timed) (rest_steps p s (max n 1) h r e) in
+    ap (λ (t : TimedState). record l {
+      recording = record l.recording { session = record s { timed = t } };
+      plan = None;
+      piece = 0;
+      told = length t.board.machine.bus.serial.sent;
+    }) joined
+
+told_all : (b : Bool) (o : Option Plan) (x y : ℕ) → o ≡ None → (if b && is_some o then x else y) ≡ y
+told_all true o x y e = rw e refl
+told_all false o x y e = refl
+
+at_last : (p : Plan) (l : LabState) (n : ℕ)
+    → plan_after p l.recording.session (piece_steps p (record l { piece = n })) ≡ None
+    → record (gone_on p (record l { piece = n })) { piece = 0 } ≡ whole p l
+at_last p l n none =
+    let s = l.recording.session in
+    let k = piece_steps p (record l { piece = n }) in
+    let done = with_steps k l in
+    ap (λ (x : ℕ). record done { plan = plan_after p s k; piece = 0; told = x })
+    (told_all p.is_monitored (plan_after p s k) l.told (sent done) none)
+    ∙ (ap (λ (o : Option Plan). record done { plan = o; piece = 0; told = sent done }) none
+    ∙ ap (λ (j : ℕ). record (with_console (with_steps j l)) { plan = None; piece = 0 })
+    (sym (all_steps p s (max n 1) none)))
+
+whole_by : (end l : LabState) (q : Plan) (n : ℕ) → IsInTime (timed l)
+    → InPieces end (gone_on q (record l { piece = n }))
+    → ((r : Plan) → plan_after q l.recording.session (piece_steps q (record l { piece = n })) ≡ Some r
+    → record end { piece = 0 } ≡ whole r (gone_on q (record l { piece = n })))
+    → (o : Option Plan) → plan_after q l.recording.session (piece_steps q (record l { piece = n })) ≡ o
+    → record end { piece = 0 } ≡ whole q l
+whole_by end l q n h rest again None none =
+    let last : end ≡ gone_on q (record l { piece = n }) = no_pieces end _ rest none in
+    ap (λ (x : LabState). record x { piece = 0 }) last ∙ at_last q l n none
+whole_by end l q n h rest again (Some r) some = again r some ∙ whole_again q r l n h some
+
+made_whole : (end l : LabState) (p : Plan) → IsInTime (timed l) → InPieces end l → l.plan ≡ Some p
+    → record end { piece = 0 } ≡ whole p l
+made_whole end _ p h (ended is) e = absurd (none_some end.plan p is e)
+made_whole end _ p h (cut l q n is rest) e =
+    subst (λ (o : Plan). record end { piece = 0 } ≡ whole o l) (same_plan l.plan q p is e)
+    (whole_by end l q n h rest (λ r some. made_whole end _ r (in_time_after (timed l) _ h) rest some)
+    (plan_after q l.recording.session (piece_steps q (record l { piece = n }))) refl)
+
+pub join : (l a b : LabState) → IsInTime (timed l) → InPieces a l → InPieces b l
+    → record a { piece = 0 } ≡ record b { piece = 0 }
+join l a b h x y = by_plan l.plan refl
+  where
+    by_plan : (o : Option Plan) → l.plan ≡ o → record a { piece = 0 } ≡ record b { piece = 0 }
+    by_plan None none =
+        ap (λ (e : LabState). record e { piece = 0 }) (no_pieces a l x none ∙ sym (no_pieces b l y none))
+    by_plan (Some p) some = made_whole a l p h x some ∙ sym (made_whole b l p h y some)

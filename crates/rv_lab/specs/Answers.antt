@@ -1,0 +1,216 @@
+-- To audit: public contracts cite this.
+-- What the commands that only look answer, as values (this project's own: docs/LAB.md).
+use Rattle.std.specs.Prelude.{ℕ, ◌+◌, ◌-◌, ◌*◌, ◌%◌, ◌^◌, ◌==◌, ◌&&◌, Bool, false, List, [], ◌∷◌, filter, if◌then◌else◌, length, map, min, nat_le, nat_lt, slice_get, slice_index, Option, Some, None, option_and_then, unwrap_or}
+use Rattle.std.specs.FinSet as set
+use Rattle.std.specs.Int.{is_in_range}
+use Rattle.std.specs.List.{last_or, position_or_len, range_with_len}
+use Rattle.std.specs.Option.{option_map, option_map_or}
+use Rattle.rv_base.specs.Tables.{lookup}
+use Rattle.rv_base.specs.Words.{words}
+use Rattle.rv_isa.specs.Names.{csr_names, register_names}
+use Rattle.rv_csr.specs.Traps.{pending}
+use Rattle.rv_bus.specs.Access.{lines_of}
+use Rattle.rv_plic.specs.Gateways.{edges_of}
+use Rattle.rv_plic.specs.Plic.{is_notified}
+use Rattle.rv_plic.specs.Sources.{sources}
+use Rattle.rv_board.specs.BoardState.{BoardState, csr_of}
+use Rattle.rv_board.specs.declared.event.TrapRecord.{TrapRecord}
+use Rattle.rv_monitor.specs.Views.{byte_at_offset, word_at}
+use Rattle.rv_operands.specs.Operands.{address, line_number}
+use Rattle.rv_asm.specs.Lines.{Listed}
+use Rattle.rv_answers.specs.Memory.{extent}
+use Rattle.rv_answers.specs.States.{bits_of, clock_of, port_of, regions, source_of}
+use Rattle.rv_answers.specs.declared.answer.Answer.{Answer}
+use Rattle.rv_answers.specs.declared.answer.Answer.TheVariants as answers
+use Rattle.rv_answers.specs.declared.answer.Look.{Look}
+use Rattle.rv_answers.specs.declared.answer.Look.TheVariants as looks
+use Rattle.rv_answers.specs.declared.answer.Why.{Why}
+use Rattle.rv_answers.specs.declared.answer.Why.TheVariants as why
+use Rattle.rv_answers.specs.declared.extent.Format.{Format}
+use Rattle.rv_answers.specs.declared.extent.Format.TheVariants as format
+use Rattle.rv_answers.specs.declared.values.Cells.{Cells}
+use Rattle.rv_answers.specs.declared.values.Cells.TheVariants as cells
+use Rattle.rv_answers.specs.declared.values.ControlValue.{ControlValue}
+use Rattle.rv_answers.specs.declared.values.Devices.{Devices}
+use Rattle.rv_answers.specs.declared.values.Interrupts.{Interrupts}
+use Rattle.rv_answers.specs.declared.values.Place.{Place}
+use Rattle.rv_answers.specs.declared.values.RegisterFile.{RegisterFile}
+use Rattle.rv_answers.specs.declared.values.Standing.{Standing}
+use Rattle.rv_answers.specs.declared.values.Trap.{Trap}
+use Rattle.rv_lab.specs.State.{LabState, board, listing, registers_of, timed}
+use Rattle.rv_lab.specs.Lines.{excerpt_round, line_at, line_count, next_excerpt, row_of}
+use Rattle.rv_lab.specs.Words.{count_of}
+use Rattle.rv_lab.specs.declared.source.Excerpt.{Excerpt}
+use Rattle.rv_lab.specs.declared.command.Command.{Command}
+use Rattle.rv_lab.specs.declared.command.Command.TheVariants as command
+
+-- the only one of some words
+abbrev pub only : List (List ℕ) → Option (List ℕ)
+only (word ∷ []) = Some word
+only _ = None
+
+-- a command whose operands have no meaning
+abbrev pub refused : Look → List ℕ → Why → Answer
+refused look text why = answers.Refused (record { look = look; text = text; why = why })
+
+-- ---- places
+
+-- how far the last label at an address of the image or before it lies before it
+unfoldable pub distance_at : Listed → ℕ → Option ℕ
+distance_at l a = option_and_then (λ line. option_map (λ label. a - label.1)
+    (last_or None (filter (λ label. nat_le label.1 a) l.labels))) (line_at l a)
+
+unfoldable pub place_of : LabState → ℕ → Place
+place_of l a = record {
+  address = a;
+  distance = distance_at (listing l) a;
+  line = line_at (listing l) a;
+  word = word_at (board l) a;
+}
+
+-- ---- `w`, `i` and `b` alone
+
+abbrev pub standing : LabState → Standing
+standing l = let m = (board l).machine in
+    record { steps = (timed l).taken; mode = m.mode; halted = m.bus.halt; here = place_of l m.pc }
+
+unfoldable pub instruction_answer : LabState → List (List ℕ) → Answer
+instruction_answer l [] = answers.Instruction (place_of l (board l).machine.pc)
+instruction_answer l (word ∷ more) = option_map_or (λ a. answers.Instruction (place_of l a))
+    (address (listing l) (board l) word) (refused looks.Instruction word why.NoAddress)
+
+unfoldable pub breakpoints : LabState → List Place
+breakpoints l =
+    map (place_of l) (filter (set.contains l.recording.session.breakpoints.addresses) (range_with_len 0 (2 ^ 32)))
+
+-- ---- `r` and `p`
+
+abbrev pub register_file : LabState → RegisterFile
+register_file l = let m = (board l).machine in
+    record { before = l.registers; now = registers_of (board l); mode = m.mode; here = place_of l m.pc }
+
+unfoldable pub registers_answer : LabState → List ℕ → Answer
+registers_answer l text =
+    let one : ℕ → Answer = λ r. answers.Register (record { register = r; value = slice_index (board l).machine.registers r }) in
+    if nat_lt 0 (length (words text)) then option_map_or one
+    (option_and_then (λ name. lookup name register_names) (only (words text)))
+    (refused looks.Registers text why.NoRegister)
+    else answers.Registers (register_file l)
+
+-- a control register as machine mode reads it, and what its bits say
+unfoldable pub control_value : BoardState → List ℕ → ℕ → ControlValue
+control_value b name csr = record {
+  name = name;
+  csr = csr;
+  value = csr_of b csr;
+  bits = option_and_then (bits_of (length b.traps) csr) (csr_of b csr);
+}
+
+unfoldable pub control_answer : LabState → List ℕ → Answer
+control_answer l text =
+    let name = unwrap_or (only (words text)) [] in
+    option_map_or (λ csr. answers.ControlRegister (control_value (board l) name csr))
+    (lookup name csr_names) (refused looks.ControlRegister name why.NoControlRegister)
+
+-- ---- `m`
+
+-- n bytes or words from an address on, or as a text the bytes, of n, before a zero or the end of memory
+unfoldable pub cells_of : BoardState → (a n : ℕ) → Format → Cells
+cells_of b a n format.Bytes = cells.Bytes (map (byte_at_offset b a) (range_with_len 0 n))
+cells_of b a n format.Words = cells.Words (map (λ i. word_at b ((a + 4 * i) % 2 ^ 32)) (range_with_len 0 n))
+cells_of b a n format.Text =
+    let char : ℕ → ℕ = λ i. unwrap_or (byte_at_offset b a i) 0 in
+    cells.Text (map char (range_with_len 0 (position_or_len (λ i. char i == 0) (range_with_len 0 n))))
+
+unfoldable pub memory_answer : LabState → List (List ℕ) → Answer
+memory_answer l [] = refused looks.Memory [] why.Missing
+memory_answer l (word ∷ more) = option_map_or (λ a. option_map_or
+    (λ e. answers.Memory (record { address = a; cells = cells_of (board l) a e.count e.format }))
+    (extent more) (refused looks.Memory [] why.NoExtent))
+    (address (listing l) (board l) word) (refused looks.Memory word why.NoAddress)
+
+-- ---- `l`
+
+-- the rows of an excerpt, of those lines that the source has, or an answer where it would begin behind the last
+unfoldable pub rows_of : Answer → LabState → Excerpt → Answer
+rows_of behind l e =
+    if nat_lt (line_count (listing l)) e.first then behind else answers.List
+    (map (row_of l) (range_with_len e.first (min e.count (line_count (listing l) - (e.first - 1)))))
+
+-- those round a line, as many as the next word says
+unfoldable pub rows_round : LabState → List (List ℕ) → ℕ → Answer
+rows_round l more line = option_map_or
+    (λ n. rows_of (answers.BehindLast (line_count (listing l))) l (excerpt_round line n))
+    (count_of 11 1000 more) (refused looks.List [] why.NoCount)
+
+unfoldable pub list_answer : LabState → List (List ℕ) → Answer
+list_answer l [] = rows_round l [] (unwrap_or (line_at (listing l) (board l).machine.pc) 1)
+list_answer l (word ∷ more) = option_map_or (rows_round l more) (line_number word)
+    (option_map_or (λ a. option_map_or (rows_round l more) (line_at (listing l) a)
+    (refused looks.List [] (why.NoLine a))) (address (listing l) (board l) word)
+    (refused looks.List word why.NoAddress))
+
+-- ---- `t` and `e`
+
+-- traps, after some that are the same as the first: one for as many as are the same
+unfoldable pub trap_runs : LabState → ℕ → List TrapRecord → List Trap
+trap_runs l times [] = []
+trap_runs l times (t ∷ ts) =
+    let same : TrapRecord → Bool = λ u. (t.cause == u.cause) && ((t.epc == u.epc) && (t.tval == u.tval)) in
+    if option_map_or same (slice_get ts 0) false then trap_runs l (times + 1) ts
+    else record { cause = t.cause; value = t.tval; place = place_of l t.epc; times = times + 1 } ∷ trap_runs l 0 ts
+
+-- of a source that is triggered by edges
+unfoldable pub edges_answer : LabState → List (List ℕ) → Answer
+edges_answer l operands = option_map_or
+    (λ s. answers.Edges (record { source = s; pending = edges_of (board l).machine.bus.plic.edges s }))
+    (option_and_then (λ s. if is_in_range 24 31 s then Some s else None) (count_of 0 31 operands))
+    (refused looks.Edges [] why.NoEdgeSource)
+
+-- ---- `dev`
+
+-- the mode, mstatus, mie and mip, and the cause of the interrupt that is taken next
+abbrev pub interrupts_of : BoardState → Interrupts
+interrupts_of b =
+    let csr : ℕ → ℕ = λ n. unwrap_or (csr_of b n) 0 in let m = b.machine in
+    record {
+      mode = m.mode;
+      mstatus = csr 0x300;
+      mie = csr 0x304;
+      mip = csr 0x344;
+      next = pending m.csrs m.mode (lines_of m.bus);
+    }
+
+unfoldable pub devices_of : BoardState → Devices
+devices_of b = let m = b.machine in record {
+  clock = clock_of m.bus.timer;
+  port = port_of m.bus.serial;
+  interrupts = interrupts_of b;
+  threshold = m.bus.plic.threshold;
+  is_notified = is_notified m.bus.plic;
+  sources = map (source_of m.bus.plic) sources;
+  regions = regions m.csrs.pmp;
+}
+
+-- ---- the answer
+
+-- an empty line after `l`
+abbrev pub again_answer : Command → LabState → Option Answer
+again_answer command.List l = Some (rows_of answers.WasLast l (next_excerpt l))
+again_answer _ l = None
+
+-- what a command answers by its operands, where it is one that only looks
+unfoldable pub answer_of : Command → List ℕ → LabState → Option Answer
+answer_of command.Where text l = Some (answers.Where (standing l))
+answer_of command.Registers text l = Some (registers_answer l text)
+answer_of command.ControlRegister text l = Some (control_answer l text)
+answer_of command.Memory text l = Some (memory_answer l (words text))
+answer_of command.Instruction text l = Some (instruction_answer l (words text))
+answer_of command.List text l = Some (list_answer l (words text))
+answer_of command.Break text l =
+    if nat_lt 0 (length (words text)) then None else Some (answers.Breakpoints (breakpoints l))
+answer_of command.Traps text l = Some (answers.Traps (trap_runs l 0 (board l).traps))
+answer_of command.Edges text l = Some (edges_answer l (words text))
+answer_of command.Devices text l = Some (answers.Devices (devices_of (board l)))
+answer_of command.Again text l = again_answer l.again l
+answer_of _ text l = None

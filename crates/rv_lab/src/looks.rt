@@ -1,0 +1,473 @@
+//! What the commands that only look answer, as values.
+ghost use Rattle.std.specs.Prelude.{◌≡◌, ◌≤◌, ◌+◌, ◌∷◌, [], ◌++◌, ◌^◌, drop, map, unwrap_or, IfOk, OnOk};
+ghost use Rattle.std.specs.List.{range_with_len};
+ghost use Rattle.rv_base.specs.Words.{words};
+ghost use Rattle.rv_asm.specs.Seen.{seen};
+ghost use Rattle.rv_monitor.specs.Views.{byte_at_offset};
+ghost use Rattle.rv_operands.specs.Support.Words.{only_of};
+ghost use Rattle.rv_lab.specs.Answers as spec;
+ghost use Rattle.rv_lab.specs.Answers.{again_answer, answer_of, breakpoints, cells_of, control_answer, edges_answer, instruction_answer, list_answer, memory_answer, refused, register_file, registers_answer, rows_of, rows_round, standing, trap_runs};
+ghost use Rattle.rv_lab.specs.Lines.{row_of};
+ghost use Rattle.rv_lab.specs.State.{board, listing};
+ghost use Rattle.rv_lab.specs.Support.Rows.{char_at, comes_again, edge_source, register_of, word_cell};
+
+use crate::command::Command;
+use crate::control::{MIE, MIP, MSTATUS, csr_word, name_in};
+use crate::devices::{edge_source, interrupts_of};
+use crate::lab::Lab;
+use crate::memory::{byte_at, char_at, text_length};
+use crate::operands::count_or;
+use crate::places::{line_at, near_label};
+use crate::registers::registers_of;
+use crate::source::{Excerpt, MOST_LINES, USUAL_LINES, line_count};
+use rv_answers::{
+    Answer, Cells, ControlValue, Devices, Dump, Edges, Extent, Format, Look, Many, Place, Refusal,
+    RegisterFile, RegisterValue, Row, Standing, Trap, Why, bits_of, clock_of, port_of, push,
+    read_extent, regions_of, sources_of, threshold,
+};
+use rv_asm::Listing;
+use rv_base::{NoMemory, first_word, has_word, low_word};
+use rv_board::{BootedBoard, TrapRecord};
+use rv_isa::{Reg, csr_named, reg_named};
+use rv_monitor::word_at;
+use rv_operands::{line_number, only_word};
+use std::alloc::Global;
+
+/// Returns the register that some operands name.
+fn register_of(operands: &[u8]) -> Option<Reg>
+    ensures { result ≡ register_of (words operands.now) }
+{
+    reg_named(only_word(operands)?)
+}
+
+/// Whether a trap is the same as the one before it.
+fn comes_again(trap: TrapRecord, next: Option<TrapRecord>) -> bool
+    ensures { result ≡ comes_again trap next }
+{
+    match next {
+        Some(next) => trap.cause == next.cause && trap.epc == next.epc && trap.tval == next.tval,
+        None => false,
+    }
+}
+
+/// Returns how far the last label at an address of the image or before it lies before it.
+fn distance_at(listing: Listing, address: u32) -> Option<u32>
+    ensures { result ≡ spec.distance_at (seen listing.entry) address }
+{
+    match near_label(listing, address) {
+        Some(near) => Some(near.distance),
+        None => None,
+    }
+}
+
+/// Returns bytes from an address on.
+#[tactic(auto, using(crate::proofs::Values::no_items, crate::proofs::Values::next_item, crate::proofs::Values::all_items))]
+fn bytes_of(
+    alloc: Global,
+    board: &BootedBoard,
+    address: u32,
+    count: u32,
+) -> Result<Many<Option<u8>>, NoMemory>
+    ensures { IfOk result (λ c. c ≡ map (byte_at_offset board.now address) (range_with_len 0 count)) }
+{
+    let mut cells = Vec::new(alloc);
+    for offset in 0..count {
+        push(&mut cells, byte_at(board, address, offset))?;
+    }
+    Ok(Many::of(cells))
+}
+
+/// Returns words from an address on.
+#[tactic(auto, using(crate::proofs::Values::no_items, crate::proofs::Values::next_item, crate::proofs::Values::all_items))]
+fn words_of(
+    alloc: Global,
+    board: &BootedBoard,
+    address: u32,
+    count: u32,
+) -> Result<Many<Option<u32>>, NoMemory>
+    requires { count ≤ 4096 }
+    ensures { IfOk result (λ c. c ≡ map (word_cell board.now address) (range_with_len 0 count)) }
+{
+    let mut cells = Vec::new(alloc);
+    for index in 0..count {
+        push(&mut cells, word_at(board, address.wrapping_add(4 * index)))?;
+    }
+    Ok(Many::of(cells))
+}
+
+/// Returns the bytes from an address on, a zero where there is no memory.
+#[tactic(auto, using(crate::proofs::Values::no_items, crate::proofs::Values::next_item, crate::proofs::Values::all_items))]
+fn text_of(
+    alloc: Global,
+    board: &BootedBoard,
+    address: u32,
+    count: u32,
+) -> Result<Many<u8>, NoMemory>
+    ensures { IfOk result (λ c. c ≡ map (char_at board.now address) (range_with_len 0 count)) }
+{
+    let mut text = Vec::new(alloc);
+    for offset in 0..count {
+        push(&mut text, char_at(board, address, offset))?;
+    }
+    Ok(Many::of(text))
+}
+
+/// Returns what memory holds from an address on.
+#[tactic(auto, unfolding(crate::specs::Answers::cells_of, crate::specs::Support::Rows::text_length))]
+fn cells_of(
+    alloc: Global,
+    board: &BootedBoard,
+    address: u32,
+    extent: Extent,
+) -> Result<Cells, NoMemory>
+    requires { extent.count ≤ 4096 }
+    ensures { IfOk result (λ c. c ≡ cells_of board.now address extent.count extent.format) }
+{
+    let count = low_word(extent.count);
+    match extent.format {
+        Format::Bytes => Ok(Cells::Bytes(bytes_of(alloc, board, address, count)?)),
+        Format::Words => Ok(Cells::Words(words_of(alloc, board, address, count)?)),
+        Format::Text => {
+            let length = text_length(board, address, count);
+            Ok(Cells::Text(text_of(alloc, board, address, length)?))
+        }
+    }
+}
+
+/// Returns a control register as machine mode reads it, and what its bits say.
+#[tactic(auto, unfolding(crate::specs::Answers::control_value))]
+fn control_value(
+    alloc: Global,
+    board: &BootedBoard,
+    name: &[u8],
+    csr: u16,
+) -> Result<ControlValue, NoMemory>
+    ensures { IfOk result (λ v. v ≡ spec.control_value board.now name.now csr) }
+{
+    let name = Many::of(Vec::from_slice(alloc, name)?);
+    let value = board.csr(csr);
+    let bits = match value {
+        Some(word) => bits_of(board.trap_count(), csr, word),
+        None => None,
+    };
+    Ok(ControlValue {
+        name,
+        csr,
+        value,
+        bits,
+    })
+}
+
+impl Lab {
+    /// Returns an address with what is there.
+    #[tactic(auto, unfolding(crate::specs::Answers::place_of))]
+    pub(crate) fn place_of(&self, address: u32) -> Place
+        ensures { result ≡ spec.place_of self.now address }
+    {
+        Place {
+            address,
+            distance: distance_at(self.listing(), address),
+            line: line_at(self.listing(), address),
+            word: word_at(self.board(), address),
+        }
+    }
+
+    /// Answers that operands have no meaning.
+    fn refused(&self, look: Look, text: &[u8], why: Why) -> Result<Answer, NoMemory>
+        ensures { IfOk result (λ a. a ≡ refused look text.now why) }
+    {
+        let text = Many::of(Vec::from_slice(self.alloc, text)?);
+        Ok(Answer::Refused(Refusal { look, text, why }))
+    }
+
+    /// Returns where the board stands.
+    fn standing(&self) -> Standing
+        ensures { result ≡ standing self.now }
+    {
+        let board = self.board();
+        Standing {
+            steps: self.steps(),
+            mode: board.mode(),
+            halted: board.halted(),
+            here: self.place_of(board.pc()),
+        }
+    }
+
+    /// Returns all registers.
+    fn register_file(&self) -> RegisterFile
+        ensures { result ≡ register_file self.now }
+    {
+        let board = self.board();
+        RegisterFile {
+            before: self.last.registers,
+            now: registers_of(board),
+            mode: board.mode(),
+            here: self.place_of(board.pc()),
+        }
+    }
+
+    /// Answers `r`.
+    #[tactic(auto, unfolding(crate::specs::Answers::registers_answer))]
+    fn registers_answer(&self, operands: &[u8]) -> Result<Answer, NoMemory>
+        ensures { IfOk result (λ a. a ≡ registers_answer self.now operands.now) }
+    {
+        if !has_word(operands) {
+            return Ok(Answer::Registers(self.register_file()));
+        }
+        match register_of(operands) {
+            Some(register) => {
+                let value = self.board().reg(register);
+                Ok(Answer::Register(RegisterValue { register, value }))
+            }
+            None => self.refused(Look::Registers, operands, Why::NoRegister),
+        }
+    }
+
+    /// Answers `p`.
+    #[tactic(auto, unfolding(crate::specs::Answers::control_answer))]
+    fn control_answer(&self, operands: &[u8]) -> Result<Answer, NoMemory>
+        ensures { IfOk result (λ a. a ≡ control_answer self.now operands.now) }
+    {
+        let name = name_in(operands);
+        match csr_named(name) {
+            Some(csr) => {
+                let value = control_value(self.alloc, self.board(), name, csr)?;
+                Ok(Answer::ControlRegister(value))
+            }
+            None => self.refused(Look::ControlRegister, name, Why::NoControlRegister),
+        }
+    }
+
+    /// Answers `m`.
+    #[tactic(auto, unfolding(crate::specs::Answers::memory_answer))]
+    fn memory_answer(&self, operands: &[u8]) -> Result<Answer, NoMemory>
+        ensures { IfOk result (λ a. a ≡ memory_answer self.now (words operands.now)) }
+    {
+        let Some((word, rest)) = first_word(operands) else {
+            return self.refused(Look::Memory, b"", Why::Missing);
+        };
+        let Some(address) = self.scope().address(word) else {
+            return self.refused(Look::Memory, word, Why::NoAddress);
+        };
+        let Some(extent) = read_extent(rest) else {
+            return self.refused(Look::Memory, b"", Why::NoExtent);
+        };
+        let cells = cells_of(self.alloc, self.board(), address, extent)?;
+        Ok(Answer::Memory(Dump { address, cells }))
+    }
+
+    /// Answers `i`.
+    #[tactic(auto, unfolding(crate::specs::Answers::instruction_answer))]
+    fn instruction_answer(&self, operands: &[u8]) -> Result<Answer, NoMemory>
+        ensures { IfOk result (λ a. a ≡ instruction_answer self.now (words operands.now)) }
+    {
+        let Some((word, _)) = first_word(operands) else {
+            return Ok(Answer::Instruction(self.place_of(self.board().pc())));
+        };
+        match self.scope().address(word) {
+            Some(address) => Ok(Answer::Instruction(self.place_of(address))),
+            None => self.refused(Look::Instruction, word, Why::NoAddress),
+        }
+    }
+
+    /// Returns the rows of `count` lines from one on.
+    #[tactic(auto, using(crate::proofs::Values::no_items, crate::proofs::Values::next_item, crate::proofs::Values::all_items))]
+    fn rows_from(&self, first: usize, count: usize, last: usize) -> Result<Many<Row>, NoMemory>
+        requires { first + count ≤ last + 1 }
+        ensures { IfOk result (λ r. r ≡ map (row_of self.now) (range_with_len first count)) }
+    {
+        let mut rows = Vec::new(self.alloc);
+        for passed in 0..count {
+            push(&mut rows, self.row(first + passed))?;
+        }
+        Ok(Many::of(rows))
+    }
+
+    /// Returns the rows of an excerpt, of those lines that the source has; none where it begins behind the last.
+    #[tactic(auto, unfolding(crate::specs::Answers::rows_of))]
+    fn rows_of(&self, behind: Answer, excerpt: Excerpt) -> Result<Answer, NoMemory>
+        requires { 1 ≤ excerpt.first }
+        ensures { IfOk result (λ a. a ≡ rows_of behind self.now excerpt) }
+    {
+        let last = line_count(self.listing());
+        if last < excerpt.first {
+            return Ok(behind);
+        }
+        let count = excerpt.count.min(last - (excerpt.first - 1));
+        Ok(Answer::List(self.rows_from(excerpt.first, count, last)?))
+    }
+
+    /// Answers `l` for the lines round one.
+    #[tactic(auto, unfolding(crate::specs::Answers::rows_round))]
+    fn rows_round(&self, rest: &[u8], line: usize) -> Result<Answer, NoMemory>
+        ensures { IfOk result (λ a. a ≡ rows_round self.now (words rest.now) line) }
+    {
+        match count_or(rest, USUAL_LINES, MOST_LINES) {
+            Some(count) => {
+                let behind = Answer::BehindLast(line_count(self.listing()));
+                self.rows_of(behind, Excerpt::round(line, count))
+            }
+            None => self.refused(Look::List, b"", Why::NoCount),
+        }
+    }
+
+    /// Answers `l`.
+    #[tactic(auto, unfolding(crate::specs::Answers::list_answer))]
+    fn list_answer(&self, operands: &[u8]) -> Result<Answer, NoMemory>
+        ensures { IfOk result (λ a. a ≡ list_answer self.now (words operands.now)) }
+    {
+        let Some((word, rest)) = first_word(operands) else {
+            let here = line_at(self.listing(), self.board().pc());
+            return self.rows_round(operands, here.unwrap_or(1));
+        };
+        if let Some(line) = line_number(word) {
+            return self.rows_round(rest, line as usize);
+        }
+        let Some(address) = self.scope().address(word) else {
+            return self.refused(Look::List, word, Why::NoAddress);
+        };
+        match line_at(self.listing(), address) {
+            Some(line) => self.rows_round(rest, line),
+            None => self.refused(Look::List, b"", Why::NoLine(address)),
+        }
+    }
+
+    /// Answers an empty line after `l`.
+    #[tactic(auto, using(crate::proofs::Values::was_last))]
+    fn again_answer(&self) -> Result<Option<Answer>, NoMemory>
+        ensures { IfOk result (λ a. a ≡ again_answer self.now.again self.now) }
+    {
+        match self.last.command {
+            Command::List => {
+                let listed = self.last.listed;
+                if line_count(self.listing()) <= listed {
+                    return Ok(Some(Answer::WasLast));
+                }
+                let next = Excerpt {
+                    first: listed + 1,
+                    count: USUAL_LINES as usize,
+                };
+                Ok(Some(self.rows_of(Answer::WasLast, next)?))
+            }
+            _ => Ok(None),
+        }
+    }
+
+    /// Returns the breakpoints.
+    #[tactic(auto, using(crate::proofs::Values::no_breaks_yet))]
+    fn breakpoints(&self) -> Result<Many<Place>, NoMemory>
+        ensures { IfOk result (λ b. b ≡ breakpoints self.now) }
+    {
+        let mut places = Vec::new(self.alloc);
+        let mut from = 0;
+        loop {
+            let Some(address) = self.recording.next_break(from) else {
+                return Ok(Many::of(places));
+            };
+            push(&mut places, self.place_of(address))?;
+            if address == u32::MAX {
+                return Ok(Many::of(places));
+            }
+            from = address + 1;
+        }
+    }
+
+    /// Appends the traps from an index on, after `times` that are the same as the first.
+    #[tactic(auto, using(crate::proofs::Values::runs_end, crate::proofs::Values::runs_none, crate::proofs::Values::runs_again, crate::proofs::Values::runs_other))]
+    fn push_traps(&self, index: usize, times: u64, traps: &mut Vec<Trap>) -> Result<(), NoMemory>
+        requires { times ≤ index }
+        ensures { OnOk result (traps.new.items ≡ traps.old.items ++ trap_runs self.now times (drop index (board self.now).traps)) }
+    {
+        if index >= self.board().trap_count() {
+            return Ok(());
+        }
+        let Some(trap) = self.board().trap(index) else {
+            return Ok(());
+        };
+        if comes_again(trap, self.board().trap(index + 1)) {
+            return self.push_traps(index + 1, times + 1, traps);
+        }
+        push(traps, self.trap_of(trap, times + 1))?;
+        self.push_traps(index + 1, 0, traps)
+    }
+
+    /// Returns a trap that was taken some times in a row.
+    fn trap_of(&self, trap: TrapRecord, times: u64) -> Trap
+        ensures { result ≡ record { cause = trap.cause; value = trap.tval; place = spec.place_of self.now trap.epc; times = times } }
+    {
+        Trap {
+            cause: trap.cause,
+            value: trap.tval,
+            place: self.place_of(trap.epc),
+            times,
+        }
+    }
+
+    /// Answers `t`.
+    fn traps(&self) -> Result<Many<Trap>, NoMemory>
+        ensures { IfOk result (λ t. t ≡ trap_runs self.now 0 (board self.now).traps) }
+    {
+        let mut traps = Vec::new(self.alloc);
+        self.push_traps(0, 0, &mut traps)?;
+        Ok(Many::of(traps))
+    }
+
+    /// Answers `e`.
+    #[tactic(auto, unfolding(crate::specs::Answers::edges_answer, crate::specs::Support::Rows::edge_source))]
+    fn edges_answer(&self, operands: &[u8]) -> Result<Answer, NoMemory>
+        ensures { IfOk result (λ a. a ≡ edges_answer self.now (words operands.now)) }
+    {
+        match edge_source(operands) {
+            Some(source) => Ok(Answer::Edges(Edges {
+                source: u32::from(source.number()),
+                pending: self.board().plic().edges(source),
+            })),
+            None => self.refused(Look::Edges, b"", Why::NoEdgeSource),
+        }
+    }
+
+    /// Answers `dev`.
+    #[tactic(auto, unfolding(crate::specs::Answers::devices_of))]
+    fn devices(&self) -> Result<Devices, NoMemory>
+        ensures { IfOk result (λ d. d ≡ spec.devices_of (board self.now)) }
+    {
+        let board = self.board();
+        let sources = sources_of(self.alloc, board.plic())?;
+        let regions = regions_of(self.alloc, board.pmp())?;
+        Ok(Devices {
+            clock: clock_of(board.timer()),
+            port: port_of(board.serial()),
+            interrupts: interrupts_of(board),
+            threshold: threshold(board.plic()),
+            is_notified: board.plic().external(),
+            sources,
+            regions,
+        })
+    }
+
+    /// Returns what a command answers, where it is one that only looks.
+    #[tactic(auto, unfolding(crate::specs::Answers::answer_of))]
+    pub(crate) fn answer_of(
+        &self,
+        command: Command,
+        operands: &[u8],
+    ) -> Result<Option<Answer>, NoMemory>
+        ensures { IfOk result (λ a. a ≡ answer_of command operands.now self.now) }
+    {
+        match command {
+            Command::Where => Ok(Some(Answer::Where(self.standing()))),
+            Command::Registers => Ok(Some(self.registers_answer(operands)?)),
+            Command::ControlRegister => Ok(Some(self.control_answer(operands)?)),
+            Command::Memory => Ok(Some(self.memory_answer(operands)?)),
+            Command::Instruction => Ok(Some(self.instruction_answer(operands)?)),
+            Command::List => Ok(Some(self.list_answer(operands)?)),
+            Command::Break if has_word(operands) => Ok(None),
+            Command::Break => Ok(Some(Answer::Breakpoints(self.breakpoints()?))),
+            Command::Traps => Ok(Some(Answer::Traps(self.traps()?))),
+            Command::Edges => Ok(Some(self.edges_answer(operands)?)),
+            Command::Devices => Ok(Some(Answer::Devices(self.devices()?))),
+            Command::Again => self.again_answer(),
+            _ => Ok(None),
+        }
+    }
+}

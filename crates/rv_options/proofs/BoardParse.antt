@@ -1,0 +1,129 @@
+-- The matches of the words, by the command alone.
+use Rattle.std.proofs.Common.{rules, ◌≡◌, ◌∙◌, ◌<◌, ◌≤◌, ◌^◌, ap, subst, sym, refl, arith, ℕ, true, List, Option, Some, Result}
+use Rattle.std.specs.Prelude.{codes, pos, option_map}
+use Rattle.std.specs.Option.{option_map_or}
+use Rattle.std.specs.Borrow.{Bor}
+use Rattle.std.specs.declared.num.ParseIntError.{ParseIntError}
+use Rattle.std.specs.Str.Parse.{ParsesUnsigned, ExplainsUnsignedError, HasUnsignedDigitsIfOk, digits_value, without_leading_plus}
+use Rattle.clap.specs.Matches.{ReadsOne}
+use Rattle.clap.proofs.CallerReads.{signed_reads}
+use Rattle.clap.proofs.WalkLemmas.{first_value-rows, one_text-rows}
+use Rattle.rv_options.specs.Read.{number_of}
+use Rattle.clap.specs.Lexer.{without_minus}
+use Rattle.clap.specs.declared.builder.value_parser.ValueParser.TheVariants.{Signed}
+use Rattle.clap.specs.Built.{IsParsedFrom}
+use Rattle.clap.specs.Words.{App, HasMatchesOf, Row, Text, app_of, first_of, first_value, found_of, is_simple, is_simple_and_free, matches_of, one_of, one_text}
+use Rattle.clap.specs.declared.builder.command.Command.{Command}
+use Rattle.clap.specs.declared.parser.matches.ArgMatches.{ArgMatches}
+use Rattle.clap.proofs.SimpleLemmas.{plain_fields}
+use Rattle.rv_options.specs.Board.{board_app, source_rule}
+use Rattle.rv_options.specs.Support.Chain.{number_rule, pages_rule, slots_rule, steps_rule}
+use Rattle.rv_options.specs.Support.Parse.{HasNumber, IsBoardParse}
+use Rattle.rv_options.proofs.Defaults.{HasDefaultAt, IsParseOf, are_simple_free, has_value, reads}
+
+-- clap's meaning says the matches of the command
+pub board_simple : is_simple board_app ≡ true
+unfolding board_app
+board_simple = refl
+
+board_plain : board_app.top.is_plain ≡ true
+unfolding board_app
+board_plain = refl
+
+board_simple_free : are_simple_free board_app.top.rules ≡ true
+unfolding board_app
+board_simple_free = refl
+
+-- the rules of the command that have a default
+source_at : HasDefaultAt board_app.top.rules 0 source_rule
+unfolding board_app
+source_at = search (rules, arith)
+
+steps_at : HasDefaultAt board_app.top.rules 3 steps_rule
+unfolding board_app
+steps_at = search (rules, arith)
+
+pages_at : HasDefaultAt board_app.top.rules 4 pages_rule
+unfolding board_app
+pages_at = search (rules, arith)
+
+slots_at : HasDefaultAt board_app.top.rules 5 slots_rule
+unfolding board_app
+slots_at = search (rules, arith)
+
+parse_of : (c : Command) (m : ArgMatches) → app_of c ≡ board_app → IsParsedFrom c m →
+    IsParseOf board_app.top.rules c m
+parse_of c m is parsed =
+    let fields = plain_fields c (ap (λ (a : App). a.top.is_plain) is ∙ board_plain) in
+    record {
+      rules_are = ap (λ (a : App). a.top.rules) is;
+      simple_free = board_simple_free;
+      groups = fields.groups;
+      globals = fields.globals;
+      parsed = parsed;
+    }
+
+number : (c : Command) (m : ArgMatches) (k : ℕ) (name default : Text) (low high : ℕ) →
+    IsParseOf board_app.top.rules c m
+    → HasDefaultAt board_app.top.rules k (number_rule name default low high) → HasNumber m name low high
+number c m k name default low high p at =
+    let got = reads board_app.top.rules c m p k (number_rule name default low high) at
+    (Signed (pos low) (pos high)) refl in
+    record { text = got.0; one = got.1; accepted = got.2 }
+
+pub board_parse : (c : Command) (m : ArgMatches) (words : List Text) → app_of c ≡ board_app →
+    IsParsedFrom c m → HasMatchesOf (app_of c) words m
+    → IsBoardParse words m
+board_parse c m words is parsed matches =
+    let p = parse_of c m is parsed in
+    record {
+      rows = (matches (ap is_simple is ∙ board_simple)).0 ∙ ap (λ a. matches_of a words) is;
+      source = has_value board_app.top.rules c m p 0 source_rule source_at;
+      steps = number c m 3 (codes "steps") (codes "1000000") 0 1000000000 p steps_at;
+      pages = number c m 4 (codes "pages") (codes "256") 1 4096 p pages_at;
+      slots = number c m 5 (codes "slots") (codes "1024") 64 4096 p slots_at;
+    }
+
+-- and it says the errors of the command
+pub board_free : is_simple_and_free board_app ≡ true
+unfolding board_app
+board_free = refl
+
+-- ---- the fields, by the getters
+
+-- the result of `get_one` for a number option: a number in the range, which the option's value spells
+pub record IsNumberOf (rows : List Row) (id : Text) (low high : ℕ) (r : Option ℕ) : Type 0 where
+  pub value : ℕ
+  pub is : r ≡ Some value
+  pub least : low ≤ value
+  pub most : value ≤ high
+  pub said : value ≡ number_of id rows
+
+-- how `parse` reads an unsigned number
+abbrev Parses : ℕ → List ℕ → Result ℕ ParseIntError → Type 0
+Parses bits text r = ParsesUnsigned bits 10 text r × ExplainsUnsignedError 10 text r × HasUnsignedDigitsIfOk text r
+
+pub number_got : (bits low high : ℕ) (words : List Text) (m : ArgMatches) (id : Text) (r : Option ℕ)
+    → ((t : List ℕ) → one_text (found_of m) id ≡ Some t → ReadsOne (Parses bits) t r) → high < 2 ^ bits
+    → IsBoardParse words m → HasNumber m id low high → IsNumberOf (matches_of board_app words) id low high r
+number_got bits low high words m id r gives fits p h =
+    let one = gives (without_minus h.text) h.one in
+    let got = signed_reads ParseIntError (Parses bits) bits low high h.text r one (λ u x g. g.0) fits h.accepted in
+    let read : ReadsOne (Parses bits) (without_minus h.text) (Some got.0) =
+    subst (λ (o : Option ℕ). ReadsOne (Parses bits) (without_minus h.text) o) got.1 one in
+    let text : one_of id (matches_of board_app words) ≡ Some (without_minus h.text) =
+    ap (one_of id) (sym p.rows) ∙ (sym (one_text-rows (found_of m) id) ∙ h.one) in
+    record {
+      value = got.0;
+      is = got.1;
+      least = got.2;
+      most = got.3;
+      said = read.0.1 ∙ sym (ap (λ (o : Option Text).
+          option_map_or (λ t. digits_value 10 (without_leading_plus t)) o 0) text);
+    }
+
+-- the result of `get_str`: the first value of the argument
+pub text_got : (words : List Text) (m : ArgMatches) (id : Text) (r : Option (Bor Text)) → IsBoardParse words m
+    → option_map (λ s. s.now) r ≡ first_value (found_of m) id →
+    first_of id (matches_of board_app words) ≡ option_map (λ s. s.now) r
+text_got words m id r p e = ap (first_of id) (sym p.rows) ∙ (sym (first_value-rows (found_of m) id) ∙ sym e)

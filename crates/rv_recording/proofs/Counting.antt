@@ -1,0 +1,95 @@
+-- How many steps a run takes.
+use Rattle.std.proofs.Common.{◌≡◌, ◌∙◌, ℕ, zero, suc, ◌+◌, ◌-◌, ◌<◌, ◌≤◌, Bool, true, false, add-one, refl, sym, ap, subst, arith, inl, inr, ⊎_elim}
+use native.Mathlib.Numerals.{unary_clauses}
+use Rattle.std.specs.Prelude.{if◌then◌else◌, is_some, Option, Some, None}
+use Rattle.std.proofs.lemmas.Bool.{cases_lt, false≢true}
+use Rattle.rv_recording.specs.Until.{steps_of}
+use Rattle.rv_recording.specs.Support.Refused.{NoneEnds}
+use Rattle.rv_recording.specs.declared.until.End.{End}
+
+at_most : (b : Bool) (k m : ℕ) → k ≤ m → (if b then k else suc k) ≤ suc m
+at_most true k m h = omega (arith, h)
+at_most false k m h = omega (arith, h)
+
+at_least : (b : Bool) (k m : ℕ) → m ≤ k → m ≤ (if b then k else suc k)
+at_least true k m h = h
+at_least false k m h = omega (arith, h)
+
+shifted : (b : Bool) (k n : ℕ) → (if b then k + n else suc (k + n)) ≡ k + (if b then n else suc n)
+shifted true k n = refl
+shifted false k n = omega arith
+
+module _ (ends : ℕ → Option End) where
+  pub steps_within : (m : ℕ) → steps_of ends m ≤ m
+  unfolding steps_of
+  steps_within zero = omega arith
+  steps_within (suc m) = at_most (is_some (ends (steps_of ends m))) (steps_of ends m) m (steps_within m)
+
+  -- a run that isn't over before n steps takes n steps
+  pub all_steps : (n : ℕ) → NoneEnds ends n → steps_of ends n ≡ n
+  unfolding steps_of
+  all_steps zero going = refl
+  all_steps (suc n) going =
+      let before : steps_of ends n ≡ n = all_steps n (λ i l. going i (omega (arith, l))) in
+      let now : is_some (ends n) ≡ false = ap is_some (going n (omega arith)) in
+      rw before (rw now refl)
+
+  -- a run that is over after n steps, and not before, takes n steps
+  pub over_at : (n m : ℕ) → n ≤ m → NoneEnds ends n → is_some (ends n) ≡ true → steps_of ends m ≡ n
+  unfolding steps_of
+  over_at n zero h going is = omega (arith, h)
+  over_at n (suc m) h going is = ⊎_elim
+      (λ less. rw (over_at n m (omega (arith, less)) going is) (rw is refl))
+      (λ last.
+      let same : n ≡ suc m = omega (arith, h, last) in
+      subst (λ (k : ℕ). steps_of ends k ≡ n) same (all_steps n going))
+      (cases_lt n (suc m))
+
+  -- a run that isn't over after n steps takes more
+  pub takes_more : (n m : ℕ) → n < m → NoneEnds ends (suc n) → n < steps_of ends m
+  unfolding steps_of
+  takes_more n zero h going = absurd (omega (arith, h))
+  takes_more n (suc m) h going = ⊎_elim
+      (λ less.
+      let before : suc n ≤ steps_of ends m = omega (arith, takes_more n m less going) in
+      let now = at_least (is_some (ends (steps_of ends m))) (steps_of ends m) (suc n) before in omega (arith, now))
+      (λ last.
+      let same : suc n ≡ suc m = omega (arith, h, last) in
+      let now : steps_of ends (suc m) ≡ suc n =
+      subst (λ (k : ℕ). steps_of ends k ≡ suc n) same (all_steps (suc n) going) in
+      omega (arith, now))
+      (cases_lt n m)
+
+  -- a run that takes fewer steps than it may is over after them
+  pub over_or_all : (m : ℕ) → steps_of ends m < m → is_some (ends (steps_of ends m)) ≡ true
+  unfolding steps_of
+  over_or_all zero h = absurd (omega (arith, h))
+  over_or_all (suc m) h = by_last (is_some (ends (steps_of ends m))) m (steps_of ends m) refl (over_or_all m) h
+    where
+      by_last : (b : Bool) (m k : ℕ) → is_some (ends k) ≡ b → (k < m → is_some (ends k) ≡ true)
+          → (if b then k else suc k) < suc m → is_some (ends (if b then k else suc k)) ≡ true
+      by_last true m k is before h = is
+      by_last false m k is before h = absurd (false≢true (sym is ∙ before (omega (arith, h))))
+
+  -- a run of more steps goes on where one of fewer ends
+  pub joins_over : (n k : ℕ) → is_some (ends (steps_of ends n)) ≡ true → steps_of ends (n + k) ≡ steps_of ends n
+  unfolding steps_of
+  joins_over n zero is = simp unary_clauses refl
+  joins_over n (suc k) is = simp unary_clauses (rw (joins_over n k is) (rw is refl))
+
+  pub joins : (n k : ℕ) → is_some (ends (steps_of ends n)) ≡ false
+      → steps_of ends (n + k) ≡ steps_of ends n + steps_of (λ i. ends (steps_of ends n + i)) k
+  unfolding steps_of
+  joins n zero is = simp unary_clauses refl
+  joins n (suc k) is =
+      simp unary_clauses (rw (joins n k is)
+      (shifted (is_some (ends (steps_of ends n + steps_of (λ i. ends (steps_of ends n + i)) k))) (steps_of ends n)
+      (steps_of (λ i. ends (steps_of ends n + i)) k)))
+
+-- the same reasons lead to as many steps
+pub same_steps : (e f : ℕ → Option End) → ((i : ℕ) → is_some (e i) ≡ is_some (f i)) → (n : ℕ) → steps_of e n ≡ steps_of f n
+unfolding steps_of
+same_steps e f same zero = refl
+same_steps e f same (suc n) =
+    let before : steps_of e n ≡ steps_of f n = same_steps e f same n in
+    rw before (rw (same (steps_of f n)) refl)

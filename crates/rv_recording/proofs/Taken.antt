@@ -1,0 +1,146 @@
+-- Calls of a session are runs.
+use Rattle.std.proofs.Common.{◌≡◌, ◌∙◌, ℕ, suc, ◌+◌, ◌-◌, ◌<◌, ◌≤◌, Bool, true, false, refl, sym, ap, subst, arith, inl, inr, ⊎_elim}
+use Rattle.std.specs.Prelude.{◌&&◌, min, nat_lt, if◌then◌else◌, is_some, unwrap_or, Option, Some, None, Result, Ok, Err, OnErr}
+use Rattle.rv_base.specs.declared.memory.NoMemory.{NoMemory}
+use Rattle.std.specs.FinSet as set
+use Rattle.std.proofs.lemmas.Bool.{cases_lt, false≢true}
+use Rattle.std.proofs.lemmas.Bool.Decides.{nat_tests}
+use Rattle.rv_board.specs.Support.State.{halted_of, pc_of}
+use Rattle.rv_monitor.specs.State.{Addresses, SessionState, TimedState, after, with_due}
+use Rattle.rv_monitor.specs.Support.TimedCalls.{most_of}
+use Rattle.rv_monitor.specs.Stops.{Took, WasRefused, steps_between, stop_after, stop_of}
+use Rattle.rv_monitor.specs.declared.stop.Stop.{Stop}
+use Rattle.rv_monitor.specs.declared.stop.Stop.TheVariants as stopped
+use Rattle.rv_recording.specs.Until.{HasRun, end_at, steps_of}
+use Rattle.rv_recording.specs.Support.Refused.{IsRefusedIn, NoneEnds}
+use Rattle.rv_recording.specs.Support.Steps.{end_by}
+use Rattle.rv_recording.specs.declared.until.End.{End}
+use Rattle.rv_recording.specs.declared.until.End.TheVariants.{Halted, Reached, Breakpoint, Limit, Stuck}
+use Rattle.rv_recording.proofs.Counting.{all_steps, over_at, takes_more}
+
+abbrev stop_is : Option ℕ → Bool → Option Stop
+stop_is h b = if is_some h then Some stopped.Halted else (if b then Some stopped.Breakpoint else None)
+
+abbrev end_is : Option ℕ → Bool → Bool → Bool → Option End
+end_is h r b l = if is_some h then Some Halted
+    else (if r then Some Reached else (if b then Some Breakpoint else (if l then None else Some Stuck)))
+
+none_by : (h : Option ℕ) (z b l : Bool) → stop_is h b ≡ None → l ≡ true → end_is h (z && false) b l ≡ None
+none_by (Some code) z b l e may = absurd cc
+none_by None z true l e may = absurd cc
+none_by None true false l e may = rw may refl
+none_by None false false l e may = rw may refl
+
+stops_by : (h : Option ℕ) (z b l : Bool) → is_some (stop_is h b) ≡ true → is_some (end_is h (z && false) b l) ≡ true
+stops_by (Some code) z b l e = refl
+stops_by None true true l e = refl
+stops_by None false true l e = refl
+stops_by None z false l e = absurd (false≢true e)
+
+full_by : (h : Option ℕ) (z b l : Bool) → l ≡ false → is_some (end_is h (z && false) b l) ≡ true
+full_by (Some code) z b l e = refl
+full_by None true true l e = refl
+full_by None true false l e = rw e refl
+full_by None false true l e = refl
+full_by None false false l e = rw e refl
+
+told_by : (h : Option ℕ) (z b l : Bool)
+    → end_by (unwrap_or (stop_is h b) stopped.Limit) l ≡ unwrap_or (end_is h (z && false) b l) Limit
+told_by (Some code) z b l = refl
+told_by None true true l = refl
+told_by None false true l = refl
+told_by None true false true = refl
+told_by None true false false = refl
+told_by None false false true = refl
+told_by None false false false = refl
+
+module _ (a : Addresses) (n : ℕ) (s t : SessionState) where
+  abbrev ends : ℕ → Option End
+  ends = end_at (λ i. false) a s
+
+  taken : (i : ℕ) → (after s.timed i).taken ≡ s.timed.taken + i
+  unfolding after
+  taken i = refl
+
+  none_at : (i : ℕ) → s.timed.taken + i < s.limit → stop_after a (after s.timed i).board i ≡ None → ends i ≡ None
+  unfolding stop_after
+  none_at i room e =
+      let b = (after s.timed i).board in
+      let less : (after s.timed i).taken < s.limit = omega (arith, room, taken i) in
+      none_by (halted_of b) (nat_lt 0 i) (nat_lt 0 i && set.contains a (pc_of b)) _ e (grind (arith, nat_tests, less))
+
+  over_at_stop : (i : ℕ) → is_some (stop_after a (after s.timed i).board i) ≡ true → is_some (ends i) ≡ true
+  unfolding stop_after
+  over_at_stop i e =
+      let b = (after s.timed i).board in
+      stops_by (halted_of b) (nat_lt 0 i) (nat_lt 0 i && set.contains a (pc_of b)) _ e
+
+  over_when_full : (i : ℕ) → s.limit ≤ s.timed.taken + i → is_some (ends i) ≡ true
+  over_when_full i full =
+      let b = (after s.timed i).board in
+      let most : s.limit ≤ (after s.timed i).taken = omega (arith, full, taken i) in
+      full_by (halted_of b) (nat_lt 0 i) (nat_lt 0 i && set.contains a (pc_of b)) _ (grind (arith, nat_tests, most))
+
+  told : (i : ℕ) → end_by (unwrap_or (stop_after a (after s.timed i).board i) stopped.Limit)
+      (nat_lt (after s.timed i).taken s.limit) ≡ unwrap_or (ends i) Limit
+  unfolding stop_after
+  told i =
+      let b = (after s.timed i).board in told_by (halted_of b) (nat_lt 0 i) (nat_lt 0 i && set.contains a (pc_of b)) _
+
+  due_between : (k : ℕ) → t.timed ≡ with_due (after s.timed k) → k ≡ steps_between s.timed t.timed
+  unfolding after with_due
+  due_between k e = omega (arith, ap (λ (u : TimedState). u.taken) e)
+
+  module _ (r : Took a n s t) where
+    going : NoneEnds ends r.count
+    going i l = none_at i (omega (arith, l, r.within)) (r.going i l)
+
+    last_over : r.count < n → is_some (ends r.count) ≡ true
+    last_over l = ⊎_elim
+        (λ less. over_at_stop r.count (ap (λ (u : TimedState). is_some (stop_after a u.board r.count))
+        (sym (ap (λ (u : SessionState). u.timed) r.state)) ∙ r.least less))
+        (λ full. over_when_full r.count (omega (arith, l, full)))
+        (cases_lt r.count (most_of s n))
+
+    steps_are : steps_of ends n ≡ r.count
+    steps_are = ⊎_elim
+        (λ less. over_at ends r.count n (omega (arith, less)) going (last_over less))
+        (λ all.
+        let same : r.count ≡ n = omega (arith, all, r.within) in
+        subst (λ (m : ℕ). steps_of ends m ≡ r.count) same (all_steps ends r.count going))
+        (cases_lt r.count n)
+
+    between : steps_between s.timed t.timed ≡ r.count
+    between =
+        let now = ap (λ (u : SessionState). u.timed.taken) r.state in omega (arith, now, taken r.count)
+
+    end_told : (stop : Stop) → stop ≡ stop_of a s t
+        → end_by stop (nat_lt t.timed.taken t.limit) ≡ unwrap_or (ends r.count) Limit
+    end_told stop e =
+        ap (λ (w : Stop). end_by w (nat_lt t.timed.taken t.limit)) e
+        ∙ (ap (λ (k : ℕ). end_by (unwrap_or (stop_after a t.timed.board k) stopped.Limit) (nat_lt t.timed.taken t.limit)) between
+        ∙ (ap (λ (u : SessionState). end_by (unwrap_or (stop_after a u.timed.board r.count) stopped.Limit)
+        (nat_lt u.timed.taken u.limit)) r.state ∙ told r.count))
+
+    pub took_ran : (stop : Stop) (end : End) → stop ≡ stop_of a s t → end ≡ end_by stop (nat_lt t.timed.taken t.limit)
+        → HasRun ends n s t end
+    took_ran stop end e is = record {
+      state = r.state ∙ ap (λ (k : ℕ). record s { timed = after s.timed k }) (sym steps_are);
+      ended = is ∙ (end_told stop e ∙ ap (λ (k : ℕ). unwrap_or (ends k) Limit) (sym steps_are));
+    }
+
+  refused_ran : WasRefused a n s t → IsRefusedIn ends n s t
+  refused_ran w =
+      let now = ap (λ (u : SessionState). u.timed) w.state in
+      let same : w.count ≡ steps_between s.timed t.timed = due_between w.count now in
+      record {
+        within = subst (λ (m : ℕ). m < steps_of ends n) same
+            (takes_more ends w.count n (omega (arith, w.within))
+            (λ i l. none_at i (omega (arith, l, w.within)) (w.going i (omega (arith, l)))));
+        state = subst (λ (m : ℕ). t ≡ record s { timed = with_due (after s.timed m) }) same w.state;
+        next_writes = w.next_writes;
+      }
+
+  pub not_run : {A : Type 0} (r : Result A NoMemory) → WasRefused a n s t → OnErr r (IsRefusedIn ends n s t)
+  not_run (Ok x) w = tt
+  not_run (Err why) w = refused_ran w

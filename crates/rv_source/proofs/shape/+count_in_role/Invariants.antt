@@ -1,5 +1,0 @@
-use Rattle.std.proofs.Common.{length}
-use Rattle.rv_source.proofs.shape.+count_in_role.Given as goal
-
-abbrev pub decreases-count_in_role : goal.decreases-count_in_role
-decreases-count_in_role l = length l.operands.now

@@ -1,9 +1,0 @@
-use Rattle.std.proofs.Common.{◌≡◌}
-use Rattle.std.specs.Io.KnownBytes.{Keeps}
-use Rattle.rv_texts.proofs.file.FileInTextIn.read.Given as goal
-
-abbrev pub invariant-tries : goal.invariant-tries
-invariant-tries g l = record {
-  kept : Keeps l.fn.self.bytes (g.R.Read.remaining l.self-inside.reader);
-  sound : l.self-inside.has_failed ≡ l.fn.self.has_failed;
-}

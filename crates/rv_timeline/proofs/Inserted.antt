@@ -1,0 +1,45 @@
+-- A list with one input more.
+use Rattle.std.proofs.Common.{rules}
+use Rattle.std.proofs.Common.{◌≡◌, ℕ, zero, suc, ◌<◌, ◌≤◌, Bool, true, List, [], ◌∷◌, length, get_or, take, refl, ap, arith}
+use Rattle.std.proofs.lemmas.Bool.{and_parts, lt-ltb, le-ltb, leb-true}
+use Rattle.std.proofs.lemmas.Bool.Decides.{nat_tests}
+use Rattle.std.specs.Prelude.{nat_le, insert}
+use Rattle.std.specs.List.{list_all}
+use Rattle.rv_timeline.specs.declared.input.TimedInput.{TimedInput}
+use Rattle.rv_timeline.specs.Timed.{never_falls, inserted}
+
+-- ---- the place
+
+-- whether no input is later than a step
+abbrev pub up_to : ℕ → List TimedInput → Bool
+up_to step xs = list_all (λ x. nat_le x.step step) xs
+
+-- in front of the first later input, or at the end
+placed : (xs : List TimedInput) (n : ℕ) (x d : TimedInput) → n ≤ length xs → up_to x.step (take n xs) ≡ true
+    → (n < length xs → x.step < (get_or xs n d).step) → inserted xs x ≡ insert xs n x
+unfolding inserted
+placed [] zero x d w h later = refl
+placed [] (suc n) x d w h later = absurd (omega arith)
+placed (y ∷ ys) zero x d w h later = rw (lt-ltb x.step y.step (later (omega arith))) refl
+placed (y ∷ ys) (suc n) x d w h later =
+    let p = and_parts _ _ h in
+    rw (le-ltb x.step y.step (leb-true y.step x.step p.0))
+    (ap (λ zs. y ∷ zs) (placed ys n x d (omega arith) p.1 (λ l. later (omega arith))))
+
+pub at_later : (xs : List TimedInput) (n step : ℕ) (x y d : TimedInput) → n < length xs
+    → up_to step (take n xs) ≡ true → y ≡ get_or xs n d → step < y.step → x.step ≡ step
+    → inserted xs x ≡ insert xs n x
+at_later xs n step x y d w h at later is = search (rules, placed)
+
+pub at_end : (xs : List TimedInput) (n step : ℕ) (x : TimedInput) → length xs ≤ n → n ≤ length xs
+    → up_to step (take n xs) ≡ true → x.step ≡ step → inserted xs x ≡ insert xs n x
+at_end xs n step x w v h is = placed xs n x x v (rw is h) (λ l. absurd (omega arith))
+
+-- ---- the steps never fall
+
+pub rises : (xs : List TimedInput) (x : TimedInput) → never_falls xs ≡ true → never_falls (inserted xs x) ≡ true
+unfolding never_falls inserted
+rises [] x h = refl
+rises (y ∷ []) x h = grind (arith, nat_tests)
+rises (y ∷ z ∷ zs) x h =
+    let more = rises (z ∷ zs) x (and_parts _ _ h).1 in grind (arith, nat_tests)

@@ -1,0 +1,42 @@
+use Rattle.std.proofs.Common.{◌≡◌, ◌∙◌, ◌∷◌, ◌++◌, ℕ, List, [], sym, refl}
+use Rattle.std.specs.Prelude.{Some}
+use Rattle.rv_timeline.specs.declared.input.Input.TheVariants.{Rx}
+use Rattle.rv_timeline.specs.declared.input.TimedInput.{TimedInput}
+use Rattle.rv_base.specs.Words.{words}
+use Rattle.rv_timeline.proofs.Inputs.{received_all, received_none, received_more, received_bad, received_end}
+use Rattle.rv_timeline.proofs.reader.read_bytes.Goals as goal
+
+same : (before after : List TimedInput) (step b : ℕ)
+    → Some (before ++ record { step = step; input = Rx b } ∷ []) ≡ Some after
+    → after ≡ before ++ record { step = step; input = Rx b } ∷ []
+same before after step b e = cc
+
+pub returns-then-not-has_word : goal.returns-then-not-has_word
+returns-then-not-has_word c =
+    rw (received_none (words c.args.text.now) (sym c.has_word.ensures ∙ c.if-not-has_word.true)) refl
+
+pub loop-word-init : goal.loop-word-init
+loop-word-init c =
+    rw (received_all (words c.args.text.now) (sym c.has_word.ensures ∙ c.if-not-has_word.false)) refl
+
+pub returns-in_default-hex_byte : goal.returns-in_default-hex_byte
+returns-in_default-hex_byte c =
+    sym c.loop-word.invariant
+    ∙ received_bad c.loop-word.out.items c.args.step c.in-Some.word.now (words c.in-Some.more.now)
+    (words c.loop-word.rest.now) c.in-Some.ensures.value
+    (sym c.hex_byte.ensures ∙ c.in_default-hex_byte.is)
+
+pub loop-word-preserved : goal.loop-word-preserved
+loop-word-preserved c =
+    rw (same c.loop-word.out.items c.append.new.out.items c.args.step c.in-Some-hex_byte.byte
+    c.in_ok-append.ensures)
+    (received_more c.loop-word.out.items c.args.step c.in-Some-hex_byte.byte c.in-Some.word.now
+    (words c.in-Some.more.now) (words c.loop-word.rest.now) c.in-Some.ensures.value
+    (sym c.hex_byte.ensures ∙ c.in-Some-hex_byte.is)
+    ∙ c.loop-word.invariant)
+
+pub returns : goal.returns
+returns c =
+    sym c.loop-word.invariant
+    ∙ received_end c.loop-word.out.items c.args.step
+    (words c.loop-word.rest.now) c.in_default.ensures.value

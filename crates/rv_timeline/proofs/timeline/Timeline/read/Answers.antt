@@ -1,0 +1,51 @@
+use Rattle.std.proofs.Common.{◌≡◌, ◌∙◌, ◌∷◌, length, ap, arith}
+use Rattle.rv_base.specs.Lines.{lines}
+use Rattle.rv_timeline.proofs.Whole.{begun, rising, read_more, refused, read_all}
+use Rattle.rv_timeline.proofs.StepSizes.{steps_small}
+use Rattle.rv_timeline.proofs.timeline.Timeline.read.Goals as goal
+
+pub loop-line-init : goal.loop-line-init
+loop-line-init c =
+    let all : c.into_iter-line-iterator.result ≡ lines c.args.text.now =
+    c.into_iter-line-iterator.ensures.into_iter_gives ∙ c.cut_lines-line-items.ensures.cut in
+    record {
+      can_next = tt;
+      is_finite = tt;
+      so_far = rw (all, c.new-inputs.ensures.items) (begun (lines c.args.text.now));
+      counted =
+          omega (
+            arith,
+            ap length c.into_iter-line-iterator.ensures.into_iter_gives,
+            c.cut_lines-line-items.ensures.within,
+          );
+    }
+
+pub read_line-requires : goal.read_line-requires
+read_line-requires c = rising _ _ c.loop-line.invariant.so_far.inputs_are
+
+pub loop-line-preserved : goal.loop-line-preserved
+loop-line-preserved c =
+    let cut : c.loop-line.line-iterator ≡ c.in-Some.line.now ∷ c.next.new.self = c.in-Some.ensures.steps in
+    record {
+      can_next = tt;
+      is_finite = tt;
+      so_far =
+          read_more _ _ _ _ c.loop-line.invariant.so_far c.in-Some.line.now c.next.new.self cut
+          c.read_line.new.out.items c.in-Ok.ensures;
+      counted = omega (arith, c.loop-line.invariant.counted, ap length cut);
+    }
+
+pub returns-in-Err-BadLine-clause-list : goal.returns-in-Err-BadLine-clause-list
+returns-in-Err-BadLine-clause-list c =
+    refused _ _ _ _ c.loop-line.invariant.so_far c.in-Some.line.now c.next.new.self c.in-Some.ensures.steps
+    (rw c.in-Err-BadLine.field-0-is at c.in-Err-BadLine.ensures) _ (omega arith)
+
+pub invariant_of-result : goal.invariant_of-result
+invariant_of-result c = rising _ _ c.loop-line.invariant.so_far.inputs_are
+
+pub returns-clause-list : goal.returns-clause-list
+returns-clause-list c = read_all _ _ _ _ c.loop-line.invariant.so_far c.in-None.ensures.steps.0
+
+pub returns-clause-steps : goal.returns-clause-steps
+returns-clause-steps c =
+    steps_small _ _ (read_all _ _ _ _ c.loop-line.invariant.so_far c.in-None.ensures.steps.0)

@@ -1,0 +1,31 @@
+use Rattle.std.proofs.Common.{◌≡◌, ◌∙◌, ◌<◌, length, take, refl, rules}
+use Rattle.std.proofs.lemmas.List.{take_all}
+use Rattle.std.proofs.lemmas.Bool.{and_from}
+use Rattle.std.proofs.lemmas.List.Folds.{list_all_more}
+use Rattle.rv_timeline.specs.Support.Reading.{is_input}
+use Rattle.rv_timeline.specs.Text.{list_text}
+use Rattle.rv_timeline.proofs.Texts.{line_more, reads}
+use Rattle.rv_timeline.proofs.writer.list_text.Goals as goal
+
+pub loop-timed-init : goal.loop-timed-init
+unfolding list_text
+loop-timed-init c = record { text = c.new-text.ensures.items; ranges = refl }
+
+pub loop-timed-preserved : goal.loop-timed-preserved
+loop-timed-preserved c =
+    let within : c.loop-timed.timed-index < length c.args.inputs.now = search rules in
+    record {
+      text = line_more c.args.inputs.now c.loop-timed.timed-index c.timed-item.result
+          c.loop-timed.text.items c.append_line.new.text.items within c.timed-item.is
+          c.loop-timed.invariant.text c.in_ok-append_line.ensures.text;
+      ranges = list_all_more (λ x. is_input x.input) c.args.inputs.now c.loop-timed.timed-index
+          c.timed-item.result within
+          ∙ and_from _ _ c.loop-timed.invariant.ranges (rw (← c.timed-item.is) c.in_ok-append_line.ensures.range);
+    }
+
+pub returns-clause-read : goal.returns-clause-read
+returns-clause-read c rising small =
+    let all : take c.loop-timed.timed-index c.args.inputs.now ≡ c.args.inputs.now =
+    take_all c.loop-timed.timed-index c.args.inputs.now c.loop-timed-test.false in
+    reads c.args.inputs.now c.loop-timed.text.items (rw all at c.loop-timed.invariant.text)
+    (rw all at c.loop-timed.invariant.ranges) rising small

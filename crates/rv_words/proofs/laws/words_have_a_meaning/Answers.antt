@@ -1,5 +1,0 @@
-use Rattle.rv_words.proofs.BoardParse.{board_free}
-use Rattle.rv_words.proofs.laws.words_have_a_meaning.Goals as goal
-
-pub returns : goal.returns
-returns c = board_free

@@ -1,0 +1,157 @@
+// Memory, which scrolls from its first byte to its last, and the stack.
+import { $, field } from "./dom.mjs";
+import { lookMemory } from "./lab.mjs";
+import { escaped } from "./language.mjs";
+import { MEMORY } from "./protection.mjs";
+import { state } from "./state.mjs";
+import { hex8, table, textOf } from "./views.mjs";
+
+const ROW = 16; // bytes of a row
+const LEAST_ROWS = 8;
+const STACK = 256; // bytes of the stack that are shown
+
+export const MEMORY_HTML = `<p class="bar"><label>From <input id="memory-where" value="0x80000000" size="12"></label>
+    <button id="memory-earlier" aria-label="Earlier memory">Earlier</button>
+    <button id="memory-later" aria-label="Later memory">Later</button>
+    <label><input id="memory-words" type="checkbox"> as words</label>
+    <span class="hint">sp or another register, a name, a line, 0x and a number, each with +N</span></p>
+    <div id="memory-rows" tabindex="0" aria-label="Memory" role="group">
+    <div class="shown"></div><div class="space" aria-hidden="true"></div></div>`;
+
+/** The bytes of the memory that the present program has. */
+const size = () => state.pages * 4096;
+
+/** The height of a row, and how many rows are in sight. */
+function rowsInSight() {
+    const box = $("memory-rows"), row = box.querySelector("tbody tr"), head = box.querySelector("thead");
+    const height = row?.getBoundingClientRect().height || 18;
+    const room = box.clientHeight - 2 * (head?.getBoundingClientRect().height ?? height);
+    return { height, count: Math.max(LEAST_ROWS, Math.floor(room / height)) };
+}
+
+/** What the tab of the memory asks: as many rows as are in sight, from what stands in its field. */
+export const askMemory = () => lookMemory(field("memory-where").value.trim() || "sp", rowsInSight().count * ROW);
+
+/**
+ * Names of what points into a row.
+ * @param {number} first
+ * @param {Label[]} pointers
+ */
+function marksAt(first, pointers, length = ROW) {
+    const here = pointers.filter(({ at }) => first <= at && at < first + length);
+    return here.map(({ name, at }) => (at > first ? `${name} +${at - first}` : name)).join(", ");
+}
+
+/** Where the stack and pc are, and the labels. */
+function pointersOf({ board, labels } = state) {
+    const frame = board.registers.filter(({ name }) => name === "sp" || name === "s0");
+    const stack = frame.map(({ name, value }) => ({ name: `◀ ${name}`, at: value }));
+    return [...stack, { name: "◀ pc", at: board.pc }, ...labels];
+}
+
+/** @param {number | undefined} byte */
+const byteText = (byte) => byte?.toString(16).padStart(2, "0") ?? "--";
+
+/** @param {(number | undefined)[]} bytes */
+function wordsOf(bytes) {
+    const starts = Array.from({ length: Math.ceil(bytes.length / 4) }, (_, i) => 4 * i);
+    return starts.map((at) => bytes.slice(at, at + 4).reverse().map(byteText).join(""));
+}
+
+/**
+ * The rows of a part of memory.
+ * @param {Memory} memory
+ */
+function rowsOf({ at, bytes }) {
+    const isWords = field("memory-words").checked, pointers = pointersOf();
+    const starts = Array.from({ length: Math.ceil(bytes.length / ROW) }, (_, i) => ROW * i);
+    const isThere = (/** @type {number} */ start) => start === 0 || at < MEMORY || at + start < MEMORY + size();
+    const rows = starts.filter(isThere).map((start) => {
+        const part = bytes.slice(start, start + ROW), first = at + start;
+        const shown = isWords ? wordsOf(part).join(" ") : part.map(byteText).join(" ");
+        return [hex8(first), shown, escaped(textOf(part)), escaped(marksAt(first, pointers))];
+    });
+    const attributes = rows.map(([, , , marks]) => `class="${/◀/.test(marks) ? "pointed" : ""}" title="${marks}"`);
+    return table("Memory", ["Address", isWords ? "Words" : "Bytes", "Text", "Here"], rows, attributes);
+}
+
+/**
+ * Shows a part of memory, and where it is in all of it.
+ * @param {HTMLElement} panel
+ * @param {Memory} memory
+ */
+export function showMemory(panel, memory) {
+    const shown = /** @type {HTMLElement} */ (panel.querySelector(".shown"));
+    const space = /** @type {HTMLElement} */ (panel.querySelector(".space"));
+    shown.innerHTML = memory.refused ? `<p>${escaped(memory.refused)}</p>` : rowsOf(memory);
+    const { at, bytes } = memory, isInside = MEMORY <= at && at < MEMORY + size();
+    const { height } = rowsInSight(), above = Math.floor((at - MEMORY) / ROW);
+    $("memory-rows").dataset.first = isInside ? String(above) : "";
+    $("memory-rows").dataset.odd = String(at % ROW);
+    $("memory-rows").dataset.count = String(Math.ceil(bytes.length / ROW));
+    space.style.height = isInside ? `${(size() / ROW) * height}px` : "0";
+    if (isInside) $("memory-rows").scrollTop = above * height;
+}
+
+/**
+ * Begins the memory: `onChange` is called when another part is to be shown.
+ * @param {() => void} onChange
+ */
+export function makeMemory(onChange) {
+    const box = $("memory-rows");
+    const scrollTo = (/** @type {number} */ row) => {
+        const last = size() / ROW - 1, to = Math.min(last, Math.max(0, row));
+        field("memory-where").value = `0x${hex8(MEMORY + ROW * to + Number(box.dataset.odd))}`;
+        onChange();
+    };
+    for (const id of ["memory-where", "memory-words"]) $(id).addEventListener("change", onChange);
+    const turnPage = (/** @type {1 | -1} */ sign) => {
+        const { first, count } = box.dataset;
+        if (first) scrollTo(Number(first) + sign * Number(count));
+    };
+    $("memory-earlier").addEventListener("click", () => turnPage(-1));
+    $("memory-later").addEventListener("click", () => turnPage(1));
+    box.addEventListener("scroll", () => {
+        const row = Math.round(box.scrollTop / rowsInSight().height);
+        if (box.dataset.first && row !== Number(box.dataset.first)) scrollTo(row);
+    });
+    new ResizeObserver(() => {
+        const isShort = rowsInSight().count > Number(box.dataset.count);
+        if (box.checkVisibility() && box.dataset.first && isShort) onChange();
+    }).observe(box);
+}
+
+// ---- The stack
+
+export const askStack = () => lookMemory("sp", STACK);
+
+/**
+ * What a word of the stack may be: the place after a line of the program, which a call has kept.
+ * @param {string} word
+ */
+function placeOf(word) {
+    const at = parseInt(word, 16), row = state.board.listing.find(({ address }) => address === at);
+    return row ? `line ${row.number}: ${row.text.trim()}` : "";
+}
+
+/**
+ * Shows the words of the stack from sp on.
+ * @param {HTMLElement} panel
+ * @param {Memory} memory
+ */
+export function showStack(panel, { at, bytes, refused }) {
+    const pointers = pointersOf().filter(({ name }) => name.startsWith("◀")), words = wordsOf(bytes);
+    const there = words.slice(0, Math.max(0, words.findIndex((it) => it.includes("-"))) || words.length);
+    if (refused || bytes[0] === undefined) {
+        const none = `sp is ${hex8(at)}, where no memory is: the program has no stack yet.`;
+        panel.innerHTML = `<p>${escaped(refused) || none}</p>`;
+        return;
+    }
+    const rows = there.map((word, i) => {
+        const offset = `sp + ${4 * i}`, value = `${parseInt(word, 16) | 0}`;
+        return [hex8(at + 4 * i), offset, word, value, escaped(placeOf(word)), marksAt(at + 4 * i, pointers, 4)];
+    });
+    const heads = ["Address", "Place", "Word", "Signed", "An instruction's address", "Here"];
+    const attributes = rows.map(([, , , , , marks]) => (marks ? 'class="pointed"' : ""));
+    panel.innerHTML = table("The stack, from its top on", heads, rows, attributes);
+}

@@ -1,0 +1,291 @@
+// node web/tests/looks.mjs PROGRAM: what the page looks like and what is seen at once: panes that can be resized, formats
+// of registers, memory, the stack, what is known of a line, the search, the words, a phone, and a print.
+import fs from "node:fs";
+import { fieldsOf, offersFor, statementWord } from "../reference.mjs";
+import { check, contains, same } from "./checks.mjs";
+import { openPage } from "./chromium.mjs";
+import { choose, lab, learn, open, page, press, quoted, sourceOf, url } from "./user.mjs";
+
+const element = (id) => `document.getElementById(${quoted(id)})`;
+const boxOf = `(({ x, y, width, height }) => ({ x, y, width, height }))`;
+const box = (id) => page.run(`${boxOf}(${element(id)}.getBoundingClientRect())`);
+const settle = () => new Promise((done) => setTimeout(done, 100));
+
+// Draws with the mouse from the middle of an element.
+async function drag(id, right, down) {
+    const { x, y, width, height } = await box(id), from = { x: x + width / 2, y: y + height / 2 };
+    const held = { button: "left", clickCount: 1, buttons: 1 };
+    const mouse = (type, at) => page.call("Input.dispatchMouseEvent", { type, ...at, ...held });
+    await mouse("mousePressed", from);
+    await mouse("mouseMoved", { x: from.x + right, y: from.y + down });
+    await mouse("mouseReleased", { x: from.x + right, y: from.y + down });
+}
+
+const near = (a, b) => Math.abs(a - b) < 8;
+
+async function panes() {
+    const before = await box("source");
+    await drag("split-source", 120, 0);
+    const after = await box("source");
+    check("the source is made wider by the line beside it", near(after.width, before.width + 120), after.width);
+    const console_ = await box("console");
+    await drag("split-console", 0, -60);
+    check("and the console higher", near((await box("console")).height, console_.height + 60));
+    const width = `document.documentElement.style.getPropertyValue("--source-width")`, wide = await page.run(width);
+    await drag("split-console", 0, 60);
+    await drag("split-answer", 0, -20);
+    const answer = await box("answer");
+    await page.reload();
+    same("their sizes are remembered", await page.run(width), wide);
+    check("each of them", near((await box("answer")).height, answer.height));
+    await page.run(`${element("split-source")}.focus()`);
+    await page.press("ArrowRight");
+    check("an arrow moves the line, too", (await box("source")).width > after.width + 5);
+    const value = Number(await page.run(`${element("split-source")}.getAttribute("aria-valuenow")`));
+    check("and a screen reader gets its place", value >= 20 && value <= 70, value);
+    await page.run(`for (const it of document.querySelectorAll(".split")) it.dispatchEvent(new MouseEvent("dblclick"))`);
+    same("a double click sets it back", (await box("source")).width, before.width);
+}
+
+async function controls() {
+    const colour = (id) => page.run(`getComputedStyle(${element(id)}).backgroundColor`);
+    await choose("hello");
+    const [run, step, pause] = [await colour("run"), await colour("step"), await colour("pause")];
+    check("Run is the primary control", run !== step && run !== pause, [run, step, pause].join(" "));
+    await open("again:  j again\n");
+    await page.alt("R");
+    await page.until(`!${element("progress")}.hidden`);
+    check("and Pause while the board runs", (await colour("pause")) === run && (await colour("run")) !== run);
+    await press("P", "paused");
+    const wrong = await page.run(`[...document.querySelectorAll("#controls button")]
+        .filter((it) => !it.querySelector("svg[aria-hidden]") || !it.title.includes("Alt+")).map((it) => it.id).join()`);
+    same("each control has an icon, and words with its key", wrong, "");
+    check("they stand in groups", (await page.run(`document.querySelectorAll("#controls .group").length`)) >= 4);
+}
+
+const register = (name) => page.run(`[...document.querySelectorAll("#registers li")]
+    .find((it) => it.querySelector("b").textContent === ${quoted(name)}).textContent.replace(/\\s+/g, " ").trim()`);
+
+async function formats() {
+    await open("        li a0,-2\n        li a1,65\n        nop\n");
+    await lab("s 2", "stopped after");
+    const tried = [["hexadecimal", "a0 fffffffe", "a1 00000041"], ["signed", "a0 -2", "a1 65"]];
+    tried.push(["unsigned", "a0 4294967294", "a1 65"], ["characters", 'a0 "...."', "a1 'A'"]);
+    tried.push(["binary", "a0 11111111 11111111 11111111 11111110", "a1 00000000 00000000 00000000 01000001"]);
+    for (const [format, a0, a1] of tried) {
+        await page.run(`{
+            ${element("format")}.value = ${quoted(format)};
+            ${element("format")}.dispatchEvent(new Event("change"));
+        }`);
+        const got = [await register("a0"), await register("a1")].map((it) => it.replace("*changed", "").trim());
+        same(`registers are shown as ${format}`, got.join(), [a0, a1].join());
+    }
+    await page.reload();
+    same("the format is remembered", await page.run(`${element("format")}.value`), "binary");
+    await page.run(`{
+        ${element("format")}.value = "hex and signed";
+        ${element("format")}.dispatchEvent(new Event("change"));
+    }`);
+    const title = await page.run(`document.querySelector("#registers li:nth-child(11)").title`);
+    const titles = title.split("\n").map((line) => line.split(" ")[0]).join();
+    same("and all formats stand in a register's title", titles, "a0,hexadecimal,signed,unsigned,characters,binary");
+}
+
+const showFrom = (where) => page.run(`{
+    ${element("memory-where")}.value = ${quoted(where)};
+    ${element("memory-where")}.dispatchEvent(new Event("change"));
+}`);
+const rows = () => page.run(`[...document.querySelectorAll("#panel-memory tbody tr")].map((it) => it.innerText)`);
+
+async function memory() {
+    await choose("recursion");
+    await lab("until print", "stopped after");
+    await lab("s 2", "stopped after");
+    await page.click("#tab-memory");
+    await page.until(`document.querySelectorAll("#panel-memory tbody tr").length > 0`);
+    const { height } = await box("memory-rows");
+    const row = await page.run(`document.querySelector("#panel-memory tbody tr").getBoundingClientRect().height`);
+    const filled = (await rows()).length * row;
+    check("memory fills its pane", filled > height - 4 * row && filled <= height, `${filled} of ${height}`);
+    await page.run(`${element("memory-rows")}.scrollTop = 1000 * ${row}`);
+    await page.until(`document.querySelector("#panel-memory td").textContent === "80003e80"`);
+    check("it scrolls to what is far", true);
+    const most = `${element("memory-rows")}.scrollTop = ${element("memory-rows")}.scrollHeight`;
+    await page.run(most);
+    await page.until(`[...document.querySelectorAll("#panel-memory tbody tr")].at(-1).innerText.startsWith("800ffff0")`);
+    check("and to its last byte", true);
+    const width = `(({ scrollWidth, clientWidth }) => scrollWidth <= clientWidth)(${element("memory-rows")})`;
+    check("at 1280 its rows aren't cut", await page.run(width));
+    for (const name of ["pc", "sp"]) {
+        await showFrom(name);
+        await page.until(`document.querySelector("#panel-memory tbody tr").innerText.includes("◀ ${name}")`);
+        check(`${name} is marked`, true);
+    }
+    await press("S", "step");
+    contains("and stays so after a step", (await rows())[0], /◀ sp/);
+    await showFrom("0x10000000");
+    await page.until(`document.querySelector("#panel-memory td")?.textContent === "10000000"`);
+    contains("where no memory is, none is shown", (await rows())[0], /-- -- --/);
+}
+
+async function stack() {
+    await choose("recursion");
+    await lab("until print", "stopped after");
+    await lab("s 2", "stopped after");
+    await page.click("#tab-stack");
+    await page.until(`document.querySelector("#panel-stack tbody tr")`);
+    const first = await page.run(`document.querySelector("#panel-stack tbody tr").innerText`);
+    contains("the stack begins at sp", first, /sp \+ 0\s.*◀ sp/);
+    const line = sourceOf("recursion").split("\n").findIndex((it) => it.includes("call    print")) + 2;
+    contains("and says where a call came from", await page.text("#panel-stack"), new RegExp(`line ${line}: `));
+    await page.click("#tab-control");
+}
+
+// The fields and the immediate of a word, without a browser.
+const fields = (word) => {
+    const { parts, immediate } = fieldsOf(word);
+    return [...parts.map(({ name, value }) => `${name} ${value}`), immediate].join();
+};
+
+async function decoded() {
+    same("the fields of add", fields(0x00750533), "funct7 0,rs2 7,rs1 10,funct3 0,rd 10,opcode 51,");
+    same("of a load", fields(0xffc12503), "imm[11:0] 4092,rs1 2,funct3 2,rd 10,opcode 3,-4");
+    same("of a store", fields(0xfe112e23).split(",").at(-1), "-4");
+    same("of a branch", fields(0xfe051ee3).split(",").at(-1), "-4");
+    same("of a jump", fields(0xffdff06f).split(",").at(-1), "-4");
+    same("of lui", fields(0x123457b7), "imm[31:12] 74565,rd 15,opcode 55,74565");
+    same("of a shift", fields(0x40255513).split(",").slice(0, 2).join(), "funct7 32,shamt 2");
+    same("of csrrwi", fields(0x30045073).split(",").slice(0, 2).join(), "csr 768,uimm 8");
+    same("what is no instruction has none", fields(0xffffffff), "");
+    const tried = [["x: y: add a0,a0,a1", "add"], ["add:", ""], ["  .word 1", ".word"], ["# nop", ""], ["1: j 1b", "j"]];
+    for (const [line, word] of tried) same(`the word of ${line}`, statementWord(line), word);
+}
+
+async function hint() {
+    await choose("hello");
+    const line = sourceOf("hello").split("\n").findIndex((it) => /\bsw\b/.test(it)) + 1;
+    const shown = `document.querySelectorAll("#colours > div")[${line - 1}]`;
+    const { x, y, height } = await page.run(`${boxOf}(${shown}.getBoundingClientRect())`);
+    await page.call("Input.dispatchMouseEvent", { type: "mouseMoved", x: x + 90, y: y + height / 2 });
+    await page.until(`!${element("hint")}.hidden`);
+    const text = await page.run(`${element("hint")}.innerText`);
+    const got = text.split(/\s+/).join(" ");
+    contains("a pointer that rests on an instruction gets its fields", got, /imm\[11:5\] rs2 rs1 funct3 imm\[4:0\] opcode/);
+    contains("with their bits", got, /0000000 01010 00101 010 00000 0100011/);
+    contains("and the line of the reference", text, /sb sh sw · rs2,m/);
+    await page.press("Escape");
+    check("Escape takes it away", await page.run(`${element("hint")}.hidden`));
+    await page.run(`${element("tab-instruction")}.click()`);
+    await page.until(`document.getElementById("panel-instruction").textContent.includes("opcode")`);
+    contains("the instruction at pc has a tab", await page.text("#panel-instruction"), /lui · rd,u/);
+    await page.run(`${element("tab-control")}.click()`);
+}
+
+async function key(name, code, modifiers, windowsVirtualKeyCode) {
+    const words = { key: name, code, modifiers, windowsVirtualKeyCode };
+    await page.call("Input.dispatchKeyEvent", { type: "rawKeyDown", ...words });
+    await page.call("Input.dispatchKeyEvent", { type: "keyUp", ...words });
+}
+
+const selected = () => page.run(`(({ value, selectionStart, selectionEnd }) => value.slice(selectionStart, selectionEnd))(
+    ${element("text")})`);
+const caret = () => page.run(`${element("text")}.selectionStart`);
+
+async function search() {
+    await choose("hello");
+    await page.run(`${element("text")}.focus()`);
+    await page.run(`${element("text")}.setSelectionRange(0, 0)`);
+    await key("f", "KeyF", 2, 70);
+    await page.type("SW");
+    const source = sourceOf("hello"), first = source.indexOf("sw"), second = source.indexOf("sw", first + 1);
+    same("Control+F searches as one types, whatever the case", `${await selected()} ${await caret()}`, `sw ${first}`);
+    same("all places are counted", await page.text("#find-count"), "1 of 2");
+    same("and marked", await page.run(`document.querySelectorAll("#colours mark").length`), 2);
+    await page.press("Enter");
+    same("Enter goes on", await caret(), second);
+    await page.press("Enter");
+    same("and round", await caret(), first);
+    await page.press("Escape");
+    same("Escape ends it in the source", await page.run("document.activeElement.id"), "text");
+    same("without marks", await page.run(`document.querySelectorAll("#colours mark").length`), 0);
+}
+
+async function words() {
+    const offers = (line) => offersFor(line, ["t0", "t1", "sp"], ["table", "text"]).offered.join();
+    same("registers and labels are offered as operands", offers("x:  lw t0,t"), "t0,t1,table,text");
+    same("none in a comment", offers("        nop # t"), "");
+    await open("table:  .word 1\n        \n");
+    await page.run(`${element("text")}.focus()`);
+    await page.run(`${element("text")}.setSelectionRange(24, 24)`);
+    await page.type("csrr");
+    await key(" ", "Space", 2, 32);
+    await page.until(`!${element("words")}.hidden`);
+    const offered = await page.run(`[...document.querySelectorAll("#words li")].map((it) => it.textContent).join()`);
+    same("Control and the space bar offer words", offered, "csrrc,csrrci,csrrs,csrrsi,csrrw,csrrwi");
+    await page.press("ArrowDown");
+    const chosen = `document.getElementById(${element("text")}.getAttribute("aria-activedescendant")).textContent`;
+    same("a screen reader gets the chosen one", await page.run(chosen), "csrrci");
+    await page.press("Enter");
+    same("Enter takes it", await page.run(`${element("text")}.value`), "table:  .word 1\n        csrrci\n");
+    await page.type(" t0,ta");
+    await key(" ", "Space", 2, 32);
+    const value = await page.run(`${element("text")}.value`);
+    same("a word that alone fits is put in", value, "table:  .word 1\n        csrrci t0,table\n");
+}
+
+// What the page does at each key in a source of 100,000 lines. What the browser's text area takes for it comes before.
+async function latency() {
+    const line = "        addi t0,t0,1            # a line as others are\n";
+    await page.run(`void (${element("text")}.value = ${quoted(line)}.repeat(100000))`);
+    await page.until(`${element("text")}.scrollHeight > 1e6`, 4);
+    const times = await page.run(`(() => {
+        const text = ${element("text")}, times = Array.from({ length: 7 }, () => {
+            const began = performance.now();
+            text.dispatchEvent(new Event("input"));
+            return performance.now() - began;
+        });
+        text.value = "        nop\\n"; // so that the long source isn't assembled
+        text.dispatchEvent(new Event("input"));
+        return times.sort((a, b) => a - b);
+    })()`);
+    check(`at a key in 100,000 lines the page takes ${Math.round(times[0])} ms`, times[0] < 50, times.join(" "));
+}
+
+const phone = { width: 390, height: 844 };
+
+async function onPhone() {
+    const small = await openPage(url, phone), run = small.run;
+    await small.ready();
+    const parts = `["step", "editor", "registers"].map((id) => document.getElementById(id).getBoundingClientRect())`;
+    const last = await run(`Math.max(...${parts}.map(({ bottom }) => bottom))`);
+    check(`on a phone Step, the source and the registers are in one view, of ${Math.round(last)} pixels`, last <= 664, last);
+    const rights = await run(`[...document.querySelectorAll("#registers li")].map((it) => it.getBoundingClientRect().right)`);
+    same("with all registers", rights.filter((it) => it <= phone.width).length, 32);
+    same("nothing is cut at the side", await run("document.documentElement.scrollWidth <= innerWidth"), true);
+    const all = `[...document.querySelectorAll("button, select, input, textarea")].filter((it) => it.checkVisibility())`;
+    const low = `${all}.filter((it) => it.type !== "checkbox" && it.getBoundingClientRect().height < 43.5).map((it) => it.id)`;
+    same("what is touched is 44 pixels high", (await run(low)).join(), "");
+    const fields = `${all}.filter((it) => it.matches("input, select, textarea"))`;
+    const tiny = await run(`${fields}.filter((it) => parseFloat(getComputedStyle(it).fontSize) < 16).map((it) => it.id)`);
+    same("and what is typed in has letters of 16", tiny.join(), "");
+    same("without an error", small.errors.join(), "");
+    await small.close();
+}
+
+async function print() {
+    await open("        nop\n".repeat(400));
+    await page.run(`${element("panels")}.scrollTop; dispatchEvent(new Event("beforeprint"))`);
+    await page.call("Emulation.setEmulatedMedia", { media: "print" });
+    await settle();
+    same("a print has all lines", await page.run(`document.querySelectorAll("#colours > div").length`), 401);
+    const shown = `["controls", "load", "ask", "tabs"].filter((id) => document.getElementById(id).checkVisibility())`;
+    same("and no controls", (await page.run(shown)).join(), "");
+    const { data } = await page.call("Page.printToPDF", {});
+    const count = Buffer.from(data, "base64").toString("latin1").match(/\/Type\s*\/Page\b/g).length;
+    check(`on ${count} pages`, count > 4 && count < 40);
+    await page.call("Emulation.setEmulatedMedia", { media: "" });
+    await page.run(`dispatchEvent(new Event("afterprint"))`);
+    check("after it the lines in sight", (await page.run(`document.querySelectorAll("#colours > div").length`)) < 200);
+}
+
+await learn(panes, controls, formats, memory, stack, decoded, hint, search, words, onPhone, print, latency);
