@@ -1,13 +1,15 @@
 //! Rows and the answers that they must have.
 use crate::report::{Count, Report};
 use crate::row::{Row, first_row};
-use crate::{boards, image, runs};
+use crate::{boards, image, runs, sentences};
 use rv_base::NoMemory;
 use std::alloc::Global;
 
 /// Appends a row with its answers, or why there are none.
 fn answer(alloc: Global, row: Row<'_>, text: &mut Vec<u8>) -> Result<(), NoMemory> {
-    if row.has(b'=') {
+    if row.has(b'~') {
+        sentences::answer(alloc, row, text)
+    } else if row.has(b'=') {
         boards::answer(alloc, row, text)
     } else if row.has(b'%') {
         image::answer(alloc, row, text)

@@ -1,6 +1,8 @@
-//! Rows: small sources with timed inputs and commands, and what boards and whole runs have to answer to them.
+//! Rows: small sources with timed inputs and commands, and what boards and whole runs have to answer to them; and
+//! faulty sources, and what has to be said of them.
 //!
-//! Each argument names a file of rows; those in `data/` hold them by topic. The program answers each row anew
+//! Each argument names a file of rows; those in `data/` hold them by topic. Two arguments ask for checks that have
+//! no rows: `--hostile` and `--isolation`. The program answers each row anew
 //! and compares: it prints the first line of each row that gets another answer, and counts the rows. After
 //! the argument `--answers` it prints the rows with the answers that they get instead.
 //!
@@ -21,6 +23,8 @@
 //! - `& NAME`: asks for the value of a name
 //! - `$ STEPS PAGES SLOTS`: asks for a whole run with these options: what it prints, the line of its fault,
 //!   its status
+//! - `~ diagnoses`, `~ report`: asks for the diagnoses of the source, each with its place (`= LINE:COLUMN+LENGTH`),
+//!   its number and its sentence, and its advice after `+ `; or for the lines of their report, each after `> `
 //!
 //! The answer follows the line that asks.
 #![tactic(auto)]
@@ -29,10 +33,13 @@ mod boards;
 mod calls;
 mod check;
 mod devices;
+mod hostile;
 mod image;
+mod isolation;
 mod report;
 mod row;
 mod runs;
+mod sentences;
 
 use crate::check::check_rows;
 use crate::report::{Count, Report};
@@ -53,11 +60,24 @@ fn check_file(rt: &HostRuntime, name: &str, report: &mut Report) -> io::Result<C
     Ok(count)
 }
 
-/// Checks the rows of all files, and counts them.
-fn check_files(rt: &HostRuntime, names: &[String], report: &mut Report) -> io::Result<Count> {
+/// Does what an argument asks for, and counts the rows.
+fn check_argument(rt: &HostRuntime, word: &str, report: &mut Report) -> io::Result<Count> {
+    if word == "--hostile" {
+        hostile::print_answers(rt);
+        return Ok(Count::NONE);
+    }
+    if word == "--isolation" {
+        isolation::print_check(rt);
+        return Ok(Count::NONE);
+    }
+    check_file(rt, word, report)
+}
+
+/// Does what the arguments ask for, and counts the rows of all files.
+fn check_arguments(rt: &HostRuntime, words: &[String], report: &mut Report) -> io::Result<Count> {
     let mut all = Count::NONE;
-    for name in names {
-        all = all.plus(check_file(rt, name.as_str(), report)?);
+    for word in words {
+        all = all.plus(check_argument(rt, word.as_str(), report)?);
     }
     report.append_count(rt.alloc(), "all", all)?;
     Ok(all)
@@ -68,8 +88,8 @@ fn asks_for_answers(words: &[String]) -> bool {
     words.len() > 1 && words[1].as_str() == "--answers"
 }
 
-/// Returns the names of files among the arguments, of which the first is the program's own.
-fn file_names(words: &[String]) -> &[String] {
+/// Returns the arguments that ask for a check; the first is the program's own.
+fn asked(words: &[String]) -> &[String] {
     let first: usize = if asks_for_answers(words) { 2 } else { 1 };
     words.split_at(first.min(words.len())).1
 }
@@ -78,7 +98,7 @@ fn file_names(words: &[String]) -> &[String] {
 fn run(rt: &HostRuntime) -> io::Result<bool> {
     let words: Vec<String> = env::args(rt)?.collect(rt.alloc())?;
     let mut report = Report::new(rt.alloc());
-    let all = check_files(rt, file_names(words.as_slice()), &mut report)?;
+    let all = check_arguments(rt, asked(words.as_slice()), &mut report)?;
     let text = report.text(asks_for_answers(words.as_slice()));
     rt.stdout().write_all(text)?;
     Ok(all.differing == 0)

@@ -1,23 +1,20 @@
-//! Runs texts that nobody meant: each beginning of a source, a timed list and commands, and a thousand
+//! Texts that nobody meant: each beginning of a source, a timed list and commands, and a thousand
 //! changes of each. And readers and writers that fail at each of their calls in turn.
 //!
-//! Each text has to give a run of up to a thousand steps, or a fault that its kind may have. The program
-//! prints a line for each kind, with the first text that is answered wrongly.
-#![tactic(auto)]
+//! Each text has to give a run of up to a thousand steps, or a fault that its kind may have.
 
 mod answers;
 mod changes;
 mod streams;
 mod texts;
 
-use answers::{Text, is_answered};
-use changes::{Dice, change};
+use crate::hostile::answers::{Text, is_answered};
+use crate::hostile::changes::{Dice, change};
+use crate::hostile::streams::are_answered;
+use crate::hostile::texts::{COMMANDS, INPUTS, SOURCE, TIMER};
 use rv_base::NoMemory;
 use std::alloc::Global;
 use std::io::Write;
-use std::process::ExitCode;
-use streams::are_answered;
-use texts::{COMMANDS, INPUTS, SOURCE, TIMER};
 
 /// The number of changes of each text.
 const CHANGES: usize = 1000;
@@ -72,21 +69,14 @@ fn print(rt: &HostRuntime, name: &[u8], wrong: Result<Option<Vec<u8>>, NoMemory>
     }
 }
 
-fn main(rt: HostRuntime) -> ExitCode {
+/// Prints a line for each kind of text, with the first one that is answered wrongly.
+pub fn print_answers(rt: &HostRuntime) {
     let alloc = rt.alloc();
-    print(&rt, b"sources:", wrong_text(alloc, Text::Source, SOURCE));
+    print(rt, b"sources:", wrong_text(alloc, Text::Source, SOURCE));
+    print(rt, b"more sources:", wrong_text(alloc, Text::Source, TIMER));
+    print(rt, b"timed lists:", wrong_text(alloc, Text::Inputs, INPUTS));
     print(
-        &rt,
-        b"more sources:",
-        wrong_text(alloc, Text::Source, TIMER),
-    );
-    print(
-        &rt,
-        b"timed lists:",
-        wrong_text(alloc, Text::Inputs, INPUTS),
-    );
-    print(
-        &rt,
+        rt,
         b"commands:",
         wrong_text(alloc, Text::Commands, COMMANDS),
     );
@@ -96,5 +86,4 @@ fn main(rt: HostRuntime) -> ExitCode {
         b"readers and writers: a wrong answer\n".as_slice()
     };
     let _ = rt.stdout().write_all(line);
-    ExitCode::SUCCESS
 }

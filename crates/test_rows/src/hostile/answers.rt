@@ -1,5 +1,5 @@
 //! The answers that a source, a timed list and commands may get, whatever they say.
-use crate::texts::SENDER;
+use crate::hostile::texts::SENDER;
 use rv_asm::FaultKind;
 use rv_cli::{CliFault, Ending, MemoryIn, MemoryOut, Options, run_text};
 use std::alloc::Global;

@@ -1,18 +1,14 @@
-//! Runs user code and outside events, and checks by example what docs/ISOLATION.md promises: what user code
+//! Runs of user code and outside events, which show by example what docs/ISOLATION.md promises: what user code
 //! can't change and can't learn, and which outside events may be exchanged.
-//!
-//! The program prints the first check that fails, or that all is as defined.
-#![tactic(auto)]
 
 mod boards;
 mod exchange;
 mod runs;
 mod secrets;
 
-use crate::boards::Checked;
+use crate::isolation::boards::Checked;
 use std::alloc::Global;
 use std::io::Write;
-use std::process::ExitCode;
 
 /// Does all checks.
 fn check_all(alloc: Global) -> Checked<()> {
@@ -21,13 +17,14 @@ fn check_all(alloc: Global) -> Checked<()> {
     exchange::check_exchanges(alloc)
 }
 
-fn main(rt: HostRuntime) -> ExitCode {
+/// Prints the first check that fails, or that all is as defined.
+pub fn print_check(rt: &HostRuntime) {
     let result = match check_all(rt.alloc()) {
         Ok(()) => "as defined",
         Err(what) => what,
     };
     let mut out = rt.stdout();
+    let _ = out.write_all(b"isolation: ");
     let _ = out.write_all(result.as_bytes());
     let _ = out.write_all(b"\n");
-    ExitCode::SUCCESS
 }

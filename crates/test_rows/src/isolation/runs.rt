@@ -1,5 +1,5 @@
 //! Runs of user code.
-use crate::boards::{Checked, boot, boot_to_user_code, check, last_trap_is, run_user};
+use crate::isolation::boards::{Checked, boot, boot_to_user_code, check, last_trap_is, run_user};
 use rv_board::{BootedBoard, Event};
 use rv_pmp::Mode;
 use std::alloc::Global;
