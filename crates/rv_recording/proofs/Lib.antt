@@ -1,6 +1,7 @@
 pub mod Stands
 pub mod Running
 pub mod Outward
+pub mod Replays
 pub mod Keeping
 pub mod Counting
 pub mod Taken

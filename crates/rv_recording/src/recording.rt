@@ -20,9 +20,9 @@ use rv_board::BootedBoard;
 use rv_cache::DecodeCache;
 use rv_hart::Outcome;
 use rv_monitor::{Next, OpenFault, Session, Stop, open_session};
-use rv_program::Program;
+use rv_program::{Names, Program};
 use rv_ram::{ByteMemory, PagedRam};
-use rv_timeline::{Input, TimedInput, list_text};
+use rv_timeline::{Input, TimedInput, Timeline, list_text};
 use std::alloc::Global;
 use std::marker::Model;
 
@@ -260,6 +260,45 @@ impl Recording {
         let cache = DecodeCache::new(self.alloc, self.slots)?;
         let board = kept.board().try_clone(self.alloc, cache)?;
         Ok((board, kept.steps()))
+    }
+
+    /// Returns a session that takes the recorded steps again, and no more: it stands after the first `steps` of
+    /// them, or after all if there are fewer. The recording stays as it is.
+    ///
+    /// # Errors
+    ///
+    /// `NoMemory` if memory runs out.
+    pub fn replay(&self, steps: u64) -> Result<Session<PagedRam, DecodeCache>, NoMemory>
+        ensures timed { IfOk result (λ s. s.timed
+            ≡ (gone_back self.now (min steps self.now.session.timed.taken)).session.timed) }
+        ensures limit { IfOk result (λ s. s.limit ≡ self.now.session.timed.taken) }
+    {
+        let taken = self.session().taken();
+        let count = steps.min(taken);
+        let mut run = self.begun_again(taken)?;
+        let (board, before) = self.board_before(count)?;
+        match run.resume(board, before, count - before) {
+            Ok(_) => Ok(run),
+            Err(NoMemory) => Err(NoMemory),
+        }
+    }
+
+    /// Returns a session with the recorded inputs before its first step, which may take `limit` steps. No name of
+    /// the program is known to it.
+    fn begun_again(&self, limit: u64) -> Result<Session<PagedRam, DecodeCache>, NoMemory>
+        ensures inputs { IfOk result (λ s. s.timed.inputs ≡ self.now.session.timed.inputs) }
+        ensures limit { IfOk result (λ s. s.limit ≡ limit) }
+    {
+        let text = self.inputs_text(self.alloc)?;
+        let Ok(timeline) = Timeline::read(self.alloc, text.as_slice()) else {
+            return Err(NoMemory);
+        };
+        let program = self.session.program();
+        let Ok(board) = BootedBoard::boot(self.alloc, program, self.pages, self.slots) else {
+            return Err(NoMemory);
+        };
+        let nameless = Program::new(Vec::new(self.alloc), Names::new(self.alloc));
+        Ok(Session::new(self.alloc, board, timeline, nameless, limit))
     }
 
     /// Makes an address a breakpoint.
