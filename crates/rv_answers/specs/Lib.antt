@@ -1,3 +1,4 @@
+pub mod Commands
 pub mod Printer
 pub mod Memory
 pub mod States

@@ -1,26 +1,12 @@
 //! The answer to a command.
+use crate::command::Command;
+use crate::explained::Explanation;
 use crate::many::Many;
+use crate::moves::{Cleared, Given, Run, Saved, Stepped, Trace};
 use crate::rows::Row;
 use crate::values::{
     ControlValue, Devices, Dump, Edges, Place, RegisterFile, RegisterValue, Standing, Trap,
 };
-
-/// The commands that look and may be refused.
-#[derive(Clone, Copy)]
-pub enum Look {
-    /// `r`
-    Registers,
-    /// `p`
-    ControlRegister,
-    /// `m`
-    Memory,
-    /// `i`
-    Instruction,
-    /// `l`
-    List,
-    /// `e`
-    Edges,
-}
 
 /// Why the operands of a command have no meaning.
 #[derive(Clone, Copy)]
@@ -41,13 +27,29 @@ pub enum Why {
     NoControlRegister,
     /// The text is no number of a source that is triggered by edges.
     NoEdgeSource,
+    /// The text is no number of steps.
+    NoSteps,
+    /// The text is no condition.
+    NoCondition,
+    /// There is no word, or more than one.
+    NotOne,
+    /// No line with an instruction or data has this number or a larger one.
+    NoBytesThere,
+    /// The text is no bytes to receive.
+    NoBytes,
+    /// The text is no level of an interrupt line.
+    NoLevel,
+    /// The text names no command.
+    NoCommand,
+    /// The files can't be written.
+    NotWritten,
 }
 
 /// A command whose operands have no meaning.
 #[derive(Drop)]
 pub struct Refusal {
     /// The command.
-    pub look: Look,
+    pub command: Command,
     /// The operand that has none.
     pub text: Many<u8>,
     /// Why it has none.
@@ -57,8 +59,10 @@ pub struct Refusal {
 /// What a command answers.
 #[derive(Drop)]
 pub enum Answer {
-    /// A text, of a command whose answer is no value yet.
-    Text(Many<u8>),
+    /// Nothing: of a comment, of `q`, and of an empty line that repeats nothing
+    Nothing,
+    /// `monitor`: what rvboard's monitor prints
+    Monitor(Many<u8>),
     /// `w`
     Where(Standing),
     /// `r`
@@ -85,6 +89,34 @@ pub enum Answer {
     Edges(Edges),
     /// `dev`
     Devices(Devices),
+    /// A run that isn't over, with the number of steps that the board has taken
+    Running(u64),
+    /// A run that is over
+    Ended(Run),
+    /// A single step
+    Stepped(Stepped),
+    /// A single step that can't be taken: the board has halted, or the lab takes no more
+    Stuck(Standing),
+    /// `trace`
+    Traced(Trace),
+    /// `u`
+    Back(Standing),
+    /// `b` with an address: a breakpoint is there
+    Break(Place),
+    /// `d`
+    Cleared(Cleared),
+    /// `rx` and `line`
+    Given(Given),
+    /// `save`
+    Saved(Saved),
+    /// `why`
+    Explained(Explanation),
+    /// `help`, of a command or of all
+    Help(Option<Command>),
+    /// The first word of the line is no command.
+    NoCommand(Many<u8>),
+    /// The line has more than 1,024 bytes.
+    TooLong,
     /// The operands of a command have no meaning.
     Refused(Refusal),
 }

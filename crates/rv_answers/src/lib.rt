@@ -2,31 +2,53 @@
 #![tactic(auto)]
 
 mod answer;
+mod command;
+mod console;
+mod controls;
 mod devices;
+mod explained;
 mod extent;
 mod forms;
+mod help;
+mod inputs;
+mod interrupts;
+mod lines;
+mod looks;
 mod many;
 mod memory;
+mod moves;
+mod nearest;
 mod places;
 mod printer;
+mod protection;
+mod refusals;
 mod registers;
 mod render;
 mod rows;
+mod runs;
 mod shown;
 mod standing;
 mod states;
 mod traps;
 mod values;
+mod why_text;
 
-pub use answer::{Answer, Look, Refusal, Why};
+pub use answer::{Answer, Refusal, Why};
+pub use command::{Command, CommandRow, Move, command_named, command_row, command_word, commands};
 pub use devices::threshold;
+pub use explained::{
+    Area, Barrier, Before, Explained, Explanation, Handler, Reason, Sum, Unfetched,
+};
 pub use extent::{Extent, Format, read_extent};
+pub use lines::Lines;
 pub use many::{Many, push};
 pub use memory::{append_escaped, escapes};
+pub use moves::{Aim, Cleared, Ending, Given, Run, Saved, Step, Stepped, Target, Trace, Watch};
 pub use places::append_instruction;
 pub use printer::Printer;
+pub use protection::append_region;
 pub use registers::{append_changes, append_register, append_value, register_name};
-pub use render::{Lines, append_answer, append_region};
+pub use render::append_answer;
 pub use rows::Row;
 pub use standing::append_halted;
 pub use states::{bits_of, clock_of, has_bit, port_of, region_of, regions_of, sources_of};

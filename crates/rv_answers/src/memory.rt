@@ -4,6 +4,7 @@ ghost use Rattle.rv_base.specs.Tables.{rows};
 ghost use Rattle.rv_answers.specs.Memory.{escapes};
 
 use crate::Printer;
+use crate::values::{Cells, Dump};
 
 /// The number of bytes in a row.
 const ROW_BYTES: usize = 16;
@@ -36,7 +37,7 @@ fn append_cells(address: u32, bytes: &[Option<u8>], answer: &mut Printer) {
 }
 
 /// Appends a row of at most 16 bytes: the address, the bytes, and their characters.
-pub(crate) fn append_bytes_row(address: u32, bytes: &[Option<u8>], answer: &mut Printer) {
+fn append_bytes_row(address: u32, bytes: &[Option<u8>], answer: &mut Printer) {
     append_cells(address, bytes, answer);
     answer.say(" ");
     for byte in bytes {
@@ -54,7 +55,7 @@ pub(crate) fn append_word(word: Option<u32>, answer: &mut Printer) {
 }
 
 /// Appends a row of words: the address, and the words.
-pub(crate) fn append_words_row(address: u32, words: &[Option<u32>], answer: &mut Printer) {
+fn append_words_row(address: u32, words: &[Option<u32>], answer: &mut Printer) {
     answer.word(address);
     answer.say(":");
     for word in words {
@@ -112,5 +113,42 @@ pub fn append_escaped(byte: u8, answer: &mut Printer) {
             answer.say(escape);
         }
         None => append_plain(byte, answer),
+    }
+}
+
+/// Appends rows of 16 bytes.
+fn append_bytes(address: u32, bytes: &[Option<u8>], text: &mut Printer) {
+    let mut at = address;
+    for row in bytes.chunks(16) {
+        append_bytes_row(at, row, text);
+        at = at.wrapping_add(16);
+    }
+}
+
+/// Appends rows of four words.
+fn append_words(address: u32, words: &[Option<u32>], text: &mut Printer) {
+    let mut at = address;
+    for row in words.chunks(4) {
+        append_words_row(at, row, text);
+        at = at.wrapping_add(16);
+    }
+}
+
+/// Appends bytes as a string.
+fn append_string(address: u32, bytes: &[u8], text: &mut Printer) {
+    text.word(address);
+    text.say(": \"");
+    for byte in bytes {
+        append_escaped(*byte, text);
+    }
+    text.say("\"\n");
+}
+
+/// Appends memory.
+pub(crate) fn append_dump(dump: &Dump, text: &mut Printer) {
+    match &dump.cells {
+        Cells::Bytes(bytes) => append_bytes(dump.address, bytes.items(), text),
+        Cells::Words(words) => append_words(dump.address, words.items(), text),
+        Cells::Text(bytes) => append_string(dump.address, bytes.items(), text),
     }
 }

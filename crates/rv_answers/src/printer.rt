@@ -33,7 +33,7 @@ impl Model for Printer {
 }
 
 impl Printer {
-    ghost use Rattle.std.specs.Prelude.{◌≡◌, [], true, false, IfOk};
+    ghost use Rattle.std.specs.Prelude.{◌≡◌, [], true, false, IfOk, OnOk};
     ghost use Rattle.std.specs.Fmt.{decimal};
     ghost use Rattle.rv_answers.specs.Printer.{Appended};
 
@@ -64,7 +64,8 @@ impl Printer {
 
     /// Returns the bytes, if no piece is missing at their end.
     pub fn whole(self) -> Result<Many<u8>, NoMemory>
-        ensures { IfOk result (λ t. t ≡ self.bytes) }
+        ensures text { IfOk result (λ t. t ≡ self.bytes) }
+        ensures whole { OnOk result (self.is_cut ≡ false) }
     {
         let Printer {
             alloc: _,

@@ -1,5 +1,6 @@
 //! How a board stands: its steps, its mode, and whether it has halted.
 use crate::Printer;
+use crate::values::Standing;
 use rv_pmp::Mode;
 
 /// Returns a mode in words.
@@ -26,4 +27,19 @@ pub(crate) fn append_step(steps: u64, mode: Mode, answer: &mut Printer) {
 pub fn append_halted(code: u16, steps: u64, answer: &mut Printer) {
     let values = [u64::from(code), steps, steps];
     answer.fill("halted with code %d after %d step%{s||s}\n", &values);
+}
+
+/// Appends that a board has halted, if it has.
+pub(crate) fn append_halt(standing: Standing, text: &mut Printer) {
+    if let Some(code) = standing.halted {
+        append_halted(code, standing.steps, text);
+    }
+}
+
+/// Appends why a board takes no step: it has halted, or the lab takes no more.
+pub(crate) fn append_stuck(standing: Standing, text: &mut Printer) {
+    match standing.halted {
+        Some(code) => append_halted(code, standing.steps, text),
+        None => text.say("the lab takes no more than 9999999999 steps\n"),
+    }
 }

@@ -1,5 +1,6 @@
 //! Traps and their causes in words.
 use crate::Printer;
+use crate::values::Trap;
 
 /// Returns the name of a cause.
 pub(crate) fn cause_name(cause: u32) -> &'static str {
@@ -30,4 +31,11 @@ pub fn append_cause(cause: u32, answer: &mut Printer) {
     }
     answer.say(", ");
     answer.say(cause_name(cause));
+}
+
+/// Appends a trap: its cause, and mtval.
+pub(crate) fn append_trap(trap: Trap, text: &mut Printer) {
+    text.say("trap ");
+    append_cause(trap.cause, text);
+    text.fill(", mtval %x", &[u64::from(trap.value)]);
 }

@@ -1,0 +1,144 @@
+//! The text of refusals: why the operands of a command have no meaning.
+use crate::Printer;
+use crate::answer::{Refusal, Why};
+use crate::command::{Command, command_word};
+use crate::lines::Lines;
+use crate::looks::append_count;
+use crate::nearest::Nearest;
+
+/// The names of the control registers that are often asked for.
+static CONTROL_REGISTERS: [&str; 20] = [
+    "mstatus",
+    "misa",
+    "mie",
+    "mip",
+    "mtvec",
+    "mscratch",
+    "mepc",
+    "mcause",
+    "mtval",
+    "mcycle",
+    "mcycleh",
+    "minstret",
+    "minstreth",
+    "mhartid",
+    "pmpcfg0",
+    "pmpcfg1",
+    "pmpcfg2",
+    "pmpcfg3",
+    "pmpaddr0",
+    "pmpaddr1",
+];
+
+/// What `rx` wants.
+const BYTES: &str =
+    "a text between quotes is wanted, in which \\n \\r \\t \\0 \\\" \\\\ may stand, or bytes of two hexadecimal digits each";
+
+/// Why operands are no condition.
+const NO_CONDITION: &str =
+    "is none of: trap, console, a line or an address, REG or [ADDR] alone or with =, !=, <, <=, > or >= and a value, with spaces between";
+
+/// Appends that a name is no control register, and which is the nearest.
+fn refuse_control_register(command: &str, name: &[u8], text: &mut Printer) {
+    text.refuse(command, name, "is no control register");
+    let mut nearest = Nearest::new(text.alloc(), name);
+    for known in &CONTROL_REGISTERS {
+        nearest.offer(known.as_bytes());
+    }
+    nearest.append(text);
+    text.say("; docs/BOARD.md has them all\n");
+}
+
+/// Appends what a command says to its operands.
+fn say_of(command: &str, sentence: &str, text: &mut Printer) {
+    text.say(command);
+    text.say(": ");
+    text.say(sentence);
+}
+
+/// Appends what a command wants, and where to find an example.
+fn want(command: &str, wanted: &str, text: &mut Printer) {
+    say_of(command, wanted, text);
+    text.see_help(command);
+}
+
+/// Appends that an operand isn't what a command wants, and where to find an example.
+fn refuse_operand(command: &str, operand: &[u8], why: &str, text: &mut Printer) {
+    text.refuse(command, operand, why);
+    text.see_help(command);
+}
+
+/// Appends that a command wants one word.
+fn want_one(command: Command, text: &mut Printer) {
+    let word = command_word(command);
+    match command {
+        Command::Save => want(word, "one name is wanted", text),
+        _ => say_of(word, "one line, address or name is wanted\n", text),
+    }
+}
+
+/// Appends that no line is at an address.
+fn refuse_line(command: &str, address: u32, text: &mut Printer) {
+    say_of(command, "no line of the source is at ", text);
+    text.word(address);
+    text.end();
+}
+
+impl Lines<'_> {
+    /// Appends that a word is no address, and which name of the source is the nearest.
+    fn refuse_address(self, command: &str, word: &[u8], text: &mut Printer) {
+        let why = "is no line, no name of the source, no register and no number after 0x";
+        text.refuse(command, word, why);
+        let mut nearest = Nearest::new(text.alloc(), word);
+        for (name, _) in self.listing.program.symbols() {
+            nearest.offer(name.as_slice());
+        }
+        nearest.append(text);
+        text.end();
+    }
+
+    /// Appends that no line from a number on has bytes.
+    fn refuse_lines(self, text: &mut Printer) {
+        text.say("no line with an instruction or data is there; ");
+        append_count(self.listing.len(), text);
+    }
+
+    /// Appends why the operands of a command have no meaning.
+    pub(crate) fn append_refusal(self, refusal: &Refusal, text: &mut Printer) {
+        let word = command_word(refusal.command);
+        let operand = refusal.text.items();
+        match refusal.why {
+            Why::NoAddress => self.refuse_address(word, operand, text),
+            Why::Missing => want(word, "an address is missing", text),
+            Why::NoExtent => {
+                want(
+                    word,
+                    "a number from 0 to 4096 is wanted, and w, b or t",
+                    text,
+                );
+            }
+            Why::NoLine(address) => refuse_line(word, address, text),
+            Why::NoCount => say_of(word, "the number of lines is from 0 to 1000\n", text),
+            Why::NoRegister => {
+                text.refuse(
+                    word,
+                    operand,
+                    "is no register; `p` shows a control register\n",
+                );
+            }
+            Why::NoControlRegister => refuse_control_register(word, operand, text),
+            Why::NoEdgeSource => {
+                let sentence = "a source from 24 to 31 is wanted; `dev` shows the others\n";
+                say_of(word, sentence, text);
+            }
+            Why::NoSteps => refuse_operand(word, operand, "is no number of steps", text),
+            Why::NoCondition => refuse_operand(word, operand, NO_CONDITION, text),
+            Why::NotOne => want_one(refusal.command, text),
+            Why::NoBytesThere => self.refuse_lines(text),
+            Why::NoBytes => want(word, BYTES, text),
+            Why::NoLevel => want(word, "a source from 1 to 31 and 0 or 1 are wanted", text),
+            Why::NoCommand => text.refuse(word, operand, "is no command; `help` shows them all\n"),
+            Why::NotWritten => say_of(word, "the files can't be written\n", text),
+        }
+    }
+}

@@ -1,0 +1,159 @@
+//! The text of what commands answer that move the board.
+use crate::Printer;
+use crate::lines::Lines;
+use crate::many::Many;
+use crate::moves::{Aim, Ending, Run, Step, Stepped, Target, Trace, Watch};
+use crate::registers::{append_register, append_value, register_name};
+use crate::standing::{append_halt, append_stuck};
+use crate::traps::append_trap;
+use crate::values::{RegisterValue, Standing, Trap};
+
+/// The most changed registers that are told in a line.
+const MOST_TOLD: usize = 8;
+
+/// Appends the registers that a command changed, each after two blanks or a comma.
+fn append_changed(changed: &Many<RegisterValue>, text: &mut Printer) {
+    let all = changed.items();
+    let (told, more) = all.split_at(all.len().min(MOST_TOLD));
+    let mut before = "  ";
+    for one in told {
+        text.say(before);
+        append_register(one.register, one.value, text);
+        before = ", ";
+    }
+    if !more.is_empty() {
+        text.fill(", and %d more", &[more.len() as u64]);
+    }
+}
+
+/// Appends what a step did: a trap, and the registers that it changed.
+fn append_outcome(step: &Step, text: &mut Printer) {
+    if let Some(trap) = step.trap {
+        text.say("  ");
+        append_trap(trap, text);
+    }
+    append_changed(&step.changed, text);
+    text.end();
+}
+
+/// Appends what is watched.
+fn append_target(target: Target, text: &mut Printer) {
+    match target {
+        Target::Register(register) => text.say(register_name(register)),
+        Target::Word(address) => {
+            text.say("[");
+            text.word(address);
+            text.say("]");
+        }
+    }
+}
+
+/// Appends what is watched, with its value.
+fn append_watched(watch: Watch, text: &mut Printer) {
+    append_target(watch.target, text);
+    text.say(" = ");
+    match watch.value {
+        Some(word) => append_value(word, text),
+        None => text.say("--------"),
+    }
+}
+
+/// Returns how it is told that as many steps were taken as were asked for.
+fn limit_form(aim: Aim) -> &'static str {
+    match aim {
+        Aim::Steps => "stopped after %d step%{s||s}\n",
+        Aim::Breakpoint => "still running after %d step%{s||s}; c goes on\n",
+        Aim::Return => "not returned after %d step%{s||s}; c goes on, and past the return\n",
+        Aim::Trap(_) | Aim::Console | Aim::Arrival | Aim::Watch(_) =>
+            "not reached after %d step%{s||s}; c goes on without the condition, `until` again with it\n",
+    }
+}
+
+impl Lines<'_> {
+    /// Appends that the board has halted, or where it stands.
+    fn append_rest(self, standing: Standing, text: &mut Printer) {
+        if standing.halted.is_some() {
+            return append_halt(standing, text);
+        }
+        if standing.here.word.is_none() {
+            text.say("no memory is at pc: the last trap met no handler; type `why`\n");
+        }
+        self.append_here(standing.here, text);
+    }
+
+    /// Appends what was reached.
+    fn append_reached(self, aim: Aim, text: &mut Printer) {
+        match aim {
+            Aim::Watch(watch) => {
+                text.say(": ");
+                append_watched(watch, text);
+            }
+            Aim::Trap(Some(trap)) => self.append_reached_trap(trap, text),
+            _ => {}
+        }
+        text.end();
+    }
+
+    /// Appends the trap that was reached.
+    fn append_reached_trap(self, trap: Trap, text: &mut Printer) {
+        text.say(": ");
+        self.append_trap_at(trap, text);
+    }
+
+    /// Appends why a run is over.
+    fn append_ending(self, run: &Run, text: &mut Printer) {
+        let steps = run.steps;
+        match run.ending {
+            Ending::Halted | Ending::Stuck => {}
+            Ending::Breakpoint => {
+                let is_aim = matches!(run.aim, Aim::Breakpoint) as u64;
+                let form = "breakpoint after %d step%{s||s}%{, before the goal is reached|}\n";
+                text.fill(form, &[steps, steps, is_aim]);
+            }
+            Ending::Reached => {
+                text.fill("stopped after %d step%{s||s}", &[steps, steps]);
+                self.append_reached(run.aim, text);
+            }
+            Ending::Limit => text.fill(limit_form(run.aim), &[steps, steps]),
+        }
+    }
+
+    /// Appends why a run is over, what it changed, and where the board stands.
+    pub(crate) fn append_run(self, run: &Run, text: &mut Printer) {
+        if matches!(run.ending, Ending::Stuck) {
+            return append_stuck(run.standing, text);
+        }
+        self.append_ending(run, text);
+        append_changed(&run.changed, text);
+        if !run.changed.items().is_empty() {
+            text.end();
+        }
+        self.append_rest(run.standing, text);
+    }
+
+    /// Appends what a single step did, and where the board stands.
+    pub(crate) fn append_stepped(self, stepped: &Stepped, text: &mut Printer) {
+        text.fill("step %d", &[stepped.step.number]);
+        append_outcome(&stepped.step, text);
+        self.append_rest(stepped.standing, text);
+    }
+
+    /// Appends steps, each with its number and its line.
+    pub(crate) fn append_trace(self, trace: &Trace, text: &mut Printer) {
+        for step in trace.steps.items() {
+            text.fill("%d  ", &[step.number]);
+            self.append_place(step.place, text);
+            append_outcome(step, text);
+        }
+        if matches!(trace.ending, Ending::Stuck) && trace.standing.halted.is_none() {
+            append_stuck(trace.standing, text);
+        }
+    }
+
+    /// Appends that the board went back.
+    pub(crate) fn append_back(self, standing: Standing, text: &mut Printer) {
+        text.fill("back at step %d\n", &[standing.steps]);
+        append_halt(standing, text);
+        self.append_here(standing.here, text);
+    }
+}
