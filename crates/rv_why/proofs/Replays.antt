@@ -1,0 +1,71 @@
+-- Sessions that take the steps of a recording again.
+use Rattle.std.proofs.Common.{◌≡◌, ◌∙◌, ℕ, ◌<◌, ◌≤◌, refl, sym, ap, subst, arith}
+use Rattle.std.specs.Prelude.{◌-◌, min, Option, Some, None}
+use Rattle.std.specs.Option.{option_and_then}
+use Rattle.rv_board.specs.Support.State.{halted_of}
+use Rattle.rv_monitor.specs.Laws.{IsReached}
+use Rattle.rv_monitor.specs.State.{IsInTime, TimedState, after}
+use Rattle.rv_monitor.proofs.Reached.{begun_stands, in_time}
+use Rattle.rv_monitor.proofs.Steps.{after_none}
+use Rattle.rv_recording.specs.Recording.{RecordingState, first_board, gone_back}
+use Rattle.rv_hart.specs.declared.trap.Outcome.{Outcome}
+use Rattle.rv_hart.specs.declared.trap.Outcome.TheVariants.{Trapped}
+use Rattle.rv_answers.specs.declared.explained.Explained.{Explained}
+use Rattle.rv_answers.specs.declared.explained.Explanation.{Explanation}
+use Rattle.rv_why.specs.Why.{board_at, explained, explanation, first_state, outcome_at, told}
+use Rattle.rv_why.specs.Support.Found.{IsTold}
+use Rattle.rv_why.specs.declared.search.Found.{Found}
+
+pub stands_at : (r : RecordingState) (t : TimedState) (n : ℕ) → n ≤ r.session.timed.taken
+    → t ≡ (gone_back r (min n r.session.timed.taken)).session.timed → t.board ≡ board_at (first_state r) n
+stands_at r t n h e =
+    let least : min n r.session.timed.taken ≡ n = omega (arith, h) in
+    ap (λ (u : TimedState). u.board) e ∙ ap (λ (k : ℕ). board_at (first_state r) k) least
+
+module _ (r : RecordingState) (reached : IsReached (first_board r) r.session.timed) (t : TimedState)
+    (e : t ≡ (gone_back r (min 0 r.session.timed.taken)).session.timed) where
+  first_in_time : IsInTime (first_state r)
+  first_in_time =
+      in_time (first_board r) (first_state r) (begun_stands (first_board r) r.session.timed.inputs reached.rising)
+
+  pub is_first : t ≡ first_state r
+  is_first =
+      let none : min 0 r.session.timed.taken ≡ 0 = omega arith in
+      e ∙ (ap (after (first_state r)) none ∙ after_none (first_state r) first_in_time)
+
+  pub begins_in_time : IsInTime t
+  begins_in_time = subst IsInTime (sym is_first) first_in_time
+
+  pub begins_running : (most i : ℕ) → most ≤ r.session.timed.taken → i < most → halted_of (after t i).board ≡ None
+  begins_running most i h l =
+      ap (λ (u : TimedState). halted_of (after u i).board) is_first ∙ reached.running i (omega (arith, h, l))
+
+  pub begins_at : t.taken ≡ 0
+  begins_at = ap (λ (u : TimedState). u.taken) is_first
+
+  pub told_first : (most : ℕ) (o : Option Found) → IsTold t most o → IsTold (first_state r) most o
+  told_first most o h = subst (λ (u : TimedState). IsTold u most o) is_first h
+
+module _ (r : RecordingState) (most unseen : ℕ) (all : most ≡ min r.session.timed.taken 20000000)
+    (left : unseen ≡ r.session.timed.taken - 20000000) where
+  abbrev trap_of : Option ℕ → Option Explained
+  trap_of n = option_and_then (λ n. explained (first_state r) n (outcome_at (first_state r) n)) n
+
+  told_by : (trap : Option Explained) (n : Option ℕ) → told (first_state r) most ≡ n → trap_of n ≡ trap
+      → ◌≡◌ {A = Explanation} (record { trap = trap; unseen = unseen }) (explanation r)
+  unfolding explanation
+  told_by trap n is e =
+      let here : trap_of (told (first_state r) (min r.session.timed.taken 20000000)) ≡ trap =
+      ap (λ (k : ℕ). trap_of (told (first_state r) k)) (sym all) ∙ (ap trap_of is ∙ e) in
+      ap (λ (o : Option Explained). record { trap = o; unseen = unseen }) (sym here)
+      ∙ ap (λ (k : ℕ). record { trap = trap_of (told (first_state r) (min r.session.timed.taken 20000000)); unseen = k }) left
+
+  pub none_told : IsTold (first_state r) most None
+      → ◌≡◌ {A = Explanation} (record { trap = None; unseen = unseen }) (explanation r)
+  none_told h = told_by None None h refl
+
+  pub some_told : (f : Found) (x : Explained) → IsTold (first_state r) most (Some f)
+      → explained (first_state r) f.step (Trapped f.cause f.epc f.tval) ≡ Some x
+      → ◌≡◌ {A = Explanation} (record { trap = Some x; unseen = unseen }) (explanation r)
+  some_told f x h e =
+      told_by (Some x) (Some f.step) h.0 (ap (λ (o : Outcome). explained (first_state r) f.step o) h.2.0 ∙ e)

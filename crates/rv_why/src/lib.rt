@@ -1,0 +1,13 @@
+//! Why a trap of a recording came: which trap is told, which check of its step failed, and where it went. Each is
+//! told by the board as it stood then.
+#![tactic(auto)]
+
+mod barrier;
+mod fetched;
+mod laws;
+mod reason;
+mod search;
+mod trap;
+
+pub use laws::fetches_as_the_machine;
+pub use trap::explain;

@@ -1,0 +1,116 @@
+//! A trap that is told, with why it came.
+ghost use Rattle.std.specs.Prelude.{◌≡◌, ◌+◌, ◌<◌, ◌≤◌, Some, IfOk};
+ghost use Rattle.rv_hart.specs.declared.trap.Outcome.TheVariants.{Trapped};
+ghost use Rattle.rv_why.specs.Why as spec;
+ghost use Rattle.rv_why.specs.Why.{board_at, explanation, first_state, handler_of};
+
+use crate::reason::{before_of, why_trapped};
+use crate::search::{Found, find_trap};
+use rv_answers::{Before, Explained, Explanation};
+use rv_base::NoMemory;
+use rv_board::BootedBoard;
+use rv_cache::DecodeCache;
+use rv_monitor::{Session, word_at};
+use rv_ram::PagedRam;
+use rv_recording::Recording;
+
+/// How many steps are looked at.
+const MOST: u64 = 20_000_000;
+
+/// Returns a session whose board has taken that many steps of a recording.
+#[tactic(auto, using(crate::proofs::Replays::stands_at))]
+fn at_step(recording: &Recording, steps: u64) -> Result<Session<PagedRam, DecodeCache>, NoMemory>
+    requires { steps ≤ recording.now.session.timed.taken }
+    ensures { IfOk result (λ s. s.timed.board ≡ board_at (first_state recording.now) steps) }
+{
+    recording.replay(steps)
+}
+
+/// Returns the instruction before the step that follows some steps, if there is one.
+fn before_step(recording: &Recording, steps: u64) -> Result<Option<Before>, NoMemory>
+    requires { steps ≤ recording.now.session.timed.taken }
+    ensures { IfOk result (λ b. b ≡ spec.before_step (first_state recording.now) steps) }
+{
+    if steps == 0 {
+        return Ok(None);
+    }
+    let run = at_step(recording, steps - 1)?;
+    Ok(Some(before_of(run.board())))
+}
+
+/// Returns the instruction before a trap, if that is a fetch that was refused.
+fn before_trap(recording: &Recording, cause: u32, steps: u64) -> Result<Option<Before>, NoMemory>
+    requires { steps ≤ recording.now.session.timed.taken }
+    ensures { IfOk result (λ b. b ≡ spec.before_trap (first_state recording.now) cause steps) }
+{
+    if cause == 1 {
+        return before_step(recording, steps);
+    }
+    Ok(None)
+}
+
+/// Returns the word that was at an address first, if it is another one now.
+fn overwritten(first: &BootedBoard, now: &BootedBoard, address: u32) -> Option<u32>
+    ensures { result ≡ spec.overwritten first.now now.now address }
+{
+    let word = word_at(first, address);
+    if word == word_at(now, address) {
+        return None;
+    }
+    word
+}
+
+/// Explains a trap of a recording.
+#[tactic(auto, unfolding(crate::specs::Why::explained))]
+fn explained(recording: &Recording, found: Found) -> Result<Explained, NoMemory>
+    requires within { found.step < recording.now.session.timed.taken }
+    requires small { found.step < 20000000 }
+    requires handler { found.handler ≡ handler_of (board_at (first_state recording.now) (found.step + 1)) }
+    ensures { IfOk result (λ e. spec.explained (first_state recording.now) found.step
+        (Trapped found.cause found.epc found.tval) ≡ Some e) }
+{
+    let Found {
+        step,
+        cause,
+        epc,
+        tval,
+        handler,
+    } = found;
+    let before = before_trap(recording, cause, step)?;
+    let first = at_step(recording, 0)?;
+    let run = at_step(recording, step)?;
+    let board = run.board();
+    Ok(Explained {
+        step: step + 1,
+        cause,
+        value: tval,
+        address: epc,
+        mode: board.mode(),
+        word: word_at(board, epc),
+        overwritten: overwritten(first.board(), board, epc),
+        reason: why_trapped(board, cause, epc, tval),
+        before,
+        handler,
+    })
+}
+
+/// Explains the first trap of a recording that met no handler, or else the last one.
+///
+/// # Errors
+///
+/// `NoMemory` if memory runs out.
+#[tactic(auto, unfolding(crate::specs::Why::explanation))]
+pub fn explain(recording: &Recording) -> Result<Explanation, NoMemory>
+    ensures { IfOk result (λ e. e ≡ explanation recording.now) }
+{
+    let taken = recording.session().taken();
+    let mut run = recording.replay(0)?;
+    let trap = match find_trap(&mut run, taken.min(MOST))? {
+        Some(found) => Some(explained(recording, found)?),
+        None => None,
+    };
+    Ok(Explanation {
+        trap,
+        unseen: taken.saturating_sub(MOST),
+    })
+}
