@@ -1,21 +1,52 @@
 -- To audit: public contracts cite this.
 -- The JSON of an answer (this project's own: docs/JSON.md), by the labels of the source with their addresses.
-use Rattle.std.specs.Prelude.{ℕ, List, [], ◌∷◌, codes, encode_utf8_all, filter, map, nat_le, Option, Some, None, option_and_then, option_map}
+use Rattle.std.specs.Prelude.{◌≡◌, ℕ, ℤ, List, [], ◌∷◌, codes, encode_utf8_all, filter, map, nat_le, Option, Some, None, option_and_then, option_map}
 use Rattle.std.specs.List.{last_or}
 use Prim.Native.String.{String}
-use Rattle.serde_json.specs.Data.{Data, Members, null, boolean, number, unsigned, string, array, object, no_members, member}
+use Rattle.serde_json.specs.Data.{Data, Members, null, boolean, number, negative, unsigned, string, array, object, no_members, member}
 use Rattle.serde_json.specs.View.{items_of}
+use Rattle.serde_json.specs.Written.{compact_text}
 use Rattle.rv_pmp.specs.declared.mode.Mode.{Mode}
 use Rattle.rv_pmp.specs.declared.mode.Mode.TheVariants.{User, Machine}
+use Rattle.rv_asm.specs.AllFaults.{faults_of}
+use Rattle.rv_base.specs.Lines.{lines}
 use Rattle.rv_program.specs.Faults.{title_of}
+use Rattle.rv_program.specs.declared.fault.AsmFault.{AsmFault}
 use Rattle.rv_program.specs.declared.fault.FaultKind.{FaultKind}
 use Rattle.rv_answers.specs.declared.answer.Answer.{Answer}
 use Rattle.rv_answers.specs.declared.answer.Answer.TheVariants as answers
-use Rattle.rv_answers.specs.declared.answer.Look.{Look}
-use Rattle.rv_answers.specs.declared.answer.Look.TheVariants as looks
 use Rattle.rv_answers.specs.declared.answer.Refusal.{Refusal}
 use Rattle.rv_answers.specs.declared.answer.Why.{Why}
 use Rattle.rv_answers.specs.declared.answer.Why.TheVariants as why
+use Rattle.rv_answers.specs.Commands.{help_word}
+use Rattle.rv_answers.specs.declared.command.Command.{Command}
+use Rattle.rv_answers.specs.declared.explained.Area.{Area}
+use Rattle.rv_answers.specs.declared.explained.Area.TheVariants as areas
+use Rattle.rv_answers.specs.declared.explained.Barrier.{Barrier}
+use Rattle.rv_answers.specs.declared.explained.Barrier.TheVariants as barriers
+use Rattle.rv_answers.specs.declared.explained.Before.{Before}
+use Rattle.rv_answers.specs.declared.explained.Explained.{Explained}
+use Rattle.rv_answers.specs.declared.explained.Explanation.{Explanation}
+use Rattle.rv_answers.specs.declared.explained.Handler.{Handler}
+use Rattle.rv_answers.specs.declared.explained.Reason.{Reason}
+use Rattle.rv_answers.specs.declared.explained.Reason.TheVariants as reasons
+use Rattle.rv_answers.specs.declared.explained.Sum.{Sum}
+use Rattle.rv_answers.specs.declared.explained.Unfetched.{Unfetched}
+use Rattle.rv_answers.specs.declared.explained.Unfetched.TheVariants as unfetched
+use Rattle.rv_answers.specs.declared.moves.Aim.{Aim}
+use Rattle.rv_answers.specs.declared.moves.Aim.TheVariants as aims
+use Rattle.rv_answers.specs.declared.moves.Cleared.{Cleared}
+use Rattle.rv_answers.specs.declared.moves.Ending.{Ending}
+use Rattle.rv_answers.specs.declared.moves.Ending.TheVariants as endings
+use Rattle.rv_answers.specs.declared.moves.Given.{Given}
+use Rattle.rv_answers.specs.declared.moves.Run.{Run}
+use Rattle.rv_answers.specs.declared.moves.Saved.{Saved}
+use Rattle.rv_answers.specs.declared.moves.Step.{Step}
+use Rattle.rv_answers.specs.declared.moves.Stepped.{Stepped}
+use Rattle.rv_answers.specs.declared.moves.Target.{Target}
+use Rattle.rv_answers.specs.declared.moves.Target.TheVariants as targets
+use Rattle.rv_answers.specs.declared.moves.Trace.{Trace}
+use Rattle.rv_answers.specs.declared.moves.Watch.{Watch}
 use Rattle.rv_answers.specs.declared.rows.Row.{Row}
 use Rattle.rv_answers.specs.declared.values.Bits.{Bits}
 use Rattle.rv_answers.specs.declared.values.Bits.TheVariants as bits
@@ -165,15 +196,130 @@ devices_data d = kind "devices" (("clock", clock_data d.clock) ∷ ("port", port
     ∷ ("is_notified", boolean d.is_notified) ∷ ("sources", list_data source_data d.sources)
     ∷ ("regions", list_data region_data d.regions) ∷ [])
 
+-- ---- runs: `s`, `next`, `c`, `finish`, `until` and `trace`
+
+unfoldable pub ending_data : Ending → Data
+ending_data endings.Halted = string (codes "halted")
+ending_data endings.Reached = string (codes "reached")
+ending_data endings.Breakpoint = string (codes "breakpoint")
+ending_data endings.Limit = string (codes "limit")
+ending_data endings.Stuck = string (codes "stuck")
+
+unfoldable pub aim_data : Aim → Data
+aim_data aims.Steps = string (codes "steps")
+aim_data aims.Breakpoint = string (codes "breakpoint")
+aim_data aims.Return = string (codes "return")
+aim_data (aims.Trap t) = string (codes "trap")
+aim_data aims.Console = string (codes "console")
+aim_data aims.Arrival = string (codes "arrival")
+aim_data (aims.Watch w) = string (codes "watch")
+
+-- the trap that was met, and what was watched
+unfoldable pub met : Aim → Option Trap
+met (aims.Trap t) = t
+met _ = None
+
+unfoldable pub watched : Aim → Option Watch
+watched (aims.Watch w) = Some w
+watched _ = None
+
+unfoldable pub target_data : Target → Data
+target_data (targets.Register r) = object (members (("register", natural r) ∷ []))
+target_data (targets.Word a) = object (members (("address", natural a) ∷ []))
+
+unfoldable pub watch_data : Watch → Data
+watch_data w = object (members (("target", target_data w.target) ∷ ("value", option_data natural w.value) ∷ []))
+
+unfoldable pub run_data : List (List ℕ × ℕ) → Run → Data
+run_data ls r = kind "ended" (("ending", ending_data r.ending) ∷ ("aim", aim_data r.aim)
+    ∷ ("trap", option_data (trap_data ls) (met r.aim)) ∷ ("watch", option_data watch_data (watched r.aim))
+    ∷ ("steps", natural r.steps) ∷ ("changed", list_data register_data r.changed)
+    ∷ ("standing", standing_data ls r.standing) ∷ [])
+
+unfoldable pub step_data : List (List ℕ × ℕ) → Step → Data
+step_data ls s = object (members (("number", natural s.number) ∷ ("place", place_data ls s.place)
+    ∷ ("trap", option_data (trap_data ls) s.trap) ∷ ("changed", list_data register_data s.changed) ∷ []))
+
+unfoldable pub stepped_data : List (List ℕ × ℕ) → Stepped → Data
+stepped_data ls s = kind "stepped" (("step", step_data ls s.step) ∷ ("standing", standing_data ls s.standing) ∷ [])
+
+unfoldable pub trace_data : List (List ℕ × ℕ) → Trace → Data
+trace_data ls t = kind "traced" (("steps", list_data (step_data ls) t.steps) ∷ ("ending", ending_data t.ending)
+    ∷ ("standing", standing_data ls t.standing) ∷ [])
+
+-- ---- `d`, `rx`, `line` and `save`
+
+unfoldable pub cleared_data : List (List ℕ × ℕ) → Cleared → Data
+cleared_data ls c = kind "cleared" (("place", place_data ls c.place) ∷ ("was_there", boolean c.was_there) ∷ [])
+
+unfoldable pub given_data : Given → Data
+given_data g = kind "given" (("inputs", natural g.inputs) ∷ ("steps", natural g.steps)
+    ∷ ("is_halted", boolean g.is_halted) ∷ [])
+
+unfoldable pub saved_data : Saved → Data
+saved_data s = kind "saved" (("name", option_data text_data s.name) ∷ ("list", text_data s.list)
+    ∷ ("inputs", natural s.inputs) ∷ ("commands", text_data s.commands) ∷ ("steps", natural s.steps)
+    ∷ ("limit", natural s.limit) ∷ ("pages", natural s.pages) ∷ [])
+
+-- ---- `why`
+
+unfoldable pub integer : ℤ → Data
+integer z = number (negative z)
+
+unfoldable pub area_data : Area → Data
+area_data areas.Nothing = string (codes "nothing")
+area_data areas.Halt = string (codes "halt")
+area_data areas.Timer = string (codes "timer")
+area_data areas.Controller = string (codes "controller")
+area_data areas.Serial = string (codes "serial")
+area_data areas.PastEnd = string (codes "past_end")
+
+unfoldable pub barrier_data : Barrier → Data
+barrier_data (barriers.Protection mode entry) =
+    kind "protection" (("mode", mode_data mode) ∷ ("entry", option_data region_data entry) ∷ [])
+barrier_data (barriers.Absent area) = kind "absent" (("area", area_data area) ∷ [])
+
+unfoldable pub unfetched_data : Unfetched → Data
+unfetched_data (unfetched.Refused barrier) = kind "refused" (("barrier", barrier_data barrier) ∷ [])
+unfetched_data (unfetched.NoInstruction word) = kind "no_instruction" (("word", natural word) ∷ [])
+
+unfoldable pub sum_data : Sum → Data
+sum_data s = object (members (("base", natural s.base) ∷ ("value", natural s.value) ∷ ("offset", integer s.offset) ∷ []))
+
+unfoldable pub reason_data : Reason → Data
+reason_data (reasons.Interrupt line) = kind "interrupt" (("line", natural line) ∷ [])
+reason_data (reasons.NotFetched why) = kind "not_fetched" (("why", unfetched_data why) ∷ [])
+reason_data reasons.Call = kind "call" []
+reason_data reasons.Break = kind "break" []
+reason_data (reasons.Target sum) = kind "target" (("sum", option_data sum_data sum) ∷ [])
+reason_data (reasons.Misaligned size sum) = kind "misaligned" (("size", natural size) ∷ ("sum", sum_data sum) ∷ [])
+reason_data (reasons.Refused sum barrier) =
+    kind "refused" (("sum", sum_data sum) ∷ ("barrier", barrier_data barrier) ∷ [])
+reason_data (reasons.NoRegister csr) = kind "no_register" (("csr", natural csr) ∷ [])
+reason_data (reasons.ReadOnly csr) = kind "read_only" (("csr", natural csr) ∷ [])
+reason_data reasons.MachineOnly = kind "machine_only" []
+
+unfoldable pub before_data : Before → Data
+before_data b = object (members (("address", natural b.address) ∷ ("word", option_data natural b.word)
+    ∷ ("sum", option_data sum_data b.sum) ∷ []))
+
+unfoldable pub handler_data : Handler → Data
+handler_data h = object (members (("address", natural h.address) ∷ ("mtvec", natural h.mtvec)
+    ∷ ("missing", option_data unfetched_data h.missing) ∷ []))
+
+unfoldable pub explained_data : Explained → Data
+explained_data e = object (members (("step", natural e.step) ∷ ("cause", natural e.cause) ∷ ("value", natural e.value)
+    ∷ ("address", natural e.address) ∷ ("mode", mode_data e.mode) ∷ ("word", option_data natural e.word)
+    ∷ ("overwritten", option_data natural e.overwritten) ∷ ("reason", reason_data e.reason)
+    ∷ ("before", option_data before_data e.before) ∷ ("handler", handler_data e.handler) ∷ []))
+
+unfoldable pub explanation_data : Explanation → Data
+explanation_data e = kind "why" (("trap", option_data explained_data e.trap) ∷ ("unseen", natural e.unseen) ∷ [])
+
 -- ---- refusals
 
-unfoldable pub look_data : Look → Data
-look_data looks.Registers = string (codes "r")
-look_data looks.ControlRegister = string (codes "p")
-look_data looks.Memory = string (codes "m")
-look_data looks.Instruction = string (codes "i")
-look_data looks.List = string (codes "l")
-look_data looks.Edges = string (codes "e")
+unfoldable pub command_data : Command → Data
+command_data c = string (help_word c)
 
 unfoldable pub why_data : Why → Data
 why_data why.NoAddress = string (codes "no_address")
@@ -184,6 +330,14 @@ why_data why.NoCount = string (codes "no_count")
 why_data why.NoRegister = string (codes "no_register")
 why_data why.NoControlRegister = string (codes "no_control_register")
 why_data why.NoEdgeSource = string (codes "no_edge_source")
+why_data why.NoSteps = string (codes "no_steps")
+why_data why.NoCondition = string (codes "no_condition")
+why_data why.NotOne = string (codes "not_one")
+why_data why.NoBytesThere = string (codes "no_bytes_there")
+why_data why.NoBytes = string (codes "no_bytes")
+why_data why.NoLevel = string (codes "no_level")
+why_data why.NoCommand = string (codes "no_command")
+why_data why.NotWritten = string (codes "not_written")
 
 -- the address at which no line is
 unfoldable pub lineless : Why → Option ℕ
@@ -191,13 +345,14 @@ lineless (why.NoLine a) = Some a
 lineless _ = None
 
 unfoldable pub refusal_data : Refusal → Data
-refusal_data r = kind "refused" (("command", look_data r.look) ∷ ("text", text_data r.text)
+refusal_data r = kind "refused" (("command", command_data r.command) ∷ ("text", text_data r.text)
     ∷ ("why", why_data r.why) ∷ ("address", option_data natural (lineless r.why)) ∷ [])
 
 -- ---- answers
 
 unfoldable pub answer_data : List (List ℕ × ℕ) → Answer → Data
-answer_data ls (answers.Text bytes) = kind "text" (("text", text_data bytes) ∷ [])
+answer_data ls answers.Nothing = kind "nothing" []
+answer_data ls (answers.Monitor bytes) = kind "monitor" (("text", text_data bytes) ∷ [])
 answer_data ls (answers.Where standing) = standing_data ls standing
 answer_data ls (answers.Registers file) = file_data ls file
 answer_data ls (answers.Register one) = register_data one
@@ -211,6 +366,20 @@ answer_data ls (answers.Breakpoints places) = kind "breakpoints" (("places", lis
 answer_data ls (answers.Traps traps) = kind "traps" (("traps", list_data (trap_data ls) traps) ∷ [])
 answer_data ls (answers.Edges edges) = edges_data edges
 answer_data ls (answers.Devices devices) = devices_data devices
+answer_data ls (answers.Running steps) = kind "running" (("steps", natural steps) ∷ [])
+answer_data ls (answers.Ended run) = run_data ls run
+answer_data ls (answers.Stepped stepped) = stepped_data ls stepped
+answer_data ls (answers.Stuck standing) = kind "stuck" (("standing", standing_data ls standing) ∷ [])
+answer_data ls (answers.Traced trace) = trace_data ls trace
+answer_data ls (answers.Back standing) = kind "back" (("standing", standing_data ls standing) ∷ [])
+answer_data ls (answers.Break place) = kind "break" (("place", place_data ls place) ∷ [])
+answer_data ls (answers.Cleared cleared) = cleared_data ls cleared
+answer_data ls (answers.Given given) = given_data given
+answer_data ls (answers.Saved saved) = saved_data saved
+answer_data ls (answers.Explained explanation) = explanation_data explanation
+answer_data ls (answers.Help command) = kind "help" (("command", option_data command_data command) ∷ [])
+answer_data ls (answers.NoCommand word) = kind "no_command" (("word", text_data word) ∷ [])
+answer_data ls answers.TooLong = kind "too_long" []
 answer_data ls (answers.Refused refusal) = refusal_data refusal
 
 -- what a command answers, a word for what follows it, and what the console got meanwhile
@@ -233,3 +402,12 @@ fault_data f = object (members (("line", natural f.line) ∷ ("column", natural 
 
 unfoldable pub faults_data : List Fault → Data
 faults_data faults = kind "faults" (("faults", list_data fault_data faults) ∷ [])
+
+-- the line and the kind of a fault
+abbrev pub kind_at : Fault → AsmFault
+kind_at f = record { line = f.line; kind = f.kind }
+
+-- a text is that of the faults of a source, whatever their sentences
+abbrev pub TellsFaults : List ℕ → List ℕ → Type 0
+TellsFaults source text =
+    (fs : List Fault) × (map kind_at fs ≡ faults_of (lines source)) × (text ≡ compact_text (faults_data fs))

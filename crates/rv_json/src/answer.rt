@@ -1,12 +1,45 @@
 //! The JSON of an answer.
-ghost use Rattle.serde_json.specs.Data.{string};
+ghost use Rattle.std.specs.Prelude.{OnOk, codes};
+ghost use Rattle.serde_json.specs.Data.{member, no_members, object, string};
+ghost use Rattle.serde_json.specs.Events.{SendsValue};
 ghost use Rattle.rv_json.specs.Json.{answer_data};
+ghost use Rattle.rv_json.specs.Support.Labels.{labels};
 
 use crate::names::Names;
-use crate::object::{members, send_object};
+use crate::object::{End, Member, send_members, send_object};
 use crate::sent::{Text, ToJson};
 use rv_answers::Answer;
 use serde::Serializer;
+
+/// Sends an object that has a kind alone.
+fn send_kind<S: Serializer>(kind: &str, names: &Names<'_>, out: &mut S) -> Result<(), S::Error>
+    ensures { OnOk result (SendsValue (object (member (codes "kind") (string kind.now) no_members))
+        (S.written out.old) (S.written out.new)) }
+{
+    send_members!(_, names, out, kind)
+}
+
+/// Sends an object that has a kind and one other member.
+fn send_one<T: ToJson, S: Serializer>(
+    kind: &str,
+    name: &str,
+    value: &T,
+    names: &Names<'_>,
+    out: &mut S,
+) -> Result<(), S::Error>
+    ensures { OnOk result (SendsValue (object (member (codes "kind") (string kind.now)
+        (member name.now (T.json (labels names.now) value.now) no_members)))
+        (S.written out.old) (S.written out.new)) }
+{
+    let rest = Member {
+        name,
+        value,
+        rest: End,
+    };
+    let name = "kind";
+    let value = &kind;
+    send_object(&Member { name, value, rest }, names, out)
+}
 
 impl ToJson for Answer {
     ghost json = { λ ls a. answer_data ls a };
@@ -14,41 +47,35 @@ impl ToJson for Answer {
     #[tactic(auto, unfolding(crate::specs::Json::answer_data))]
     fn send<S: Serializer>(&self, names: &Names<'_>, out: &mut S) -> Result<(), S::Error> {
         match self {
-            Answer::Text(bytes) => {
-                let members = members! { "kind": "text", "text": Text(bytes) };
-                send_object(&members, names, out)
-            }
+            Answer::Nothing => send_kind("nothing", names, out),
+            Answer::Monitor(told) => send_one("monitor", "text", &Text(told), names, out),
             Answer::Where(standing) => standing.send(names, out),
             Answer::Registers(file) => file.send(names, out),
             Answer::Register(one) => one.send(names, out),
             Answer::ControlRegister(value) => value.send(names, out),
             Answer::Memory(dump) => dump.send(names, out),
-            Answer::Instruction(place) => {
-                let members = members! { "kind": "instruction", "place": *place };
-                send_object(&members, names, out)
-            }
-            Answer::List(rows) => {
-                let members = members! { "kind": "list", "rows": *rows };
-                send_object(&members, names, out)
-            }
-            Answer::BehindLast(count) => {
-                let members = members! { "kind": "behind_last", "lines": *count };
-                send_object(&members, names, out)
-            }
-            Answer::WasLast => {
-                let members = members! { "kind": "was_last" };
-                send_object(&members, names, out)
-            }
-            Answer::Breakpoints(places) => {
-                let members = members! { "kind": "breakpoints", "places": *places };
-                send_object(&members, names, out)
-            }
-            Answer::Traps(traps) => {
-                let members = members! { "kind": "traps", "traps": *traps };
-                send_object(&members, names, out)
-            }
+            Answer::Instruction(place) => send_one("instruction", "place", place, names, out),
+            Answer::List(rows) => send_one("list", "rows", rows, names, out),
+            Answer::BehindLast(count) => send_one("behind_last", "lines", count, names, out),
+            Answer::WasLast => send_kind("was_last", names, out),
+            Answer::Breakpoints(places) => send_one("breakpoints", "places", places, names, out),
+            Answer::Traps(traps) => send_one("traps", "traps", traps, names, out),
             Answer::Edges(edges) => edges.send(names, out),
             Answer::Devices(devices) => devices.send(names, out),
+            Answer::Running(steps) => send_one("running", "steps", steps, names, out),
+            Answer::Ended(run) => run.send(names, out),
+            Answer::Stepped(stepped) => stepped.send(names, out),
+            Answer::Stuck(standing) => send_one("stuck", "standing", standing, names, out),
+            Answer::Traced(trace) => trace.send(names, out),
+            Answer::Back(standing) => send_one("back", "standing", standing, names, out),
+            Answer::Break(place) => send_one("break", "place", place, names, out),
+            Answer::Cleared(cleared) => cleared.send(names, out),
+            Answer::Given(given) => given.send(names, out),
+            Answer::Saved(saved) => saved.send(names, out),
+            Answer::Explained(explanation) => explanation.send(names, out),
+            Answer::Help(command) => send_one("help", "command", command, names, out),
+            Answer::NoCommand(word) => send_one("no_command", "word", &Text(word), names, out),
+            Answer::TooLong => send_kind("too_long", names, out),
             Answer::Refused(refusal) => refusal.send(names, out),
         }
     }

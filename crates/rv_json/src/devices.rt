@@ -2,7 +2,7 @@
 ghost use Rattle.rv_json.specs.Json.{clock_data, devices_data, interrupts_data, port_data, range_data, region_data, rights_data, source_data};
 
 use crate::names::Names;
-use crate::object::{members, send_object};
+use crate::object::send_members;
 use crate::sent::ToJson;
 use rv_answers::{Clock, Devices, Interrupts, Port, Range, Region, Rights, SourceState};
 use serde::Serializer;
@@ -12,13 +12,7 @@ impl ToJson for Clock {
 
     #[tactic(auto, unfolding(crate::specs::Json::clock_data))]
     fn send<S: Serializer>(&self, names: &Names<'_>, out: &mut S) -> Result<(), S::Error> {
-        let members = members! {
-            "time": self.time,
-            "compare": self.compare,
-            "is_due": self.is_due,
-            "software": self.software,
-        };
-        send_object(&members, names, out)
+        send_members!(self, names, out, time, compare, is_due, software)
     }
 }
 
@@ -27,12 +21,7 @@ impl ToJson for Port {
 
     #[tactic(auto, unfolding(crate::specs::Json::port_data))]
     fn send<S: Serializer>(&self, names: &Names<'_>, out: &mut S) -> Result<(), S::Error> {
-        let members = members! {
-            "waiting": self.waiting,
-            "sent": self.sent,
-            "overrun": self.overrun,
-        };
-        send_object(&members, names, out)
+        send_members!(self, names, out, waiting, sent, overrun)
     }
 }
 
@@ -41,14 +30,7 @@ impl ToJson for Interrupts {
 
     #[tactic(auto, unfolding(crate::specs::Json::interrupts_data))]
     fn send<S: Serializer>(&self, names: &Names<'_>, out: &mut S) -> Result<(), S::Error> {
-        let members = members! {
-            "mode": self.mode,
-            "mstatus": self.mstatus,
-            "mie": self.mie,
-            "mip": self.mip,
-            "next": self.next,
-        };
-        send_object(&members, names, out)
+        send_members!(self, names, out, mode, mstatus, mie, mip, next)
     }
 }
 
@@ -57,16 +39,9 @@ impl ToJson for SourceState {
 
     #[tactic(auto, unfolding(crate::specs::Json::source_data))]
     fn send<S: Serializer>(&self, names: &Names<'_>, out: &mut S) -> Result<(), S::Error> {
-        let members = members! {
-            "source": self.source,
-            "is_high": self.is_high,
-            "is_pending": self.is_pending,
-            "is_claimed": self.is_claimed,
-            "is_enabled": self.is_enabled,
-            "priority": self.priority,
-            "edges": self.edges,
-        };
-        send_object(&members, names, out)
+        send_members!(
+            self, names, out, source, is_high, is_pending, is_claimed, is_enabled, priority, edges
+        )
     }
 }
 
@@ -75,12 +50,7 @@ impl ToJson for Rights {
 
     #[tactic(auto, unfolding(crate::specs::Json::rights_data))]
     fn send<S: Serializer>(&self, names: &Names<'_>, out: &mut S) -> Result<(), S::Error> {
-        let members = members! {
-            "read": self.read,
-            "write": self.write,
-            "execute": self.execute,
-        };
-        send_object(&members, names, out)
+        send_members!(self, names, out, read, write, execute)
     }
 }
 
@@ -89,8 +59,7 @@ impl ToJson for Range {
 
     #[tactic(auto, unfolding(crate::specs::Json::range_data))]
     fn send<S: Serializer>(&self, names: &Names<'_>, out: &mut S) -> Result<(), S::Error> {
-        let members = members! { "first": self.first, "last": self.last };
-        send_object(&members, names, out)
+        send_members!(self, names, out, first, last)
     }
 }
 
@@ -99,14 +68,7 @@ impl ToJson for Region {
 
     #[tactic(auto, unfolding(crate::specs::Json::region_data))]
     fn send<S: Serializer>(&self, names: &Names<'_>, out: &mut S) -> Result<(), S::Error> {
-        let members = members! {
-            "entry": self.entry,
-            "range": self.range,
-            "user": self.user,
-            "machine": self.machine,
-            "is_locked": self.is_locked,
-        };
-        send_object(&members, names, out)
+        send_members!(self, names, out, entry, range, user, machine, is_locked)
     }
 }
 
@@ -115,16 +77,18 @@ impl ToJson for Devices {
 
     #[tactic(auto, unfolding(crate::specs::Json::devices_data))]
     fn send<S: Serializer>(&self, names: &Names<'_>, out: &mut S) -> Result<(), S::Error> {
-        let members = members! {
-            "kind": "devices",
-            "clock": self.clock,
-            "port": self.port,
-            "interrupts": self.interrupts,
-            "threshold": self.threshold,
-            "is_notified": self.is_notified,
-            "sources": self.sources,
-            "regions": self.regions,
-        };
-        send_object(&members, names, out)
+        send_members!(
+            self,
+            names,
+            out,
+            kind = "devices",
+            clock,
+            port,
+            interrupts,
+            threshold,
+            is_notified,
+            sources,
+            regions
+        )
     }
 }

@@ -3,7 +3,7 @@ ghost use Rattle.std.specs.Prelude.{◌≡◌};
 ghost use Rattle.rv_json.specs.Json.{fault_data, fault_name, fault_number, faults_data};
 
 use crate::names::Names;
-use crate::object::{members, send_object};
+use crate::object::send_members;
 use crate::sent::{Text, ToJson};
 use rv_answers::Many;
 use rv_program::FaultKind;
@@ -47,16 +47,18 @@ impl ToJson for Fault {
 
     #[tactic(auto, unfolding(crate::specs::Json::fault_data))]
     fn send<S: Serializer>(&self, names: &Names<'_>, out: &mut S) -> Result<(), S::Error> {
-        let members = members! {
-            "line": self.line,
-            "column": self.column,
-            "length": self.length,
-            "number": number_of(self.kind),
-            "name": self.kind,
-            "message": Text(&self.message),
-            "advice": Text(&self.advice),
-        };
-        send_object(&members, names, out)
+        send_members!(
+            self,
+            names,
+            out,
+            line,
+            column,
+            length,
+            number = number_of(self.kind),
+            name = self.kind,
+            message = Text(&self.message),
+            advice = Text(&self.advice)
+        )
     }
 }
 
@@ -69,7 +71,6 @@ impl ToJson for Faults<'_> {
 
     #[tactic(auto, unfolding(crate::specs::Json::faults_data))]
     fn send<S: Serializer>(&self, names: &Names<'_>, out: &mut S) -> Result<(), S::Error> {
-        let members = members! { "kind": "faults", "faults": *self.0 };
-        send_object(&members, names, out)
+        send_members!(self, names, out, kind = "faults", faults = *self.0)
     }
 }

@@ -75,18 +75,31 @@ pub(crate) fn send_object<M: Members, S: Serializer>(
     members.send_all(names, out)
 }
 
-/// Members of an object, by their names.
-macro_rules! members {
-    () => {
+/// Sends an object: of the fields of a value by their names, or of variables where `_` stands in its place, and of other
+/// values as `name = value`.
+macro_rules! send_members {
+    (@value _, $variable:ident) => {
+        $variable
+    };
+    (@value $it:tt, $field:ident) => {
+        $it.$field
+    };
+    (@value $it:tt, $field:ident, $value:expr) => {
+        $value
+    };
+    (@members $it:tt) => {
         $crate::object::End
     };
-    ($name:literal: $value:expr $(, $names:literal: $values:expr)* $(,)?) => {
+    (@members $it:tt, $field:ident $(= $value:expr)? $(, $names:ident $(= $values:expr)?)*) => {
         $crate::object::Member {
-            name: $name,
-            value: &$value,
-            rest: members!($($names: $values),*),
+            name: stringify!($field),
+            value: &send_members!(@value $it, $field $(, $value)?),
+            rest: send_members!(@members $it $(, $names $(= $values)?)*),
         }
+    };
+    ($it:tt, $names:ident, $out:ident, $($members:tt)+) => {
+        $crate::object::send_object(&send_members!(@members $it, $($members)+), $names, $out)
     };
 }
 
-pub(crate) use members;
+pub(crate) use send_members;

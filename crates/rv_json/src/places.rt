@@ -3,7 +3,7 @@ ghost use Rattle.rv_json.specs.Json.{file_data, mode_data, place_data, row_data,
 ghost use Rattle.serde_json.specs.Data.{string};
 
 use crate::names::Names;
-use crate::object::{members, send_object};
+use crate::object::send_members;
 use crate::sent::ToJson;
 use rv_answers::{Place, RegisterFile, Row, Standing, Trap};
 use rv_pmp::Mode;
@@ -26,15 +26,16 @@ impl ToJson for Place {
 
     #[tactic(auto, unfolding(crate::specs::Json::place_data))]
     fn send<S: Serializer>(&self, names: &Names<'_>, out: &mut S) -> Result<(), S::Error> {
-        let label = names.label(self);
-        let members = members! {
-            "address": self.address,
-            "label": label,
-            "distance": self.distance,
-            "line": self.line,
-            "word": self.word,
-        };
-        send_object(&members, names, out)
+        send_members!(
+            self,
+            names,
+            out,
+            address,
+            label = names.label(self),
+            distance,
+            line,
+            word
+        )
     }
 }
 
@@ -43,14 +44,7 @@ impl ToJson for Standing {
 
     #[tactic(auto, unfolding(crate::specs::Json::standing_data))]
     fn send<S: Serializer>(&self, names: &Names<'_>, out: &mut S) -> Result<(), S::Error> {
-        let members = members! {
-            "kind": "where",
-            "steps": self.steps,
-            "mode": self.mode,
-            "halted": self.halted,
-            "here": self.here,
-        };
-        send_object(&members, names, out)
+        send_members!(self, names, out, kind = "where", steps, mode, halted, here)
     }
 }
 
@@ -59,14 +53,16 @@ impl ToJson for RegisterFile {
 
     #[tactic(auto, unfolding(crate::specs::Json::file_data))]
     fn send<S: Serializer>(&self, names: &Names<'_>, out: &mut S) -> Result<(), S::Error> {
-        let members = members! {
-            "kind": "registers",
-            "before": self.before,
-            "now": self.now,
-            "mode": self.mode,
-            "here": self.here,
-        };
-        send_object(&members, names, out)
+        send_members!(
+            self,
+            names,
+            out,
+            kind = "registers",
+            before,
+            now,
+            mode,
+            here
+        )
     }
 }
 
@@ -75,15 +71,9 @@ impl ToJson for Row {
 
     #[tactic(auto, unfolding(crate::specs::Json::row_data))]
     fn send<S: Serializer>(&self, names: &Names<'_>, out: &mut S) -> Result<(), S::Error> {
-        let members = members! {
-            "number": self.number,
-            "is_here": self.is_here,
-            "is_marked": self.is_marked,
-            "address": self.address,
-            "word": self.word,
-            "has_more": self.has_more,
-        };
-        send_object(&members, names, out)
+        send_members!(
+            self, names, out, number, is_here, is_marked, address, word, has_more
+        )
     }
 }
 
@@ -92,12 +82,6 @@ impl ToJson for Trap {
 
     #[tactic(auto, unfolding(crate::specs::Json::trap_data))]
     fn send<S: Serializer>(&self, names: &Names<'_>, out: &mut S) -> Result<(), S::Error> {
-        let members = members! {
-            "cause": self.cause,
-            "value": self.value,
-            "place": self.place,
-            "times": self.times,
-        };
-        send_object(&members, names, out)
+        send_members!(self, names, out, cause, value, place, times)
     }
 }

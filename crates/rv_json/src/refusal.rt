@@ -1,45 +1,53 @@
 //! Commands whose operands have no meaning.
 ghost use Rattle.std.specs.Prelude.{◌≡◌};
 ghost use Rattle.serde_json.specs.Data.{string};
-ghost use Rattle.rv_json.specs.Json.{lineless, look_data, refusal_data, why_data};
+ghost use Rattle.rv_json.specs.Json.{command_data, lineless, refusal_data, why_data};
 
 use crate::names::Names;
-use crate::object::{members, send_object};
+use crate::object::send_members;
 use crate::sent::{Text, ToJson};
-use rv_answers::{Look, Refusal, Why};
+use rv_answers::{Command, Refusal, Why, command_word};
 use serde::Serializer;
 
-impl ToJson for Look {
-    ghost json = { λ _ l. look_data l };
+impl ToJson for Command {
+    ghost json = { λ _ c. command_data c };
 
-    #[tactic(auto, unfolding(crate::specs::Json::look_data))]
+    #[tactic(auto, unfolding(crate::specs::Json::command_data))]
     fn send<S: Serializer>(&self, _: &Names<'_>, out: &mut S) -> Result<(), S::Error> {
-        match self {
-            Look::Registers => out.str("r"),
-            Look::ControlRegister => out.str("p"),
-            Look::Memory => out.str("m"),
-            Look::Instruction => out.str("i"),
-            Look::List => out.str("l"),
-            Look::Edges => out.str("e"),
-        }
+        out.str(command_word(*self))
+    }
+}
+
+/// Returns the word for why operands have no meaning.
+#[tactic(auto, unfolding(crate::specs::Json::why_data))]
+fn word_of(why: Why) -> &'static str
+    ensures { why_data why ≡ string result.now }
+{
+    match why {
+        Why::NoAddress => "no_address",
+        Why::Missing => "missing",
+        Why::NoExtent => "no_extent",
+        Why::NoLine(_) => "no_line",
+        Why::NoCount => "no_count",
+        Why::NoRegister => "no_register",
+        Why::NoControlRegister => "no_control_register",
+        Why::NoEdgeSource => "no_edge_source",
+        Why::NoSteps => "no_steps",
+        Why::NoCondition => "no_condition",
+        Why::NotOne => "not_one",
+        Why::NoBytesThere => "no_bytes_there",
+        Why::NoBytes => "no_bytes",
+        Why::NoLevel => "no_level",
+        Why::NoCommand => "no_command",
+        Why::NotWritten => "not_written",
     }
 }
 
 impl ToJson for Why {
     ghost json = { λ _ w. why_data w };
 
-    #[tactic(auto, unfolding(crate::specs::Json::why_data))]
     fn send<S: Serializer>(&self, _: &Names<'_>, out: &mut S) -> Result<(), S::Error> {
-        match self {
-            Why::NoAddress => out.str("no_address"),
-            Why::Missing => out.str("missing"),
-            Why::NoExtent => out.str("no_extent"),
-            Why::NoLine(_) => out.str("no_line"),
-            Why::NoCount => out.str("no_count"),
-            Why::NoRegister => out.str("no_register"),
-            Why::NoControlRegister => out.str("no_control_register"),
-            Why::NoEdgeSource => out.str("no_edge_source"),
-        }
+        out.str(word_of(*self))
     }
 }
 
@@ -59,13 +67,15 @@ impl ToJson for Refusal {
 
     #[tactic(auto, unfolding(crate::specs::Json::refusal_data))]
     fn send<S: Serializer>(&self, names: &Names<'_>, out: &mut S) -> Result<(), S::Error> {
-        let members = members! {
-            "kind": "refused",
-            "command": self.look,
-            "text": Text(&self.text),
-            "why": self.why,
-            "address": lineless(self.why),
-        };
-        send_object(&members, names, out)
+        send_members!(
+            self,
+            names,
+            out,
+            kind = "refused",
+            command,
+            text = Text(&self.text),
+            why,
+            address = lineless(self.why)
+        )
     }
 }

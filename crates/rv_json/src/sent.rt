@@ -2,7 +2,7 @@
 ghost use Rattle.std.specs.Prelude.{◌≡◌, List, ℕ, IfOk, OnOk, encode_utf8_all, string_bytes};
 ghost use Rattle.serde_json.specs.Data.{Data, boolean, string};
 ghost use Rattle.serde_json.specs.Events.{SendsValue};
-ghost use Rattle.rv_json.specs.Json.{list_data, natural, option_data, text_data};
+ghost use Rattle.rv_json.specs.Json.{integer, list_data, natural, option_data, text_data};
 ghost use Rattle.rv_json.specs.Support.Labels.{labels};
 
 use crate::names::Names;
@@ -60,6 +60,15 @@ impl ToJson for u64 {
 
     fn send<S: Serializer>(&self, _: &Names<'_>, out: &mut S) -> Result<(), S::Error> {
         out.u64(*self)
+    }
+}
+
+impl ToJson for i32 {
+    ghost json = { λ _ z. integer z };
+
+    #[tactic(auto, unfolding(crate::specs::Json::integer))]
+    fn send<S: Serializer>(&self, _: &Names<'_>, out: &mut S) -> Result<(), S::Error> {
+        out.i64(i64::from(*self))
     }
 }
 

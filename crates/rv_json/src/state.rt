@@ -2,11 +2,11 @@
 ghost use Rattle.std.specs.Prelude.{OnOk};
 ghost use Rattle.serde_json.specs.Data.{string};
 ghost use Rattle.serde_json.specs.Events.{SendsValue};
-ghost use Rattle.rv_answers.specs.declared.values.Bits.TheVariants.{Status, Lines, Cause};
+ghost use Rattle.rv_answers.specs.declared.values.Bits.TheVariants.{Lines};
 ghost use Rattle.rv_json.specs.Json.{bits_data, cells_data, control_data, dump_data, edges_data, format_data, register_data};
 
 use crate::names::Names;
-use crate::object::{members, send_object};
+use crate::object::send_members;
 use crate::sent::{Text, ToJson};
 use rv_answers::{Bits, Cells, ControlValue, Dump, Edges, RegisterValue};
 use serde::Serializer;
@@ -16,38 +16,15 @@ impl ToJson for RegisterValue {
 
     #[tactic(auto, unfolding(crate::specs::Json::register_data))]
     fn send<S: Serializer>(&self, names: &Names<'_>, out: &mut S) -> Result<(), S::Error> {
-        let members = members! {
-            "kind": "register",
-            "register": self.register.number(),
-            "value": self.value,
-        };
-        send_object(&members, names, out)
+        send_members!(
+            self,
+            names,
+            out,
+            kind = "register",
+            register = self.register.number(),
+            value
+        )
     }
-}
-
-/// Sends the fields of mstatus.
-#[tactic(auto, unfolding(crate::specs::Json::bits_data))]
-fn send_status<S: Serializer>(
-    mie: bool,
-    mpie: bool,
-    mpp: bool,
-    mprv: bool,
-    tw: bool,
-    names: &Names<'_>,
-    out: &mut S,
-) -> Result<(), S::Error>
-    ensures { OnOk result
-        (SendsValue (bits_data (Status mie mpie mpp mprv tw)) (S.written out.old) (S.written out.new)) }
-{
-    let members = members! {
-        "kind": "status",
-        "mie": mie,
-        "mpie": mpie,
-        "mpp": mpp,
-        "mprv": mprv,
-        "tw": tw,
-    };
-    send_object(&members, names, out)
 }
 
 /// Sends the bits of mie or mip.
@@ -62,27 +39,13 @@ fn send_lines<S: Serializer>(
     ensures { OnOk result
         (SendsValue (bits_data (Lines software timer external)) (S.written out.old) (S.written out.new)) }
 {
-    let members = members! {
-        "kind": "lines",
-        "software": software,
-        "timer": timer,
-        "external": external,
-    };
-    send_object(&members, names, out)
-}
-
-/// Sends the cause of the last trap.
-#[tactic(auto, unfolding(crate::specs::Json::bits_data))]
-fn send_cause<S: Serializer>(cause: u32, names: &Names<'_>, out: &mut S) -> Result<(), S::Error>
-    ensures { OnOk result (SendsValue (bits_data (Cause cause)) (S.written out.old) (S.written out.new)) }
-{
-    let members = members! { "kind": "cause", "cause": cause };
-    send_object(&members, names, out)
+    send_members!(_, names, out, kind = "lines", software, timer, external)
 }
 
 impl ToJson for Bits {
     ghost json = { λ _ b. bits_data b };
 
+    #[tactic(auto, unfolding(crate::specs::Json::bits_data))]
     fn send<S: Serializer>(&self, names: &Names<'_>, out: &mut S) -> Result<(), S::Error> {
         match *self {
             Bits::Status {
@@ -91,13 +54,13 @@ impl ToJson for Bits {
                 mpp,
                 mprv,
                 tw,
-            } => send_status(mie, mpie, mpp, mprv, tw, names, out),
+            } => send_members!(_, names, out, kind = "status", mie, mpie, mpp, mprv, tw),
             Bits::Lines {
                 software,
                 timer,
                 external,
             } => send_lines(software, timer, external, names, out),
-            Bits::Cause(cause) => send_cause(cause, names, out),
+            Bits::Cause(cause) => send_members!(_, names, out, kind = "cause", cause),
         }
     }
 }
@@ -107,14 +70,16 @@ impl ToJson for ControlValue {
 
     #[tactic(auto, unfolding(crate::specs::Json::control_data))]
     fn send<S: Serializer>(&self, names: &Names<'_>, out: &mut S) -> Result<(), S::Error> {
-        let members = members! {
-            "kind": "csr",
-            "name": Text(&self.name),
-            "csr": self.csr,
-            "value": self.value,
-            "bits": self.bits,
-        };
-        send_object(&members, names, out)
+        send_members!(
+            self,
+            names,
+            out,
+            kind = "csr",
+            name = Text(&self.name),
+            csr,
+            value,
+            bits
+        )
     }
 }
 
@@ -153,13 +118,15 @@ impl ToJson for Dump {
 
     #[tactic(auto, unfolding(crate::specs::Json::dump_data))]
     fn send<S: Serializer>(&self, names: &Names<'_>, out: &mut S) -> Result<(), S::Error> {
-        let members = members! {
-            "kind": "memory",
-            "address": self.address,
-            "format": Format(&self.cells),
-            "cells": self.cells,
-        };
-        send_object(&members, names, out)
+        send_members!(
+            self,
+            names,
+            out,
+            kind = "memory",
+            address,
+            format = Format(&self.cells),
+            cells
+        )
     }
 }
 
@@ -168,11 +135,6 @@ impl ToJson for Edges {
 
     #[tactic(auto, unfolding(crate::specs::Json::edges_data))]
     fn send<S: Serializer>(&self, names: &Names<'_>, out: &mut S) -> Result<(), S::Error> {
-        let members = members! {
-            "kind": "edges",
-            "source": self.source,
-            "pending": self.pending,
-        };
-        send_object(&members, names, out)
+        send_members!(self, names, out, kind = "edges", source, pending)
     }
 }

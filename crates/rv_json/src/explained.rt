@@ -1,0 +1,138 @@
+//! What `why` finds.
+ghost use Rattle.serde_json.specs.Data.{string};
+ghost use Rattle.rv_json.specs.Json.{area_data, barrier_data, before_data, explained_data, explanation_data, handler_data, reason_data, sum_data, unfetched_data};
+
+use crate::names::Names;
+use crate::object::send_members;
+use crate::sent::ToJson;
+use rv_answers::{Area, Barrier, Before, Explained, Explanation, Handler, Reason, Sum, Unfetched};
+use serde::Serializer;
+
+impl ToJson for Area {
+    ghost json = { λ _ a. area_data a };
+
+    #[tactic(auto, unfolding(crate::specs::Json::area_data))]
+    fn send<S: Serializer>(&self, _: &Names<'_>, out: &mut S) -> Result<(), S::Error> {
+        match self {
+            Area::Nothing => out.str("nothing"),
+            Area::Halt => out.str("halt"),
+            Area::Timer => out.str("timer"),
+            Area::Controller => out.str("controller"),
+            Area::Serial => out.str("serial"),
+            Area::PastEnd => out.str("past_end"),
+        }
+    }
+}
+
+impl ToJson for Barrier {
+    ghost json = { λ _ b. barrier_data b };
+
+    #[tactic(auto, unfolding(crate::specs::Json::barrier_data))]
+    fn send<S: Serializer>(&self, names: &Names<'_>, out: &mut S) -> Result<(), S::Error> {
+        match *self {
+            Barrier::Protection { mode, entry } => {
+                send_members!(_, names, out, kind = "protection", mode, entry)
+            }
+            Barrier::Absent(area) => send_members!(_, names, out, kind = "absent", area),
+        }
+    }
+}
+
+impl ToJson for Unfetched {
+    ghost json = { λ _ u. unfetched_data u };
+
+    #[tactic(auto, unfolding(crate::specs::Json::unfetched_data))]
+    fn send<S: Serializer>(&self, names: &Names<'_>, out: &mut S) -> Result<(), S::Error> {
+        match *self {
+            Unfetched::Refused(barrier) => {
+                send_members!(_, names, out, kind = "refused", barrier)
+            }
+            Unfetched::NoInstruction(word) => {
+                send_members!(_, names, out, kind = "no_instruction", word)
+            }
+        }
+    }
+}
+
+impl ToJson for Sum {
+    ghost json = { λ _ s. sum_data s };
+
+    #[tactic(auto, unfolding(crate::specs::Json::sum_data))]
+    fn send<S: Serializer>(&self, names: &Names<'_>, out: &mut S) -> Result<(), S::Error> {
+        send_members!(self, names, out, base = self.base.number(), value, offset)
+    }
+}
+
+impl ToJson for Reason {
+    ghost json = { λ _ r. reason_data r };
+
+    #[tactic(auto, unfolding(crate::specs::Json::reason_data))]
+    fn send<S: Serializer>(&self, names: &Names<'_>, out: &mut S) -> Result<(), S::Error> {
+        match *self {
+            Reason::Interrupt(line) => send_members!(_, names, out, kind = "interrupt", line),
+            Reason::NotFetched(why) => send_members!(_, names, out, kind = "not_fetched", why),
+            Reason::Call => send_members!(_, names, out, kind = "call"),
+            Reason::Break => send_members!(_, names, out, kind = "break"),
+            Reason::Target(sum) => send_members!(_, names, out, kind = "target", sum),
+            Reason::Misaligned { size, sum } => {
+                send_members!(_, names, out, kind = "misaligned", size, sum)
+            }
+            Reason::Refused { sum, barrier } => {
+                send_members!(_, names, out, kind = "refused", sum, barrier)
+            }
+            Reason::NoRegister(csr) => send_members!(_, names, out, kind = "no_register", csr),
+            Reason::ReadOnly(csr) => send_members!(_, names, out, kind = "read_only", csr),
+            Reason::MachineOnly => send_members!(_, names, out, kind = "machine_only"),
+        }
+    }
+}
+
+impl ToJson for Before {
+    ghost json = { λ _ b. before_data b };
+
+    #[tactic(auto, unfolding(crate::specs::Json::before_data))]
+    fn send<S: Serializer>(&self, names: &Names<'_>, out: &mut S) -> Result<(), S::Error> {
+        send_members!(self, names, out, address, word, sum)
+    }
+}
+
+impl ToJson for Handler {
+    ghost json = { λ _ h. handler_data h };
+
+    #[tactic(auto, unfolding(crate::specs::Json::handler_data))]
+    fn send<S: Serializer>(&self, names: &Names<'_>, out: &mut S) -> Result<(), S::Error> {
+        send_members!(self, names, out, address, mtvec, missing)
+    }
+}
+
+impl ToJson for Explained {
+    ghost json = { λ _ e. explained_data e };
+
+    #[tactic(auto, unfolding(crate::specs::Json::explained_data))]
+    fn send<S: Serializer>(&self, names: &Names<'_>, out: &mut S) -> Result<(), S::Error> {
+        send_members!(
+            self,
+            names,
+            out,
+            step,
+            cause,
+            value,
+            address,
+            mode,
+            word,
+            overwritten,
+            reason,
+            before,
+            handler
+        )
+    }
+}
+
+impl ToJson for Explanation {
+    ghost json = { λ _ e. explanation_data e };
+
+    #[tactic(auto, unfolding(crate::specs::Json::explanation_data))]
+    fn send<S: Serializer>(&self, names: &Names<'_>, out: &mut S) -> Result<(), S::Error> {
+        send_members!(self, names, out, kind = "why", trap, unseen)
+    }
+}
