@@ -1,31 +1,20 @@
 -- How many steps a call takes.
-use Rattle.std.proofs.Common.{◌≡◌, ◌∙◌, ℕ, ◌+◌, ◌*◌, ◌-◌, ◌≤◌, Bool, true, false, List, [], ◌∷◌, refl, sym, ap, subst, arith, inl, inr}
-use Rattle.std.proofs.lemmas.Bool.Decides.{nat_tests}
-use Rattle.std.specs.Prelude.{◌&&◌, if◌then◌else◌, fold, length, max, min, nat_le, nat_lt, MatchOption, Option, Some, None, unwrap_or}
-use Rattle.std.specs.List.{list_all}
-use Rattle.rv_base.specs.Numbers.{digit_value, number_in}
-use Rattle.rv_base.specs.Words.{words}
+use Rattle.std.proofs.Common.{◌≡◌, ◌∙◌, ℕ, ◌+◌, ◌-◌, ◌≤◌, false, List, [], ◌∷◌, refl, sym, ap, arith, inl, inr}
+use Rattle.std.specs.Prelude.{fold, max, min, MatchOption, Option, Some, None}
 use Rattle.rv_commands.specs.declared.command.Command as commands
 use Rattle.rv_commands.specs.declared.command.Command.TheVariants as monitored_by
-use Rattle.rv_timeline.specs.Timed.{driven}
 use Rattle.rv_timeline.specs.declared.input.Input.{Input}
 use Rattle.rv_monitor.specs.Commands as monitor
 use Rattle.rv_monitor.specs.Commands.{command_in}
-use Rattle.rv_monitor.specs.State.{SessionState, TimedState, after, given, with_due, with_break, without_break}
+use Rattle.rv_monitor.specs.State.{SessionState, TimedState, after, given, with_due}
 use Rattle.rv_recording.specs.Until.{step_ends, steps_of}
 use Rattle.rv_recording.proofs.Counting.{steps_within}
-use Rattle.rv_recording.specs.Recording.{gone_back}
-use Rattle.rv_operands.specs.Operands.{bytes_inputs}
 use Rattle.rv_lab.specs.Commands as lab
-use Rattle.rv_lab.specs.Commands.{Begins, Breaks, GoesOn, InSession, IsWithin, Monitors, Obeys, Repeats, Starts, Steps, Traces, With, begun, call_limit, monitored_run, piece_steps, ready, run_ends, run_of, with_console, with_inputs, with_session}
-use Rattle.rv_lab.specs.Lines.{with_listed}
+use Rattle.rv_lab.specs.Commands.{GoesOn, InSession, IsWithin, Starts, Steps, begun, call_limit, monitored_run, piece_steps, run_ends, run_of}
 use Rattle.rv_lab.specs.Refusals.{Leads, RunsOut, StopsShort, by_hand, due, nowhere, steps}
 use Rattle.rv_lab.specs.State.{LabState, timed}
-use Rattle.rv_lab.specs.Words.{count_of, line_command}
-use Rattle.rv_lab.specs.declared.command.Command.{Command}
-use Rattle.rv_lab.specs.declared.command.Command.TheVariants.{Step, Over, Moves, Break, Clear, Receive, Line, Monitor, Again, StepOnce}
-use Rattle.rv_lab.specs.declared.command.Command.TheVariants as command
-use Rattle.rv_lab.specs.declared.command.Move.TheVariants.{Go, Finish, Until, Trace, Back}
+use Rattle.rv_lab.specs.declared.order.Order.{Order}
+use Rattle.rv_lab.specs.declared.order.Order.TheVariants as orders
 use Rattle.rv_lab.specs.declared.plan.Plan.{Plan}
 use Rattle.rv_lab.specs.declared.plan.Goal.{Goal}
 use Rattle.rv_lab.specs.declared.plan.Goal.TheVariants as goal
@@ -66,47 +55,11 @@ goes p old new g =
     let now = ap (λ (l : LabState). (timed l).taken) g ∙ taken_after (timed old) (piece_steps p old) in
     omega (arith, most, now)
 
-with_within : {A : Type 0} (meaning : Option A) (Does : A → LabState → LabState → Type 0) (n : ℕ) (old new : LabState)
-    → ((x : A) → meaning ≡ Some x → Does x old new → IsWithin n old new) → With meaning Does old new
-    → IsWithin n old new
-with_within None Does n old new each w = unmoved n old new w
-with_within (Some x) Does n old new each w = each x refl w
-
 abbrev plan : Goal → ℕ → Plan
 plan g n = record { goal = g; left = n; is_monitored = false }
 
 stepped : (n : ℕ) (old new : LabState) → Steps n old new → IsWithin (max old.piece 1) old new
 stepped n old new s = goes (plan goal.Count n) (begun (record old { count = n })) new s
-
-repeats : (c : Command) (old new : LabState) → Repeats c old new → IsWithin (max old.piece 1) old new
-repeats Step old new w = stepped old.count old new w
-repeats StepOnce old new w = stepped 1 old new w
-repeats Over old new w = goes (plan (goal.Out 0) 1000000) (begun old) new w
-repeats command.List old new w = same_taken _ old new (ap (λ (l : LabState). (timed l).taken) w)
-repeats _ old new w = unmoved _ old new w
-
--- ---- the number of a trace
-
-kept : (a b c : Bool) (v n : ℕ) → (if a && (b && c) then Some v else None) ≡ Some n → (c ≡ true) × (v ≡ n)
-kept true true true v n e = (refl, cc)
-kept true true false v n e = absurd cc
-kept true false c v n e = absurd cc
-kept false b c v n e = absurd cc
-
-at_most : (value n most : ℕ) → nat_le value most ≡ true → value ≡ n → n ≤ most
-at_most value n most low is = let h : value ≤ most = grind (arith, nat_tests) in omega (arith, h, is)
-
-read_most : (most n : ℕ) (w : List ℕ) → number_in 10 most w ≡ Some n → n ≤ most
-unfolding number_in
-read_most most n w e =
-    let value : ℕ = fold (λ v b. 10 * v + digit_value b) 0 w in
-    let k = kept (nat_le 1 (length w)) (list_all (λ b. nat_lt (digit_value b) 10) w) (nat_le value most) value n e in
-    at_most value n most k.0 k.1
-
-count_most : (usual most n : ℕ) (ws : List (List ℕ)) → usual ≤ most → count_of usual most ws ≡ Some n → n ≤ most
-count_most usual most n [] h e = let is : usual ≡ n = cc in omega (arith, h, is)
-count_most usual most n (w ∷ []) h e = read_most most n w e
-count_most usual most n (w ∷ v ∷ ws) h e = absurd cc
 
 -- ---- a command of the monitor
 
@@ -126,48 +79,26 @@ monitors c limit None old new e w =
     (looks_same c limit old.recording.session new.recording.session (sym e) w.1))
 monitors c limit (Some p) old new e w = goes p (begun old) new w
 
--- ---- a command
+-- ---- an order
 
-within : (c : Command) (text : List ℕ) (old new : LabState) → lab.Leaves c text old new
-    → IsWithin (call_limit c old.piece) old new
-within Step text old new w = with_within _ Steps _ old new (λ n e s. stepped n old new s) w
-within (Moves Go) text old new w =
-    with_within _ (Begins goal.Break) _ old new (λ n e s. goes (plan goal.Break n) (begun old) new s) w
-within Over text old new w = goes (plan (goal.Out 0) 1000000) (begun old) new w
-within (Moves Finish) text old new w = goes (plan (goal.Out 1) 1000000) (begun old) new w
-within (Moves Until) text old new w =
-    with_within _ (λ c. Begins (goal.Until c) 1000000) _ old new
-    (λ c e s. goes (plan (goal.Until c) 1000000) (begun old) new s) w
-within (Moves Trace) text old new w =
-    with_within _ Traces _ old new (λ n e t.
-    let most : n ≤ 1000 = count_most 10 1000 n (words text) (omega arith) e in
+pub within : (o : Order) (old new : LabState) → lab.Leaves o old new → IsWithin (call_limit o old.piece) old new
+within (orders.Steps n) old new w = stepped n old new w
+within (orders.Run p) old new w = goes p (begun old) new w
+within (orders.Trace n) old new w =
     let k = steps_within (step_ends old.recording.session) n in
-    let now = ap (λ (l : LabState). (timed l).taken) t ∙ taken_after (timed old) (steps_of (step_ends old.recording.session) n) in
-    omega (arith, most, k, now)) w
-within (Moves Back) text old new w =
-    with_within _ (λ n before after. after ≡ with_console (record (begun before) {
-      recording = gone_back before.recording ((timed before).taken - n);
-      before = (timed before).taken - n;
-    })) _ old new (λ n e s.
-    let is = ap (λ (l : LabState). (timed l).taken) s ∙ taken_after _ ((timed old).taken - n) in omega (arith, is)) w
-within command.List text old new w =
-    with_within _ (λ e before after. after ≡ with_listed before e) _ old new
-    (λ x e s. same_taken _ old new (ap (λ (l : LabState). (timed l).taken) s)) w
-within Again text old new w = repeats old.again old new w
-within Break text old new w =
-    with_within _ (λ a before after. after ≡ with_session before (with_break before.recording.session a)) _ old new (λ a e s. same_taken _ old new (ap (λ (l : LabState). (timed l).taken) s)) w
-within Clear text old new w =
-    with_within _ (λ a before after. after ≡ with_session before (without_break before.recording.session a)) _ old new (λ a e s. same_taken _ old new (ap (λ (l : LabState). (timed l).taken) s)) w
-within Receive text old new w =
-    same_taken _ old new (ap (λ (l : LabState). (timed l).taken) w
-    ∙ taken_given (unwrap_or (bytes_inputs text) []) (timed old))
-within Line text old new w =
-    same_taken _ old new (ap (λ (l : LabState). (timed l).taken) w
-    ∙ taken_given (unwrap_or (driven (words text)) []) (timed old))
-within Monitor text old new w =
-    monitors (command_in text old.recording.session) old.recording.session.limit
-    (monitored_run text old.recording.session) old new refl w
-within _ text old new w = unmoved _ old new w
+    let now = ap (λ (l : LabState). (timed l).taken) w
+    ∙ taken_after (timed old) (steps_of (step_ends old.recording.session) n) in omega (arith, k, now)
+within (orders.Back n) old new w =
+    let is = ap (λ (l : LabState). (timed l).taken) w ∙ taken_after _ ((timed old).taken - n) in omega (arith, is)
+within (orders.List e follows) old new w = same_taken _ old new (ap (λ (l : LabState). (timed l).taken) w)
+within (orders.Break a) old new w = same_taken _ old new (ap (λ (l : LabState). (timed l).taken) w)
+within (orders.Clear a) old new w = same_taken _ old new (ap (λ (l : LabState). (timed l).taken) w)
+within (orders.Give inputs) old new w =
+    same_taken _ old new (ap (λ (l : LabState). (timed l).taken) w ∙ taken_given inputs (timed old))
+within (orders.Monitor line) old new w =
+    monitors (command_in line old.recording.session) old.recording.session.limit
+    (monitored_run line old.recording.session) old new refl w
+within _ old new w = unmoved _ old new w
 
 -- ---- where memory ran out
 
@@ -179,20 +110,9 @@ out n Does old new each (inr (inr s)) = omega (arith, each s.0 s.1, rises (timed
 
 -- ---- the calls
 
--- of a line, by its command and its operands
-pub line_within : (line : List ℕ) (c : Command) (text : List ℕ) (old mid new : LabState) → c ≡ line_command line
-    → mid ≡ ready c old → lab.Leaves c text mid new → IsWithin (call_limit (line_command line) old.piece) old new
-line_within line c text old mid new e is w =
-    subst (λ (k : Command). IsWithin (call_limit k old.piece) old new) e
-    (within c text (ready c old) new (subst (λ (l : LabState). lab.Leaves c text l new) is w))
-
-pub line_short : (line : List ℕ) (c : Command) (text : List ℕ) (old mid new : LabState) → c ≡ line_command line
-    → mid ≡ ready c old → RunsOut (lab.Leaves c text) mid new
-    → IsWithin (call_limit (line_command line) old.piece) old new
-line_short line c text old mid new e is w =
-    subst (λ (k : Command). IsWithin (call_limit k old.piece) old new) e
-    (out _ (lab.Leaves c text) (ready c old) new (λ d v. within c text (ready c old) d v)
-    (subst (λ (l : LabState). RunsOut (lab.Leaves c text) l new) is w))
+pub short_within : (o : Order) (old new : LabState) → RunsOut (lab.Leaves o) old new
+    → IsWithin (call_limit o old.piece) old new
+short_within o old new s = out _ (lab.Leaves o) old new (λ d w. within o old d w) s
 
 pub piece_within : (p : Plan) (old new : LabState) → GoesOn p old new → IsWithin (max old.piece 1) old new
 piece_within p old new g = goes p old new g

@@ -1,5 +1,5 @@
 -- Runs and what they leave.
-use Rattle.std.proofs.Common.{◌≡◌, ◌≢◌, ◌∙◌, ℕ, zero, suc, ◌+◌, ◌-◌, ◌<◌, Bool, true, false, List, [], ◌∷◌, refl, sym, ap, subst, arith}
+use Rattle.std.proofs.Common.{◌≡◌, ◌∙◌, ℕ, zero, suc, ◌+◌, ◌-◌, ◌<◌, Bool, true, false, List, [], ◌∷◌, refl, sym, ap, subst, arith}
 use Rattle.std.proofs.lemmas.Bool.{false≢true}
 use Rattle.std.proofs.lemmas.Bool.Decides.{nat_tests}
 use Rattle.std.specs.FinSet as set
@@ -17,10 +17,8 @@ use Rattle.rv_recording.specs.declared.until.End.TheVariants.{Halted, Reached, B
 use Rattle.rv_recording.proofs.Counting.{all_steps, joins, joins_over, over_at, over_or_all, same_steps}
 use Rattle.rv_timeline.specs.declared.input.Input.{Input}
 use Rattle.rv_lab.specs.State.{LabState, sent, timed}
-use Rattle.rv_lab.specs.Commands.{Steps, Traces, With, begun, follows, goal_after, gone_on, next_of, piece_steps, plan_after, run_ends, with_console, with_inputs, with_piece, with_session, with_steps}
+use Rattle.rv_lab.specs.Commands.{Steps, Traces, begun, goal_after, gone_on, next_of, piece_steps, plan_after, run_ends, with_console, with_inputs, with_piece, with_session, with_steps}
 use Rattle.rv_lab.specs.Support.Short.{Traced, rest_of, stepped, stepped_by}
-use Rattle.rv_lab.specs.declared.command.Command.{Command}
-use Rattle.rv_lab.specs.declared.command.Command.TheVariants.{Step, Over, Moves, Save, Monitor, Quit, Again}
 use Rattle.rv_lab.specs.declared.lab.Next.TheVariants as next
 use Rattle.rv_lab.specs.declared.plan.Plan.{Plan}
 use Rattle.rv_lab.specs.declared.plan.Goal.{Goal}
@@ -166,17 +164,6 @@ pub ended_next : (kept : Option Plan) (mid new : LabState) → kept ≡ mid.plan
     → new ≡ with_console mid → next.More ≡ next_of new
 ended_next kept mid new now e told =
     more_next new (ap (λ (l : LabState). l.plan) told ∙ (sym now ∙ e))
-
-pub more_follows : (c : Command) (text : List ℕ) (s : SessionState) (new : LabState) → c ≢ Quit → c ≢ Save
-    → c ≢ Monitor → new.plan ≡ None → next.More ≡ follows c text s new
-more_follows Quit text s new a b d e = absurd (a refl)
-more_follows Save text s new a b d e = absurd (b refl)
-more_follows Monitor text s new a b d e = absurd (d refl)
-more_follows Step text s new a b d e = rw e refl
-more_follows Over text s new a b d e = rw e refl
-more_follows (Moves m) text s new a b d e = rw e refl
-more_follows Again text s new a b d e = rw e refl
-more_follows _ text s new a b d e = refl
 
 -- ---- a trace
 
@@ -363,18 +350,11 @@ single_step n old mid new one h is e =
     (e ∙ ap (λ (l : LabState). with_console (record (begun l) { recording = stepped l.recording }))
     (is ∙ ap (λ (m : ℕ). record old { count = m; plan = None }) one)))
 
--- what was read is done
-pub read_as : {A : Type 0} (meaning : Option A) (x : A) (Does : A → LabState → LabState → Type 0)
-    (old new : LabState) → meaning ≡ Some x → Does x old new → With meaning Does old new
-read_as {A = A} meaning x Does old new e h = subst (λ (o : Option A). With o Does old new) (sym e) h
-
-pub trace_runs : (meaning : Option ℕ) (n : ℕ) (old mid new told : LabState) → meaning ≡ Some n
-    → IsInTime (timed old) → mid ≡ begun old → Traced n mid new → told ≡ with_console new
-    → With meaning Traces old told
-trace_runs meaning n old mid new told e h is t same =
-    subst (With meaning Traces old) (sym same)
-    (read_as meaning n Traces old (with_console new) e
-    (traced_runs n old new h (subst (λ (l : LabState). Traced n l new) is t)))
+pub trace_runs : (n : ℕ) (old mid new told : LabState) → IsInTime (timed old) → mid ≡ begun old → Traced n mid new
+    → told ≡ with_console new → Traces n old told
+trace_runs n old mid new told h is t same =
+    subst (Traces n old) (sym same)
+    (traced_runs n old new h (subst (λ (l : LabState). Traced n l new) is t))
 
 -- ---- inputs
 

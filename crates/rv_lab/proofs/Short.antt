@@ -1,7 +1,7 @@
 -- Calls that stopped short, for memory, of what they do.
-use Rattle.std.proofs.Common.{◌≡◌, ◌≢◌, ◌∙◌, ℕ, zero, suc, ◌+◌, ◌-◌, ◌<◌, ◌≤◌, true, List, [], ◌∷◌, length, take, drop, get_or, refl, sym, ap, subst, arith, inr}
+use Rattle.std.proofs.Common.{◌≡◌, ◌∙◌, ℕ, zero, suc, ◌+◌, ◌-◌, ◌<◌, ◌≤◌, true, List, [], ◌∷◌, length, take, drop, get_or, refl, sym, ap, subst, arith, inr}
 use Rattle.std.proofs.lemmas.List.{take_all}
-use Rattle.std.specs.Prelude.{min, fold, Bool, false, if◌then◌else◌, Option, Some, None, Result, Ok, Err, OnErr, OnOk, MatchOption, max, unwrap_or}
+use Rattle.std.specs.Prelude.{min, fold, Bool, false, if◌then◌else◌, Option, Some, None, Result, Ok, Err, OnErr, MatchOption, max}
 use Rattle.rv_base.specs.declared.memory.NoMemory.{NoMemory}
 use Rattle.rv_timeline.specs.Timed.{never_falls}
 use Rattle.rv_timeline.specs.declared.input.Input.{Input}
@@ -13,15 +13,12 @@ use Rattle.rv_monitor.proofs.Steps.{after_due, after_more, after_rises}
 use Rattle.rv_recording.specs.Recording.{RecordingState, with_timed}
 use Rattle.rv_recording.specs.Support.Refused.{IsRefusedIn}
 use Rattle.rv_lab.specs.Commands as lab
-use Rattle.rv_lab.specs.Commands.{Begins, InSession, Repeats, Starts, Steps, Traces, With, begun, monitored_run, ready, run_ends, with_console, with_inputs, with_session}
+use Rattle.rv_lab.specs.Commands.{Begins, InSession, Monitors, Starts, Steps, Traces, With, begun, monitored_run, run_ends, with_console, with_inputs, with_session}
 use Rattle.rv_lab.specs.Refusals.{Leads, RunsOut, StopsShort, by_hand, due, nowhere, steps}
-use Rattle.rv_lab.specs.Support.Short.{Changes, Gives, IsOnWay, Traced, stepped, stepped_by}
+use Rattle.rv_lab.specs.Support.Short.{Gives, IsOnWay, Traced, stepped, stepped_by}
 use Rattle.rv_lab.specs.State.{LabState, timed}
-use Rattle.rv_lab.specs.Words.{line_command}
-use Rattle.rv_operands.specs.Operands.{bytes_inputs, operand_text}
-use Rattle.rv_lab.specs.declared.command.Command.{Command}
-use Rattle.rv_lab.specs.declared.command.Command.TheVariants.{Again, Monitor, Moves, Over, Receive, Step}
-use Rattle.rv_lab.specs.declared.command.Move.{Move}
+use Rattle.rv_lab.specs.declared.order.Order.{Order}
+use Rattle.rv_lab.specs.declared.order.Order.TheVariants as orders
 use Rattle.rv_lab.specs.declared.plan.Plan.{Plan}
 use Rattle.rv_lab.specs.declared.plan.Goal.TheVariants as goal
 use Rattle.rv_lab.proofs.Runs.{one_and_more, single, traced_more, traced_runs}
@@ -39,7 +36,7 @@ joined a b _ h (steps s n t) = steps s n (joined a b s h t)
 joined a b _ h (due s t) = due s (joined a b s h t)
 joined a b _ h (by_hand s input t) = by_hand s input (joined a b s h t)
 
-to_steps : (s : TimedState) (n : ℕ) → Leads s (after s n)
+pub to_steps : (s : TimedState) (n : ℕ) → Leads s (after s n)
 to_steps s n = steps s n nowhere
 
 to_due : (s : TimedState) (n : ℕ) → Leads s (with_due (after s n))
@@ -108,14 +105,14 @@ starts_short (Err why) p old mid new is s = subst (λ (l : LabState). StopsShort
 
 -- a run that a line of the monitor asks for
 starts_as : (line : List ℕ) (p : Plan) (old done : LabState) → Some p ≡ monitored_run line old.recording.session
-    → Starts p old done → lab.Leaves Monitor line old done
+    → Starts p old done → Monitors line old done
 starts_as line p old done e s =
     subst (λ (o : Option Plan). MatchOption o
     (InSession (monitor.Leaves (command_in line old.recording.session)) old done) (λ q. Starts q old done)) e s
 
 pub monitor_short : {A : Type 0} (r : Result A NoMemory) (line : List ℕ) (p : Plan) (old new : LabState)
     → Some p ≡ monitored_run line old.recording.session → OnErr r (StopsShort (Starts p) old new)
-    → OnErr r (RunsOut (lab.Leaves Monitor line) old new)
+    → OnErr r (RunsOut (Monitors line) old new)
 monitor_short (Ok a) line p old new e s = tt
 monitor_short (Err why) line p old new e s = inr (inr (s.0, starts_as line p old s.0 e s.1, s.2, s.3, s.4))
 
@@ -132,92 +129,29 @@ reads_short : {A : Type 0} (meaning : Option A) (x : A) (Does : A → LabState �
 reads_short {A = A} meaning x Does old new e s =
     subst (λ (o : Option A). RunsOut (With o Does) old new) (sym e) (inr (inr s))
 
-pub read_short : {A B : Type 0} (r : Result B NoMemory) (meaning : Option A) (x : A)
-    (Does : A → LabState → LabState → Type 0) (old new : LabState) → meaning ≡ Some x
-    → OnErr r (StopsShort (Does x) old new) → OnErr r (RunsOut (With meaning Does) old new)
-read_short (Ok b) meaning x Does old new e s = tt
-read_short {A = A} (Err why) meaning x Does old new e s = reads_short meaning x Does old new e s
-
--- a command that is known
-pub changed : {A : Type 0} (r : Result A NoMemory) (command known : Command) (operands : List ℕ)
-    (old new : LabState) → command ≡ known → OnErr r (RunsOut (Changes known operands) old new)
-    → OnErr r (RunsOut (Changes command operands) old new)
-changed r command known operands old new e s =
-    subst (λ (c : Command). OnErr r (RunsOut (Changes c operands) old new)) (sym e) s
-
--- where operands were read as inputs
-pub received : {A : Type 0} (r : Result A NoMemory) (inputs : List Input) (operands : List ℕ)
-    (old new : LabState) → inputs ≡ unwrap_or (bytes_inputs operands) [] → StopsShort (Gives inputs) old new
-    → OnErr r (RunsOut (lab.Leaves Receive operands) old new)
-received r inputs operands old new e s =
-    on_err r (RunsOut (lab.Leaves Receive operands) old new)
-    (inr (inr (subst (λ (is : List Input). StopsShort (Gives is) old new) e s)))
-
-pub again_short : {A : Type 0} (r : Result A NoMemory) (command known : Command) (old new : LabState)
-    → command ≡ known → OnErr r (StopsShort (Repeats known) old new)
-    → OnErr r (StopsShort (Repeats command) old new)
-again_short r command known old new e s =
-    subst (λ (c : Command). OnErr r (StopsShort (Repeats c) old new)) (sym e) s
-
-pub obeyed : {A : Type 0} (r : Result A NoMemory) (command known : Command) (operands : List ℕ)
-    (old new : LabState) → command ≡ known → OnErr r (RunsOut (lab.Leaves known operands) old new)
-    → OnErr r (RunsOut (lab.Leaves command operands) old new)
-obeyed r command known operands old new e s =
-    subst (λ (c : Command). OnErr r (RunsOut (lab.Leaves c operands) old new)) (sym e) s
-
-pub moved_as : {A : Type 0} (r : Result A NoMemory) (m known : Move) (operands : List ℕ) (old new : LabState)
-    → m ≡ known → OnErr r (RunsOut (lab.Leaves (Moves known) operands) old new)
-    → OnErr r (RunsOut (lab.Leaves (Moves m) operands) old new)
-moved_as r m known operands old new e s =
-    subst (λ (n : Move). OnErr r (RunsOut (lab.Leaves (Moves n) operands) old new)) (sym e) s
-
-pub step_again : {A : Type 0} (r : Result A NoMemory) (again : Command) (n : ℕ) (old new : LabState)
-    → again ≡ Step → n ≡ old.count → OnErr r (StopsShort (Steps n) old new)
-    → OnErr r (StopsShort (Repeats again) old new)
-step_again r again n old new e is s =
-    again_short r again Step old new e (subst (λ (m : ℕ). OnErr r (StopsShort (Steps m) old new)) is s)
-
--- a command that takes no step
-pub left_over : {A : Type 0} (r : Result A NoMemory) (command : Command) (operands : List ℕ)
-    (old new : LabState) → command ≢ Step → command ≢ Over → ((m : Move) → command ≢ Moves m) → command ≢ Again
-    → OnErr r (RunsOut (Changes command operands) old new)
-    → OnErr r (RunsOut (lab.Leaves command operands) old new)
-left_over r Step operands old new a b c d s = absurd (a refl)
-left_over r Over operands old new a b c d s = absurd (b refl)
-left_over r (Moves m) operands old new a b c d s = absurd (c m refl)
-left_over r Again operands old new a b c d s = absurd (d refl)
-left_over r _ operands old new a b c d s = s
-
-pub left_done : {A : Type 0} (r : Result A NoMemory) (command : Command) (operands : List ℕ)
-    (old new : LabState) → command ≢ Step → command ≢ Over → ((m : Move) → command ≢ Moves m) → command ≢ Again
-    → OnOk r (Changes command operands old new) → OnOk r (lab.Leaves command operands old new)
-left_done r Step operands old new a b c d s = absurd (a refl)
-left_done r Over operands old new a b c d s = absurd (b refl)
-left_done r (Moves m) operands old new a b c d s = absurd (c m refl)
-left_done r Again operands old new a b c d s = absurd (d refl)
-left_done r _ operands old new a b c d s = s
-
--- a line, by its command and its operands
-refuses : (line : List ℕ) (command : Command) (operands : List ℕ) (old mid new : LabState)
-    → command ≡ line_command line → operands ≡ operand_text line → mid ≡ ready command old
-    → RunsOut (lab.Leaves command operands) mid new
-    → RunsOut (lab.Leaves (line_command line) (operand_text line)) (ready (line_command line) old) new
-refuses line command operands old mid new e f is s =
-    subst (λ (c : Command). RunsOut (lab.Leaves c (operand_text line)) (ready c old) new) e
-    (subst (λ (o : List ℕ). RunsOut (lab.Leaves command o) (ready command old) new) f
-    (subst (λ (l : LabState). RunsOut (lab.Leaves command operands) l new) is s))
-
-pub line_refused : {A : Type 0} (r : Result A NoMemory) (line : List ℕ) (command : Command) (operands : List ℕ)
-    (old mid new : LabState) → command ≡ line_command line → operands ≡ operand_text line
-    → mid ≡ ready command old → RunsOut (lab.Leaves command operands) mid new
-    → OnErr r (RunsOut (lab.Leaves (line_command line) (operand_text line)) (ready (line_command line) old) new)
-line_refused r line command operands old mid new e f is s =
-    on_err r _ (refuses line command operands old mid new e f is s)
-
 pub short_is_out : {A : Type 0} (Does : LabState → LabState → Type 0) (r : Result A NoMemory)
     (old new : LabState) → OnErr r (StopsShort Does old new) → OnErr r (RunsOut Does old new)
 short_is_out Does (Ok a) old new s = tt
 short_is_out Does (Err why) old new s = inr (inr s)
+
+pub obeyed : {A : Type 0} (r : Result A NoMemory) (order known : Order) (old new : LabState) → order ≡ known
+    → OnErr r (RunsOut (lab.Leaves known) old new) → OnErr r (RunsOut (lab.Leaves order) old new)
+obeyed r order known old new e s =
+    subst (λ (o : Order). OnErr r (RunsOut (lab.Leaves o) old new)) (sym e) s
+
+pub given_short : {A : Type 0} (r : Result A NoMemory) (order : Order) (inputs those : List Input) (old new : LabState)
+    → order ≡ orders.Give inputs → those ≡ inputs → OnErr r (StopsShort (Gives those) old new)
+    → OnErr r (RunsOut (lab.Leaves order) old new)
+given_short r order inputs those old new e same s =
+    obeyed r order (orders.Give inputs) old new e (short_is_out (lab.Leaves (orders.Give inputs)) r old new
+    (subst (λ (is : List Input). OnErr r (StopsShort (Gives is) old new)) same s))
+
+pub monitored_short : {A : Type 0} (r : Result A NoMemory) (order : Order) (line this : List ℕ) (old new : LabState)
+    → order ≡ orders.Monitor line → this ≡ line → OnErr r (RunsOut (Monitors this) old new)
+    → OnErr r (RunsOut (lab.Leaves order) old new)
+monitored_short r order line this old new e same s =
+    obeyed r order (orders.Monitor line) old new e
+    (subst (λ (text : List ℕ). OnErr r (RunsOut (Monitors text) old new)) same s)
 
 -- ---- steps
 
@@ -352,11 +286,10 @@ run_of_steps : (n : ℕ) (old new : LabState) → IsInTime (timed old) → Stops
     → StopsShort (Traces n) old new
 run_of_steps n old new h s = (with_console s.0, traced_runs n old s.0 h s.1, s.2, s.3, s.4)
 
-pub trace_short : (meaning : Option ℕ) (n : ℕ) (old mid new : LabState) → meaning ≡ Some n
-    → IsInTime (timed old) → mid ≡ begun old → StopsShort (Traced n) mid new
-    → RunsOut (With meaning Traces) old new
-trace_short meaning n old mid new e h is s =
-    reads_short meaning n Traces old new e
+pub trace_short : {A : Type 0} (r : Result A NoMemory) (n : ℕ) (old mid new : LabState) → IsInTime (timed old)
+    → mid ≡ begun old → StopsShort (Traced n) mid new → OnErr r (StopsShort (Traces n) old new)
+trace_short r n old mid new h is s =
+    on_err r (StopsShort (Traces n) old new)
     (run_of_steps n old new h (subst (λ (l : LabState). StopsShort (Traced n) l new) is s))
 
 -- ---- inputs by hand

@@ -1,27 +1,23 @@
 -- The values that commands which look answer: lists that are filled one element after another.
-use Rattle.std.proofs.Common.{◌≡◌, ◌∙◌, ℕ, zero, suc, ◌+◌, ◌-◌, ◌<◌, ◌≤◌, Bool, true, false, List, [], ◌∷◌, ◌++◌, cond, drop, length, map, refl, sym, ap, subst, add-one, append-nil, append_assoc, nat_le, nat_lt, arith}
-use Rattle.std.specs.Prelude.{Option, Some, None, option_and_then, IfOk, IfSome, OnOk, Result, Ok, Err, filter, slice_get, unwrap_or}
+use Rattle.std.proofs.Common.{◌≡◌, ◌∙◌, ℕ, zero, suc, ◌+◌, ◌-◌, ◌<◌, ◌≤◌, Bool, true, false, List, [], ◌∷◌, ◌++◌, cond, drop, length, map, refl, sym, ap, subst, add-one, append-nil, append_assoc, nat_le, arith}
+use Rattle.std.specs.Prelude.{Option, Some, None, option_and_then, OnOk, Result, Ok, Err, filter, slice_get, unwrap_or}
 use Rattle.std.specs.Borrow.{Bor}
 use Rattle.std.specs.FinSet as set
 use Rattle.std.specs.List.{last_or, range_with_len}
 use Rattle.std.specs.Option.{option_map}
-use Rattle.std.proofs.lemmas.Bool.Decides.{nat_tests}
 use Rattle.std.proofs.lemmas.List.{map-append}
 use Rattle.rv_asm.specs.Lines.{Listed}
 use Rattle.rv_answers.proofs.Sources.{map_last}
 use Rattle.rv_answers.proofs.Regions.{one_more}
-use Rattle.rv_answers.specs.declared.answer.Answer.{Answer}
-use Rattle.rv_answers.specs.declared.answer.Answer.TheVariants as answers
 use Rattle.rv_answers.specs.declared.values.Place.{Place}
 use Rattle.rv_answers.specs.declared.values.Trap.{Trap}
 use Rattle.rv_board.specs.declared.event.TrapRecord.{TrapRecord}
 use Rattle.rv_operands.specs.Support.Words.{only_of}
 use Rattle.rv_recording.specs.Breaks.{IsNext}
-use Rattle.rv_lab.specs.Answers.{breakpoints, distance_at, place_of, rows_of, trap_runs}
-use Rattle.rv_lab.specs.Lines.{line_at, line_count, next_excerpt}
-use Rattle.rv_lab.specs.State.{LabState, listing}
-use Rattle.rv_lab.specs.declared.lab.Reply.{Reply}
-use Rattle.rv_lab.specs.Support.Rows.{Replies, comes_again, label_at}
+use Rattle.rv_lab.specs.Answers.{breakpoints, distance_at, place_of, trap_runs}
+use Rattle.rv_lab.specs.Lines.{line_at}
+use Rattle.rv_lab.specs.State.{LabState}
+use Rattle.rv_lab.specs.Support.Rows.{comes_again, label_at}
 use Rattle.rv_lab.proofs.TrapRuns.{front, more, no_more}
 
 -- ---- what a function gives of some numbers
@@ -63,14 +59,6 @@ distance_is {N} f near l a r e h =
         → option_map (λ (n : N). (f n).1) o ≡ option_map (λ (label : List ℕ × ℕ). label.1) (option_map f o)
     go None = refl
     go (Some n) = refl
-
--- ---- an empty line after `l`
-
-pub was_last : (l : LabState) → line_count (listing l) ≤ l.listed
-    → answers.WasLast ≡ rows_of answers.WasLast l (next_excerpt l)
-unfolding rows_of
-was_last l h =
-    let behind : nat_lt (line_count (listing l)) (l.listed + 1) ≡ true = grind (arith, nat_tests) in rw behind refl
 
 -- ---- the name of a control register
 
@@ -188,12 +176,3 @@ pub runs_other : {A E : Type 0} (r : Result A E) (l : LabState) (ts : List TrapR
     → OnOk r (zs ≡ xs ++ trap_runs l n (drop i ts))
 runs_other (Ok x) l ts i n t v xs ys zs e other is h g = other_run l ts i n t v xs ys zs e other is h g
 runs_other (Err why) l ts i n t v xs ys zs e other is h g = tt
-
--- ---- the answer of a line
-
-pub replied : {E : Type 0} (v : Result (Option Answer) E) (o : Option Answer) (r : Result Reply E)
-    → IfOk v (λ x. x ≡ o) → IfOk r (λ x. Replies v x.answer) → IfOk r (λ x. IfSome o (λ a. x.answer ≡ a))
-replied v o (Err e) h g = tt
-replied (Err e) o (Ok r) h g = absurd g
-replied (Ok None) o (Ok r) h g = subst (λ p. IfSome p (λ a. r.answer ≡ a)) h tt
-replied (Ok (Some a)) o (Ok r) h g = subst (λ p. IfSome p (λ a. r.answer ≡ a)) h g

@@ -16,14 +16,12 @@ use Rattle.rv_plic.specs.Sources.{sources}
 use Rattle.rv_board.specs.BoardState.{BoardState, csr_of}
 use Rattle.rv_board.specs.declared.event.TrapRecord.{TrapRecord}
 use Rattle.rv_monitor.specs.Views.{byte_at_offset, word_at}
-use Rattle.rv_operands.specs.Operands.{address, line_number}
+use Rattle.rv_operands.specs.Operands.{address}
 use Rattle.rv_asm.specs.Lines.{Listed}
 use Rattle.rv_answers.specs.Memory.{extent}
 use Rattle.rv_answers.specs.States.{bits_of, clock_of, port_of, regions, source_of}
 use Rattle.rv_answers.specs.declared.answer.Answer.{Answer}
 use Rattle.rv_answers.specs.declared.answer.Answer.TheVariants as answers
-use Rattle.rv_answers.specs.declared.answer.Look.{Look}
-use Rattle.rv_answers.specs.declared.answer.Look.TheVariants as looks
 use Rattle.rv_answers.specs.declared.answer.Why.{Why}
 use Rattle.rv_answers.specs.declared.answer.Why.TheVariants as why
 use Rattle.rv_answers.specs.declared.extent.Format.{Format}
@@ -38,11 +36,11 @@ use Rattle.rv_answers.specs.declared.values.RegisterFile.{RegisterFile}
 use Rattle.rv_answers.specs.declared.values.Standing.{Standing}
 use Rattle.rv_answers.specs.declared.values.Trap.{Trap}
 use Rattle.rv_lab.specs.State.{LabState, board, listing, registers_of, timed}
-use Rattle.rv_lab.specs.Lines.{excerpt_round, line_at, line_count, next_excerpt, row_of}
+use Rattle.rv_lab.specs.Lines.{line_at, line_count, row_of}
 use Rattle.rv_lab.specs.Words.{count_of}
 use Rattle.rv_lab.specs.declared.source.Excerpt.{Excerpt}
-use Rattle.rv_lab.specs.declared.command.Command.{Command}
-use Rattle.rv_lab.specs.declared.command.Command.TheVariants as command
+use Rattle.rv_answers.specs.declared.command.Command.{Command}
+use Rattle.rv_answers.specs.declared.command.Command.TheVariants as command
 
 -- the only one of some words
 abbrev pub only : List (List ℕ) → Option (List ℕ)
@@ -50,8 +48,8 @@ only (word ∷ []) = Some word
 only _ = None
 
 -- a command whose operands have no meaning
-abbrev pub refused : Look → List ℕ → Why → Answer
-refused look text why = answers.Refused (record { look = look; text = text; why = why })
+abbrev pub refused : Command → List ℕ → Why → Answer
+refused c text why = answers.Refused (record { command = c; text = text; why = why })
 
 -- ---- places
 
@@ -77,7 +75,7 @@ standing l = let m = (board l).machine in
 unfoldable pub instruction_answer : LabState → List (List ℕ) → Answer
 instruction_answer l [] = answers.Instruction (place_of l (board l).machine.pc)
 instruction_answer l (word ∷ more) = option_map_or (λ a. answers.Instruction (place_of l a))
-    (address (listing l) (board l) word) (refused looks.Instruction word why.NoAddress)
+    (address (listing l) (board l) word) (refused command.Instruction word why.NoAddress)
 
 unfoldable pub breakpoints : LabState → List Place
 breakpoints l =
@@ -94,7 +92,7 @@ registers_answer l text =
     let one : ℕ → Answer = λ r. answers.Register (record { register = r; value = slice_index (board l).machine.registers r }) in
     if nat_lt 0 (length (words text)) then option_map_or one
     (option_and_then (λ name. lookup name register_names) (only (words text)))
-    (refused looks.Registers text why.NoRegister)
+    (refused command.Registers text why.NoRegister)
     else answers.Registers (register_file l)
 
 -- a control register as machine mode reads it, and what its bits say
@@ -110,7 +108,7 @@ unfoldable pub control_answer : LabState → List ℕ → Answer
 control_answer l text =
     let name = unwrap_or (only (words text)) [] in
     option_map_or (λ csr. answers.ControlRegister (control_value (board l) name csr))
-    (lookup name csr_names) (refused looks.ControlRegister name why.NoControlRegister)
+    (lookup name csr_names) (refused command.ControlRegister name why.NoControlRegister)
 
 -- ---- `m`
 
@@ -123,32 +121,23 @@ cells_of b a n format.Text =
     cells.Text (map char (range_with_len 0 (position_or_len (λ i. char i == 0) (range_with_len 0 n))))
 
 unfoldable pub memory_answer : LabState → List (List ℕ) → Answer
-memory_answer l [] = refused looks.Memory [] why.Missing
+memory_answer l [] = refused command.Memory [] why.Missing
 memory_answer l (word ∷ more) = option_map_or (λ a. option_map_or
     (λ e. answers.Memory (record { address = a; cells = cells_of (board l) a e.count e.format }))
-    (extent more) (refused looks.Memory [] why.NoExtent))
-    (address (listing l) (board l) word) (refused looks.Memory word why.NoAddress)
+    (extent more) (refused command.Memory [] why.NoExtent))
+    (address (listing l) (board l) word) (refused command.Memory word why.NoAddress)
 
 -- ---- `l`
 
--- the rows of an excerpt, of those lines that the source has, or an answer where it would begin behind the last
-unfoldable pub rows_of : Answer → LabState → Excerpt → Answer
-rows_of behind l e =
-    if nat_lt (line_count (listing l)) e.first then behind else answers.List
-    (map (row_of l) (range_with_len e.first (min e.count (line_count (listing l) - (e.first - 1)))))
+-- where an excerpt begins behind the last line: whether it follows those lines that were listed last
+abbrev pub behind_last : (follows : Bool) → LabState → Answer
+behind_last follows l = if follows then answers.WasLast else answers.BehindLast (line_count (listing l))
 
--- those round a line, as many as the next word says
-unfoldable pub rows_round : LabState → List (List ℕ) → ℕ → Answer
-rows_round l more line = option_map_or
-    (λ n. rows_of (answers.BehindLast (line_count (listing l))) l (excerpt_round line n))
-    (count_of 11 1000 more) (refused looks.List [] why.NoCount)
-
-unfoldable pub list_answer : LabState → List (List ℕ) → Answer
-list_answer l [] = rows_round l [] (unwrap_or (line_at (listing l) (board l).machine.pc) 1)
-list_answer l (word ∷ more) = option_map_or (rows_round l more) (line_number word)
-    (option_map_or (λ a. option_map_or (rows_round l more) (line_at (listing l) a)
-    (refused looks.List [] (why.NoLine a))) (address (listing l) (board l) word)
-    (refused looks.List word why.NoAddress))
+-- the rows of an excerpt, of those lines that the source has
+unfoldable pub rows_answer : Excerpt → (follows : Bool) → LabState → Answer
+rows_answer e follows l =
+    if nat_le (line_count (listing l)) e.after then behind_last follows l else answers.List
+    (map (row_of l) (range_with_len (e.after + 1) (min e.count (line_count (listing l) - e.after))))
 
 -- ---- `t` and `e`
 
@@ -165,7 +154,7 @@ unfoldable pub edges_answer : LabState → List (List ℕ) → Answer
 edges_answer l operands = option_map_or
     (λ s. answers.Edges (record { source = s; pending = edges_of (board l).machine.bus.plic.edges s }))
     (option_and_then (λ s. if is_in_range 24 31 s then Some s else None) (count_of 0 31 operands))
-    (refused looks.Edges [] why.NoEdgeSource)
+    (refused command.Edges [] why.NoEdgeSource)
 
 -- ---- `dev`
 
@@ -194,23 +183,14 @@ devices_of b = let m = b.machine in record {
 
 -- ---- the answer
 
--- an empty line after `l`
-abbrev pub again_answer : Command → LabState → Option Answer
-again_answer command.List l = Some (rows_of answers.WasLast l (next_excerpt l))
-again_answer _ l = None
-
--- what a command answers by its operands, where it is one that only looks
-unfoldable pub answer_of : Command → List ℕ → LabState → Option Answer
-answer_of command.Where text l = Some (answers.Where (standing l))
-answer_of command.Registers text l = Some (registers_answer l text)
-answer_of command.ControlRegister text l = Some (control_answer l text)
-answer_of command.Memory text l = Some (memory_answer l (words text))
-answer_of command.Instruction text l = Some (instruction_answer l (words text))
-answer_of command.List text l = Some (list_answer l (words text))
-answer_of command.Break text l =
-    if nat_lt 0 (length (words text)) then None else Some (answers.Breakpoints (breakpoints l))
-answer_of command.Traps text l = Some (answers.Traps (trap_runs l 0 (board l).traps))
-answer_of command.Edges text l = Some (edges_answer l (words text))
-answer_of command.Devices text l = Some (answers.Devices (devices_of (board l)))
-answer_of command.Again text l = again_answer l.again l
-answer_of _ text l = None
+-- what a command answers that only looks
+unfoldable pub look_answer : Command → List ℕ → LabState → Answer
+look_answer command.Where text l = answers.Where (standing l)
+look_answer command.Registers text l = registers_answer l text
+look_answer command.ControlRegister text l = control_answer l text
+look_answer command.Memory text l = memory_answer l (words text)
+look_answer command.Instruction text l = instruction_answer l (words text)
+look_answer command.Traps text l = answers.Traps (trap_runs l 0 (board l).traps)
+look_answer command.Edges text l = edges_answer l (words text)
+look_answer command.Devices text l = answers.Devices (devices_of (board l))
+look_answer _ text l = answers.Nothing

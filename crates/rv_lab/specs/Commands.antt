@@ -1,32 +1,27 @@
 -- To audit: public contracts cite this.
--- What each command leaves of a lab (this project's own: docs/LAB.md).
-use Rattle.std.specs.Prelude.{◌≡◌, ℕ, ◌+◌, ◌-◌, ◌≤◌, ◌&&◌, true, false, if◌then◌else◌, is_none, is_some, max, min, nat_lt, List, [], fold, Option, Some, None, MatchOption, unwrap_or}
-use Rattle.rv_base.specs.Words.{words}
-use Rattle.rv_timeline.specs.Timed.{driven}
+-- What each order leaves of a lab, by which a command line asks for something (this project's own: docs/LAB.md).
+use Rattle.std.specs.Prelude.{◌≡◌, ℕ, ◌+◌, ◌-◌, ◌≤◌, ◌&&◌, true, false, if◌then◌else◌, is_none, is_some, max, min, nat_lt, List, fold, Option, Some, None, MatchOption, unwrap_or}
 use Rattle.rv_timeline.specs.declared.input.Input.{Input}
 use Rattle.rv_monitor.specs.Commands.{command_in}
 use Rattle.rv_monitor.specs.Commands as monitor
 use Rattle.rv_commands.specs.declared.command.Command as commands
 use Rattle.rv_commands.specs.declared.command.Command.TheVariants as monitored
 use Rattle.rv_monitor.specs.State.{SessionState, TimedState, after, given, with_break, without_break}
-use Rattle.rv_recording.specs.Recording.{gone_back, last_step, with_timed}
+use Rattle.rv_recording.specs.Recording.{gone_back, with_timed}
 use Rattle.rv_recording.specs.Until.{break_ends, step_ends, steps_of, until_ends}
 use Rattle.rv_recording.specs.Out.{open_at, out_ends}
 use Rattle.rv_recording.specs.declared.until.End.{End}
-use Rattle.rv_operands.specs.Operands.{break_address, bytes_inputs, condition, operand_text}
-use Rattle.rv_lab.specs.State.{LabState, board, listing, registers_of, sent, timed}
+use Rattle.rv_lab.specs.State.{LabState, board, registers_of, sent, timed}
 use Rattle.rv_lab.specs.declared.lab.Next.{Next}
 use Rattle.rv_lab.specs.declared.lab.Next.TheVariants as next
 use Rattle.rv_lab.specs.declared.plan.Plan.{Plan}
 use Rattle.rv_lab.specs.declared.plan.Goal.{Goal}
 use Rattle.rv_lab.specs.declared.plan.Goal.TheVariants as goal
-use Rattle.rv_lab.specs.declared.command.Command.{Command}
-use Rattle.rv_lab.specs.declared.command.Command.TheVariants.{Step, Over, Moves, Break, Clear, Receive, Line, Save, Monitor, Quit, Again, StepOnce}
-use Rattle.rv_lab.specs.declared.command.Command.TheVariants as command
-use Rattle.rv_lab.specs.declared.command.Move.TheVariants.{Go, Finish, Until, Trace, Back}
-use Rattle.rv_lab.specs.Lines.{excerpt, next_excerpt, with_listed}
-use Rattle.rv_lab.specs.Saved.{name_in}
-use Rattle.rv_lab.specs.Words.{count_of, line_command, most_steps, most_traced, repeated, usual_steps}
+use Rattle.rv_answers.specs.declared.command.Command.{Command}
+use Rattle.rv_lab.specs.declared.order.Order.{Order}
+use Rattle.rv_lab.specs.declared.order.Order.TheVariants as orders
+use Rattle.rv_lab.specs.Lines.{with_listed}
+use Rattle.rv_lab.specs.Words.{repeated}
 
 -- ---- changes of a session
 
@@ -85,6 +80,10 @@ gone_on p l =
 abbrev pub GoesOn : Plan → LabState → LabState → Type 0
 GoesOn p old new = new ≡ gone_on p old
 
+-- this was done with what there may be, and nothing where there is none
+abbrev pub With : {A : Type 0} → Option A → (A → LabState → LabState → Type 0) → LabState → LabState → Type 0
+With meaning Does old new = MatchOption meaning (new ≡ old) (λ x. Does x old new)
+
 -- a run in calls of any sizes, from a lab on to one where it is over
 pub data InPieces (end : LabState) : LabState → Type 0 where
   ended : end.plan ≡ None → InPieces end end
@@ -118,10 +117,6 @@ Traces n old new = new ≡ with_console (with_steps (steps_of (step_ends old.rec
 abbrev pub with_inputs : LabState → List Input → LabState
 with_inputs l inputs = record l { recording = with_timed l.recording (fold given (timed l) inputs) }
 
--- this was done with what there may be, and nothing where there is none
-abbrev pub With : {A : Type 0} → Option A → (A → LabState → LabState → Type 0) → LabState → LabState → Type 0
-With meaning Does old new = MatchOption meaning (new ≡ old) (λ x. Does x old new)
-
 -- the run of a command of the monitor that takes steps, of a session that takes at most so many in all
 abbrev pub run_of : Option commands.Command → ℕ → Option Plan
 run_of (Some (monitored.Step n)) limit = Some (record { goal = goal.Count; left = n; is_monitored = true })
@@ -138,50 +133,23 @@ abbrev pub Monitors : List ℕ → LabState → LabState → Type 0
 Monitors line old new = MatchOption (monitored_run line old.recording.session)
     (InSession (monitor.Leaves (command_in line old.recording.session)) old new) (λ p. Starts p old new)
 
--- breakpoints changed at the address of some operands
-abbrev pub Breaks : (SessionState → ℕ → SessionState) → List ℕ → LabState → LabState → Type 0
-Breaks changed text old new = With (break_address (listing old) (board old) (words text))
-    (λ a before after. after ≡ with_session before (changed before.recording.session a)) old new
-
--- an empty line
-abbrev pub Repeats : Command → LabState → LabState → Type 0
-Repeats Step old new = Steps old.count old new
-Repeats StepOnce old new = Steps 1 old new
-Repeats Over old new = Begins (goal.Out 0) usual_steps old new
-Repeats command.List old new = new ≡ with_listed old (next_excerpt old)
-Repeats _ old new = new ≡ old
-
--- the lab that a command leaves, by the text of its operands; those without a row only look
-abbrev pub Leaves : Command → List ℕ → LabState → LabState → Type 0
-Leaves Step text old new = With (count_of 1 most_steps (words text)) Steps old new
-Leaves (Moves Go) text old new = With (count_of usual_steps most_steps (words text)) (Begins goal.Break) old new
-Leaves Over text old new = Begins (goal.Out 0) usual_steps old new
-Leaves (Moves Finish) text old new = Begins (goal.Out 1) usual_steps old new
-Leaves (Moves Until) text old new =
-    With (condition (listing old) (board old) (words text)) (λ c. Begins (goal.Until c) usual_steps) old new
-Leaves (Moves Trace) text old new =
-    With (count_of 10 most_traced (words text)) Traces old new
-Leaves (Moves Back) text old new =
-    With (count_of ((timed old).taken - old.before) last_step (words text)) (λ n before after.
-    let to = (timed before).taken - n in
-    after ≡ with_console (record (begun before) { recording = gone_back before.recording to; before = to })) old new
-Leaves command.List text old new =
-    With (excerpt old (words text)) (λ e before after. after ≡ with_listed before e) old new
-Leaves Again text old new = Repeats old.again old new
-Leaves Break text old new = Breaks with_break text old new
-Leaves Clear text old new = Breaks without_break text old new
-Leaves Receive text old new = new ≡ with_inputs old (unwrap_or (bytes_inputs text) [])
-Leaves Line text old new = new ≡ with_inputs old (unwrap_or (driven (words text)) [])
-Leaves Monitor text old new = Monitors text old new
-Leaves _ text old new = new ≡ old
+-- the lab that an order leaves; those without a row only look
+abbrev pub Leaves : Order → LabState → LabState → Type 0
+Leaves (orders.Steps n) old new = Steps n old new
+Leaves (orders.Run p) old new = Starts p old new
+Leaves (orders.Trace n) old new = Traces n old new
+Leaves (orders.Back n) old new = let to = (timed old).taken - n in
+    new ≡ with_console (record (begun old) { recording = gone_back old.recording to; before = to })
+Leaves (orders.List e follows) old new = new ≡ with_listed old e
+Leaves (orders.Break a) old new = new ≡ with_session old (with_break old.recording.session a)
+Leaves (orders.Clear a) old new = new ≡ with_session old (without_break old.recording.session a)
+Leaves (orders.Give inputs) old new = new ≡ with_inputs old inputs
+Leaves (orders.Monitor line) old new = Monitors line old new
+Leaves _ old new = new ≡ old
 
 -- the lab before a command: it ends the run that isn't over
 abbrev pub ready : Command → LabState → LabState
 ready command l = record l { plan = None; again = repeated command l.again }
-
--- the lab that a line leaves
-abbrev pub Obeys : List ℕ → LabState → LabState → Type 0
-Obeys line old new = Leaves (line_command line) (operand_text line) (ready (line_command line) old) new
 
 -- ---- what follows
 
@@ -194,27 +162,24 @@ abbrev pub monitor_next : Option commands.Command → LabState → Next
 monitor_next (Some monitored.Quit) new = next.Quit
 monitor_next c new = next_of new
 
--- what follows a command, by the text of its operands, the session before it, and the lab that it left
-abbrev pub follows : Command → List ℕ → SessionState → LabState → Next
-follows Step text s new = next_of new
-follows Over text s new = next_of new
-follows (Moves m) text s new = next_of new
-follows Again text s new = next_of new
-follows Monitor text s new = monitor_next (command_in text s) new
-follows Save text s new = if is_some (name_in text) then next.Save else next.More
-follows Quit text s new = next.Quit
-follows _ text s new = next.More
-
--- what follows a line
-abbrev pub next_after : List ℕ → SessionState → LabState → Next
-next_after line s new = follows (line_command line) (operand_text line) s new
+-- what follows an order, by the session before it and the lab that it left
+abbrev pub follows : Order → SessionState → LabState → Next
+follows (orders.Steps n) s new = next_of new
+follows (orders.Run p) s new = next_of new
+follows (orders.Monitor line) s new = monitor_next (command_in line s) new
+follows (orders.Save (Some name)) s new = next.Save
+follows orders.Quit s new = next.Quit
+follows _ s new = next.More
 
 -- ---- the steps of a call
 
--- the most steps of a call for a command, of a lab with pieces of so many: a piece, or for `trace` its 1,000
-abbrev pub call_limit : Command → ℕ → ℕ
-call_limit (Moves Trace) piece = most_traced
-call_limit command piece = max piece 1
+-- the most steps of a call for an order, of a lab with pieces of so many: a piece, or for `trace` all its steps
+abbrev pub call_limit : Order → ℕ → ℕ
+call_limit (orders.Steps n) piece = max piece 1
+call_limit (orders.Run p) piece = max piece 1
+call_limit (orders.Monitor line) piece = max piece 1
+call_limit (orders.Trace n) piece = n
+call_limit _ piece = 0
 
 -- a call took n steps at most
 abbrev pub IsWithin : ℕ → LabState → LabState → Type 0

@@ -1,16 +1,14 @@
 -- To audit: public contracts cite this.
 -- The lines of a lab's source by their addresses, and which of them `l` lists (this project's own: docs/LAB.md).
-use Rattle.std.specs.Prelude.{ℕ, ◌+◌, ◌-◌, ◌/◌, ◌==◌, ◌&&◌, false, List, [], ◌∷◌, find, get_or, if◌then◌else◌, length, max, min, nat_le, nat_lt, Option, Some, None, option_and_then, unwrap_or}
+use Rattle.std.specs.Prelude.{ℕ, ◌+◌, ◌-◌, ◌/◌, ◌==◌, ◌&&◌, false, find, get_or, if◌then◌else◌, length, min, nat_le, nat_lt, Option, None, option_and_then}
 use Rattle.std.specs.FinSet as set
 use Rattle.std.specs.List.{range_with_len}
-use Rattle.std.specs.Option.{option_map, option_map_or, option_or}
+use Rattle.std.specs.Option.{option_map_or}
 use Rattle.rv_asm.specs.Lines.{Listed, address_of, bytes_of}
 use Rattle.rv_monitor.specs.Views.{word_at}
-use Rattle.rv_operands.specs.Operands.{address, line_number}
 use Rattle.rv_answers.specs.declared.rows.Row.{Row}
 use Rattle.rv_lab.specs.declared.source.Excerpt.{Excerpt}
 use Rattle.rv_lab.specs.State.{LabState, board, listing}
-use Rattle.rv_lab.specs.Words.{count_of}
 
 -- ---- addresses
 
@@ -47,20 +45,12 @@ line_count l = length l.addresses - 1
 
 -- some lines round one
 abbrev pub excerpt_round : (line count : ℕ) → Excerpt
-excerpt_round line count = record { first = max 1 (line - count / 2); count = count }
+excerpt_round line count = record { after = line - count / 2 - 1; count = count }
 
--- `l`: round pc's line, or the line of a word, by its number or at an address; 11 lines, or as many as the
--- next word says
-unfoldable pub excerpt : LabState → List (List ℕ) → Option Excerpt
-excerpt l [] = Some (excerpt_round (unwrap_or (line_at (listing l) (board l).machine.pc) 1) 11)
-excerpt l (word ∷ more) =
-    option_and_then (λ line. option_map (excerpt_round line) (count_of 11 1000 more))
-    (option_or (line_number word) (option_and_then (line_at (listing l)) (address (listing l) (board l) word)))
-
--- an empty line after it: the 11 lines that follow
+-- an empty line after `l`: the 11 lines that follow
 abbrev pub next_excerpt : LabState → Excerpt
-next_excerpt l = record { first = l.listed + 1; count = 11 }
+next_excerpt l = record { after = l.listed; count = 11 }
 
 -- the lab that listed an excerpt
 abbrev pub with_listed : LabState → Excerpt → LabState
-with_listed l e = record l { listed = min (e.first - 1 + e.count) (line_count (listing l)) }
+with_listed l e = record l { listed = min (e.after + e.count) (line_count (listing l)) }

@@ -7,7 +7,7 @@ use Rattle.rv_board.specs.BoardState.{BoardState}
 use Rattle.rv_asm.specs.Lines.{Listed, Located, listing_of}
 use Rattle.rv_monitor.specs.State.{TimedState}
 use Rattle.rv_recording.specs.Recording.{RecordingState}
-use Rattle.rv_lab.specs.declared.command.Command.{Command}
+use Rattle.rv_answers.specs.declared.command.Command.{Command}
 use Rattle.rv_lab.specs.declared.plan.Plan.{Plan}
 
 -- the values of x0 to x31

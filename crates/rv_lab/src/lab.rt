@@ -1,24 +1,24 @@
 //! The lab: what a caller may ask of it.
-ghost use Rattle.std.specs.Prelude.{◌≡◌, ◌≤◌, max, false, Err, IfErr, IfOk, None, Ok, OnErr, OnOk, IfSome};
+ghost use Rattle.std.specs.Prelude.{◌≡◌, ◌≤◌, max, Err, IfErr, IfOk, None, Ok, OnErr, OnOk};
 ghost use Rattle.rv_asm.specs.Lines.{listed};
 ghost use Rattle.rv_asm.specs.Seen.{seen};
 ghost use Rattle.rv_monitor.specs.Laws.{IsReached};
 ghost use Rattle.rv_recording.specs.Recording.{first_board};
-ghost use Rattle.rv_lab.specs.State.{listing, registers_of, setup};
-ghost use Rattle.rv_operands.specs.Operands.{operand_text};
-ghost use Rattle.rv_lab.specs.declared.command.Command.TheVariants.{StepOnce};
-ghost use Rattle.rv_lab.specs.Commands.{IsWithin, Leaves, Obeys, call_limit, next_after, ready};
+ghost use Rattle.rv_lab.specs.State.{listing, registers_of, sent, setup};
+ghost use Rattle.rv_answers.specs.declared.command.Command.TheVariants.{StepOnce};
+ghost use Rattle.rv_lab.specs.Commands.{IsWithin, Leaves, call_limit, ready};
 ghost use Rattle.rv_lab.specs.Refusals.{RunsOut};
 ghost use Rattle.rv_lab.specs.Opening.{OpensLab};
 ghost use Rattle.rv_lab.specs.Words.{line_command};
-ghost use Rattle.rv_lab.specs.Answers.{answer_of};
-ghost use Rattle.rv_lab.specs.Support.Rows.{Replies};
+ghost use Rattle.rv_lab.specs.Orders.{Obeys, next_after, order_of, ordered};
+ghost use Rattle.rv_lab.specs.Runs.{answer_to, look_by};
 
-use crate::command::{Command, CommandLine, read_command};
+use crate::command::{read_command, repeated};
 use crate::fault::LabFault;
+use crate::order::Order;
 use crate::plan::Plan;
 use crate::registers::registers_of;
-use rv_answers::{Answer, Printer, Registers};
+use rv_answers::{Answer, Command, Printer, Registers};
 use rv_asm::{Listing, Places, Program, list};
 use rv_base::NoMemory;
 use rv_board::BootedBoard;
@@ -42,19 +42,31 @@ pub enum Next {
     More,
     /// The run isn't over: `go_on` goes on with it. Another command ends it.
     Running,
-    /// What was done is to be saved under the name that `saved_name` reads in the command.
+    /// What was done is to be saved under the name that the answer has.
     Save,
     /// No command follows.
     Quit,
 }
 
-/// What a command answers, and what follows it.
+/// What a command answers, what follows it, and which bytes the console got meanwhile: those of the board's console
+/// from `from` on, up to `to`.
 #[derive(Drop)]
 pub struct Reply {
     /// What follows it.
     pub next: Next,
     /// What it answers.
     pub answer: Answer,
+    /// The number of the first of these bytes, from 0.
+    pub from: usize,
+    /// The number of the one after them.
+    pub to: usize,
+}
+
+/// What a command answers, and what follows it.
+#[derive(Drop)]
+pub(crate) struct Done {
+    pub(crate) next: Next,
+    pub(crate) answer: Answer,
 }
 
 /// What the last command left.
@@ -222,23 +234,23 @@ impl Lab {
     {
         self.last.plan = None;
         let again = self.last.command;
-        self.last.command = command.if_repeated(again);
+        self.last.command = repeated(command, again);
     }
 
-    /// Returns what a command line answers, if its command is one that only looks. The lab stays as it is.
+    /// Returns what a command line answers, if it asks for nothing but an answer. The lab stays as it is.
     ///
     /// # Errors
     ///
     /// `NoMemory` if memory runs out.
+    #[tactic(auto, unfolding(crate::specs::Orders::order_of))]
     pub fn look(&self, line: &[u8]) -> Result<Option<Answer>, NoMemory>
-        ensures { IfOk result (λ a. a ≡ answer_of (line_command line.now) (operand_text line.now) self.now) }
+        ensures { IfOk result (λ a. a ≡ look_by (order_of line.now self.now) self.now) }
     {
-        let CommandLine { command, operands } = read_command(
-            line,
-            self.alloc,
-            &mut Printer::new(self.alloc),
-        );
-        self.answer_of(command, operands)
+        match self.read_order(read_command(line))? {
+            Order::Answered(answer) => Ok(Some(answer)),
+            Order::List(excerpt, follows) => Ok(Some(self.rows_answer(excerpt, follows)?)),
+            _ => Ok(None),
+        }
     }
 
     /// Executes a command line, and returns its answer. It takes at most a piece of steps, or for `trace` at
@@ -247,67 +259,36 @@ impl Lab {
     /// # Errors
     ///
     /// `NoMemory` if memory runs out. The lab is as it was then, or as after some of the command's steps.
+    #[tactic(auto, unfolding(crate::specs::Orders::order_of))]
     pub fn answer(&mut self, line: &[u8]) -> Result<Reply, NoMemory>
         ensures setup { setup self.new ≡ setup self.old }
         ensures obeys { OnOk result (Obeys line.now self.old self.new) }
-        ensures next { IfOk result (λ r. r.next ≡ next_after line.now self.old.recording.session self.new) }
-        ensures answers { IfOk result (λ r.
-            IfSome (answer_of (line_command line.now) (operand_text line.now) self.old) (λ a. r.answer ≡ a)) }
-        ensures err { OnErr result (RunsOut (Leaves (line_command line.now) (operand_text line.now))
+        ensures next { IfOk result (λ r. r.next ≡ next_after line.now self.old self.new) }
+        ensures answers { IfOk result (λ r. r.answer ≡ answer_to line.now self.old self.new) }
+        ensures console { IfOk result
+            (λ r. (r.from ≡ sent self.old) × (r.to ≡ max (sent self.old) self.new.told)) }
+        ensures err { OnErr result (RunsOut (Leaves (ordered line.now self.old))
             (ready (line_command line.now) self.old) self.new) }
-        ensures bound { IsWithin (call_limit (line_command line.now) self.old.piece) self.old self.new }
+        ensures bound { IsWithin (call_limit (ordered line.now self.old) self.old.piece) self.old self.new }
     {
-        let mut text = Printer::new(self.alloc);
-        let CommandLine { command, operands } = read_command(line, self.alloc, &mut text);
-        let value = self.answer_of(command, operands);
-        self.make_ready(command);
-        let next = self.execute(command, operands, &mut text)?;
-        replied(next, value, text)
+        let from = self.board().console().len();
+        let said = read_command(line);
+        self.make_ready(said.command);
+        let order = self.read_order(said)?;
+        let Done { next, answer } = self.execute(order)?;
+        Ok(self.reply(next, answer, from))
     }
 
-    /// Executes a command line, and appends the text of its answer. It takes at most a piece of steps, or for `trace` at
-    /// most 1,000: a longer run goes on by `go_on`.
-    ///
-    /// # Errors
-    ///
-    /// `NoMemory` if memory runs out. The lab is as it was then, or as after some of the command's steps.
-    pub fn command(&mut self, line: &[u8], answer: &mut Printer) -> Result<Next, NoMemory>
-        ensures setup { setup self.new ≡ setup self.old }
-        ensures obeys { OnOk result (Obeys line.now self.old self.new) }
-        ensures next { IfOk result (λ next. next ≡ next_after line.now self.old.recording.session self.new) }
-        ensures err { OnErr result (RunsOut (Leaves (line_command line.now) (operand_text line.now))
-            (ready (line_command line.now) self.old) self.new) }
-        ensures bound { IsWithin (call_limit (line_command line.now) self.old.piece) self.old self.new }
+    /// Returns a reply. `from` is the number of bytes of the console that aren't told in it.
+    pub(crate) fn reply(&self, next: Next, answer: Answer, from: usize) -> Reply
+        ensures { result ≡ record { next = next; answer = answer; from = from; to = max from self.now.told } }
     {
-        let reply = self.answer(line)?;
-        self.append_answer(&reply.answer, answer);
-        unless_cut(reply.next, answer)
+        let to = from.max(self.last.told);
+        Reply {
+            next,
+            answer,
+            from,
+            to,
+        }
     }
-}
-
-/// Returns what follows a command with its answer: a value, or else a text.
-fn replied(
-    next: Next,
-    value: Result<Option<Answer>, NoMemory>,
-    text: Printer,
-) -> Result<Reply, NoMemory>
-    ensures next { IfOk result (λ r. r.next ≡ next) }
-    ensures answer { IfOk result (λ r. Replies value r.answer) }
-{
-    let answer = match value? {
-        Some(answer) => answer,
-        None => Answer::Text(text.whole()?),
-    };
-    Ok(Reply { next, answer })
-}
-
-/// Returns what follows a command, or that memory ran out where its answer is cut.
-pub(crate) fn unless_cut(next: Next, answer: &Printer) -> Result<Next, NoMemory>
-    ensures whole { OnOk result (answer.now.is_cut ≡ false) }
-    ensures same { IfOk result (λ n. n ≡ next) }
-{
-    if answer.is_cut() {
-        return Err(NoMemory);
-    }
-    Ok(next)
 }

@@ -6,31 +6,29 @@ ghost use Rattle.rv_asm.specs.Seen.{seen};
 ghost use Rattle.rv_monitor.specs.Views.{byte_at_offset};
 ghost use Rattle.rv_operands.specs.Support.Words.{only_of};
 ghost use Rattle.rv_lab.specs.Answers as spec;
-ghost use Rattle.rv_lab.specs.Answers.{again_answer, answer_of, breakpoints, cells_of, control_answer, edges_answer, instruction_answer, list_answer, memory_answer, refused, register_file, registers_answer, rows_of, rows_round, standing, trap_runs};
+ghost use Rattle.rv_lab.specs.Answers.{behind_last, breakpoints, cells_of, control_answer, edges_answer, instruction_answer, look_answer, memory_answer, refused, register_file, registers_answer, rows_answer, standing, trap_runs};
 ghost use Rattle.rv_lab.specs.Lines.{row_of};
 ghost use Rattle.rv_lab.specs.State.{board, listing};
 ghost use Rattle.rv_lab.specs.Support.Rows.{char_at, comes_again, edge_source, register_of, word_cell};
 
-use crate::command::Command;
 use crate::control::{MIE, MIP, MSTATUS, csr_word, name_in};
 use crate::devices::{edge_source, interrupts_of};
 use crate::lab::Lab;
 use crate::memory::{byte_at, char_at, text_length};
-use crate::operands::count_or;
 use crate::places::{line_at, near_label};
 use crate::registers::registers_of;
-use crate::source::{Excerpt, MOST_LINES, USUAL_LINES, line_count};
+use crate::source::{Excerpt, line_count};
 use rv_answers::{
-    Answer, Cells, ControlValue, Devices, Dump, Edges, Extent, Format, Look, Many, Place, Refusal,
-    RegisterFile, RegisterValue, Row, Standing, Trap, Why, bits_of, clock_of, port_of, push,
-    read_extent, regions_of, sources_of, threshold,
+    Answer, Cells, Command, ControlValue, Devices, Dump, Edges, Extent, Format, Many, Place,
+    Refusal, RegisterFile, RegisterValue, Row, Standing, Trap, Why, bits_of, clock_of, port_of,
+    push, read_extent, regions_of, sources_of, threshold,
 };
 use rv_asm::Listing;
 use rv_base::{NoMemory, first_word, has_word, low_word};
 use rv_board::{BootedBoard, TrapRecord};
 use rv_isa::{Reg, csr_named, reg_named};
 use rv_monitor::word_at;
-use rv_operands::{line_number, only_word};
+use rv_operands::only_word;
 use std::alloc::Global;
 
 /// Returns the register that some operands name.
@@ -173,15 +171,20 @@ impl Lab {
     }
 
     /// Answers that operands have no meaning.
-    fn refused(&self, look: Look, text: &[u8], why: Why) -> Result<Answer, NoMemory>
-        ensures { IfOk result (λ a. a ≡ refused look text.now why) }
+    pub(crate) fn refused(
+        &self,
+        command: Command,
+        text: &[u8],
+        why: Why,
+    ) -> Result<Answer, NoMemory>
+        ensures { IfOk result (λ a. a ≡ refused command text.now why) }
     {
         let text = Many::of(Vec::from_slice(self.alloc, text)?);
-        Ok(Answer::Refused(Refusal { look, text, why }))
+        Ok(Answer::Refused(Refusal { command, text, why }))
     }
 
     /// Returns where the board stands.
-    fn standing(&self) -> Standing
+    pub(crate) fn standing(&self) -> Standing
         ensures { result ≡ standing self.now }
     {
         let board = self.board();
@@ -219,7 +222,7 @@ impl Lab {
                 let value = self.board().reg(register);
                 Ok(Answer::Register(RegisterValue { register, value }))
             }
-            None => self.refused(Look::Registers, operands, Why::NoRegister),
+            None => self.refused(Command::Registers, operands, Why::NoRegister),
         }
     }
 
@@ -234,7 +237,7 @@ impl Lab {
                 let value = control_value(self.alloc, self.board(), name, csr)?;
                 Ok(Answer::ControlRegister(value))
             }
-            None => self.refused(Look::ControlRegister, name, Why::NoControlRegister),
+            None => self.refused(Command::ControlRegister, name, Why::NoControlRegister),
         }
     }
 
@@ -244,13 +247,13 @@ impl Lab {
         ensures { IfOk result (λ a. a ≡ memory_answer self.now (words operands.now)) }
     {
         let Some((word, rest)) = first_word(operands) else {
-            return self.refused(Look::Memory, b"", Why::Missing);
+            return self.refused(Command::Memory, b"", Why::Missing);
         };
         let Some(address) = self.scope().address(word) else {
-            return self.refused(Look::Memory, word, Why::NoAddress);
+            return self.refused(Command::Memory, word, Why::NoAddress);
         };
         let Some(extent) = read_extent(rest) else {
-            return self.refused(Look::Memory, b"", Why::NoExtent);
+            return self.refused(Command::Memory, b"", Why::NoExtent);
         };
         let cells = cells_of(self.alloc, self.board(), address, extent)?;
         Ok(Answer::Memory(Dump { address, cells }))
@@ -266,7 +269,7 @@ impl Lab {
         };
         match self.scope().address(word) {
             Some(address) => Ok(Answer::Instruction(self.place_of(address))),
-            None => self.refused(Look::Instruction, word, Why::NoAddress),
+            None => self.refused(Command::Instruction, word, Why::NoAddress),
         }
     }
 
@@ -283,79 +286,33 @@ impl Lab {
         Ok(Many::of(rows))
     }
 
-    /// Returns the rows of an excerpt, of those lines that the source has; none where it begins behind the last.
-    #[tactic(auto, unfolding(crate::specs::Answers::rows_of))]
-    fn rows_of(&self, behind: Answer, excerpt: Excerpt) -> Result<Answer, NoMemory>
-        requires { 1 ≤ excerpt.first }
-        ensures { IfOk result (λ a. a ≡ rows_of behind self.now excerpt) }
+    /// Answers that an excerpt begins behind the last line of the source.
+    fn behind_last(&self, follows: bool) -> Answer
+        ensures { result ≡ behind_last follows self.now }
+    {
+        if follows {
+            return Answer::WasLast;
+        }
+        Answer::BehindLast(line_count(self.listing()))
+    }
+
+    /// Returns the rows of an excerpt, of those lines that the source has. `follows` is whether they follow those that
+    /// were listed last.
+    #[tactic(auto, unfolding(crate::specs::Answers::rows_answer))]
+    pub(crate) fn rows_answer(&self, excerpt: Excerpt, follows: bool) -> Result<Answer, NoMemory>
+        ensures { IfOk result (λ a. a ≡ rows_answer excerpt follows self.now) }
     {
         let last = line_count(self.listing());
-        if last < excerpt.first {
-            return Ok(behind);
+        if last <= excerpt.after {
+            return Ok(self.behind_last(follows));
         }
-        let count = excerpt.count.min(last - (excerpt.first - 1));
-        Ok(Answer::List(self.rows_from(excerpt.first, count, last)?))
-    }
-
-    /// Answers `l` for the lines round one.
-    #[tactic(auto, unfolding(crate::specs::Answers::rows_round))]
-    fn rows_round(&self, rest: &[u8], line: usize) -> Result<Answer, NoMemory>
-        ensures { IfOk result (λ a. a ≡ rows_round self.now (words rest.now) line) }
-    {
-        match count_or(rest, USUAL_LINES, MOST_LINES) {
-            Some(count) => {
-                let behind = Answer::BehindLast(line_count(self.listing()));
-                self.rows_of(behind, Excerpt::round(line, count))
-            }
-            None => self.refused(Look::List, b"", Why::NoCount),
-        }
-    }
-
-    /// Answers `l`.
-    #[tactic(auto, unfolding(crate::specs::Answers::list_answer))]
-    fn list_answer(&self, operands: &[u8]) -> Result<Answer, NoMemory>
-        ensures { IfOk result (λ a. a ≡ list_answer self.now (words operands.now)) }
-    {
-        let Some((word, rest)) = first_word(operands) else {
-            let here = line_at(self.listing(), self.board().pc());
-            return self.rows_round(operands, here.unwrap_or(1));
-        };
-        if let Some(line) = line_number(word) {
-            return self.rows_round(rest, line as usize);
-        }
-        let Some(address) = self.scope().address(word) else {
-            return self.refused(Look::List, word, Why::NoAddress);
-        };
-        match line_at(self.listing(), address) {
-            Some(line) => self.rows_round(rest, line),
-            None => self.refused(Look::List, b"", Why::NoLine(address)),
-        }
-    }
-
-    /// Answers an empty line after `l`.
-    #[tactic(auto, using(crate::proofs::Values::was_last))]
-    fn again_answer(&self) -> Result<Option<Answer>, NoMemory>
-        ensures { IfOk result (λ a. a ≡ again_answer self.now.again self.now) }
-    {
-        match self.last.command {
-            Command::List => {
-                let listed = self.last.listed;
-                if line_count(self.listing()) <= listed {
-                    return Ok(Some(Answer::WasLast));
-                }
-                let next = Excerpt {
-                    first: listed + 1,
-                    count: USUAL_LINES as usize,
-                };
-                Ok(Some(self.rows_of(Answer::WasLast, next)?))
-            }
-            _ => Ok(None),
-        }
+        let count = excerpt.count.min(last - excerpt.after);
+        Ok(Answer::List(self.rows_from(excerpt.after + 1, count, last)?))
     }
 
     /// Returns the breakpoints.
     #[tactic(auto, using(crate::proofs::Values::no_breaks_yet))]
-    fn breakpoints(&self) -> Result<Many<Place>, NoMemory>
+    pub(crate) fn breakpoints(&self) -> Result<Many<Place>, NoMemory>
         ensures { IfOk result (λ b. b ≡ breakpoints self.now) }
     {
         let mut places = Vec::new(self.alloc);
@@ -392,7 +349,7 @@ impl Lab {
     }
 
     /// Returns a trap that was taken some times in a row.
-    fn trap_of(&self, trap: TrapRecord, times: u64) -> Trap
+    pub(crate) fn trap_of(&self, trap: TrapRecord, times: u64) -> Trap
         ensures { result ≡ record { cause = trap.cause; value = trap.tval; place = spec.place_of self.now trap.epc; times = times } }
     {
         Trap {
@@ -422,7 +379,7 @@ impl Lab {
                 source: u32::from(source.number()),
                 pending: self.board().plic().edges(source),
             })),
-            None => self.refused(Look::Edges, b"", Why::NoEdgeSource),
+            None => self.refused(Command::Edges, b"", Why::NoEdgeSource),
         }
     }
 
@@ -445,29 +402,21 @@ impl Lab {
         })
     }
 
-    /// Returns what a command answers, where it is one that only looks.
-    #[tactic(auto, unfolding(crate::specs::Answers::answer_of))]
-    pub(crate) fn answer_of(
-        &self,
-        command: Command,
-        operands: &[u8],
-    ) -> Result<Option<Answer>, NoMemory>
-        ensures { IfOk result (λ a. a ≡ answer_of command operands.now self.now) }
+    /// Returns what a command answers that only looks.
+    #[tactic(auto, unfolding(crate::specs::Answers::look_answer))]
+    pub(crate) fn look_answer(&self, command: Command, operands: &[u8]) -> Result<Answer, NoMemory>
+        ensures { IfOk result (λ a. a ≡ look_answer command operands.now self.now) }
     {
         match command {
-            Command::Where => Ok(Some(Answer::Where(self.standing()))),
-            Command::Registers => Ok(Some(self.registers_answer(operands)?)),
-            Command::ControlRegister => Ok(Some(self.control_answer(operands)?)),
-            Command::Memory => Ok(Some(self.memory_answer(operands)?)),
-            Command::Instruction => Ok(Some(self.instruction_answer(operands)?)),
-            Command::List => Ok(Some(self.list_answer(operands)?)),
-            Command::Break if has_word(operands) => Ok(None),
-            Command::Break => Ok(Some(Answer::Breakpoints(self.breakpoints()?))),
-            Command::Traps => Ok(Some(Answer::Traps(self.traps()?))),
-            Command::Edges => Ok(Some(self.edges_answer(operands)?)),
-            Command::Devices => Ok(Some(Answer::Devices(self.devices()?))),
-            Command::Again => self.again_answer(),
-            _ => Ok(None),
+            Command::Where => Ok(Answer::Where(self.standing())),
+            Command::Registers => self.registers_answer(operands),
+            Command::ControlRegister => self.control_answer(operands),
+            Command::Memory => self.memory_answer(operands),
+            Command::Instruction => self.instruction_answer(operands),
+            Command::Traps => Ok(Answer::Traps(self.traps()?)),
+            Command::Edges => self.edges_answer(operands),
+            Command::Devices => Ok(Answer::Devices(self.devices()?)),
+            _ => Ok(Answer::Nothing),
         }
     }
 }

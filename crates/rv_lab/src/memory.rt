@@ -4,13 +4,6 @@ ghost use Rattle.rv_lab.specs.Support.Rows.{char_at, text_length};
 ghost use Rattle.rv_monitor.specs.Views.{byte_at_offset};
 
 use rv_board::BootedBoard;
-use rv_isa::{Instr, decode};
-use rv_monitor::word_at;
-
-/// Returns the instruction at an address, if there is one.
-pub(crate) fn instruction_at(board: &BootedBoard, address: u32) -> Option<Instr> {
-    decode(word_at(board, address)?)
-}
 
 /// Returns the byte at an offset from an address, if there is memory.
 pub(crate) fn byte_at(board: &BootedBoard, address: u32, offset: u32) -> Option<u8>

@@ -1,17 +1,17 @@
 //! Commands of the monitor.
 ghost use Rattle.std.specs.Prelude.{◌≡◌, true, None, IfOk, OnErr, OnOk};
-ghost use Rattle.rv_lab.specs.declared.command.Command.TheVariants as command;
-ghost use Rattle.rv_lab.specs.Commands.{InSession, Leaves, monitor_next, monitored_run};
+ghost use Rattle.rv_answers.specs.declared.answer.Answer.TheVariants as answers;
+ghost use Rattle.rv_lab.specs.Commands.{InSession, Monitors, monitor_next, monitored_run};
 ghost use Rattle.rv_lab.specs.Refusals.{RunsOut};
 ghost use Rattle.rv_lab.specs.State.{setup};
-ghost use Rattle.rv_answers.specs.Printer.{Appended};
+ghost use Rattle.rv_lab.specs.Runs.{monitor_answer};
 ghost use Rattle.rv_monitor.specs.Commands as monitor;
 ghost use Rattle.rv_monitor.specs.Commands.{command_in};
 ghost use Rattle.rv_program.specs.Program.{value_of};
 
-use crate::lab::{Lab, Next};
+use crate::lab::{Done, Lab, Next};
 use crate::plan::{Goal, Plan};
-use rv_answers::Printer;
+use rv_answers::{Answer, Many};
 use rv_base::NoMemory;
 use rv_commands::{Command, SymbolLookup, read_command};
 use rv_monitor::Next as Monitored;
@@ -43,7 +43,7 @@ fn monitored(goal: Goal, left: u64) -> Plan
 impl Lab {
     /// Returns the run that a line of the monitor asks for, if it does.
     #[tactic(auto, using(crate::proofs::Monitored::no_run))]
-    fn monitored_run(&self, line: &[u8]) -> Option<Plan>
+    pub(crate) fn monitored_run(&self, line: &[u8]) -> Option<Plan>
         ensures { result ≡ monitored_run line.now self.now.recording.session }
     {
         let session = self.recording.session();
@@ -55,47 +55,47 @@ impl Lab {
         }
     }
 
-    /// Executes a command of the monitor that takes no step, and appends its answer.
+    /// Executes a command of the monitor that takes no step, and answers what it prints.
     #[tactic(auto, using(crate::proofs::Monitored::looks_refused, crate::proofs::Monitored::more_follows, crate::proofs::Monitored::quit_follows))]
-    fn monitor_look(&mut self, line: &[u8], answer: &mut Printer) -> Result<Next, NoMemory>
+    fn monitor_look(&mut self, line: &[u8]) -> Result<Done, NoMemory>
         requires no_run { monitored_run line.now self.old.recording.session ≡ None }
         requires no_plan { self.old.plan ≡ None }
         ensures setup { setup self.new ≡ setup self.old }
         ensures next { IfOk result
-            (λ next. next ≡ monitor_next (command_in line.now self.old.recording.session) self.new) }
+            (λ d. d.next ≡ monitor_next (command_in line.now self.old.recording.session) self.new) }
         ensures leaves { OnOk result
             (InSession (monitor.Leaves (command_in line.now self.old.recording.session)) self.old self.new) }
-        ensures tells { OnOk result (Appended answer.old answer.new
-            (monitor.answer (command_in line.now self.old.recording.session) self.old.recording.session
-            self.new.recording.session)) }
+        ensures answers { IfOk result
+            (λ d. d.answer ≡ answers.Monitor (monitor.answer (command_in line.now self.old.recording.session)
+            self.old.recording.session self.new.recording.session)) }
         ensures err { OnErr result (self.new ≡ self.old) }
     {
         let mut text = Vec::new(self.alloc);
         let next = self.recording.command(line, &mut text)?;
-        answer.put(text.as_slice());
+        let answer = Answer::Monitor(Many::of(text));
         match next {
-            Monitored::More => Ok(Next::More),
-            Monitored::Quit => Ok(Next::Quit),
+            Monitored::More => Ok(Done::more(answer)),
+            Monitored::Quit => Ok(Done {
+                next: Next::Quit,
+                answer,
+            }),
         }
     }
 
     /// Executes `monitor`: a run goes in pieces, as the lab's do.
-    #[tactic(auto, using(crate::proofs::Monitored::run_follows))]
-    pub(crate) fn monitor_command(
-        &mut self,
-        operands: &[u8],
-        answer: &mut Printer,
-    ) -> Result<Next, NoMemory>
+    #[tactic(auto, using(crate::proofs::Monitored::run_follows), unfolding(crate::specs::Runs::monitor_answer))]
+    pub(crate) fn monitor_command(&mut self, operands: &[u8]) -> Result<Done, NoMemory>
         requires { self.old.plan ≡ None }
         ensures setup { setup self.new ≡ setup self.old }
         ensures next { IfOk result
-            (λ next. next ≡ monitor_next (command_in operands.now self.old.recording.session) self.new) }
-        ensures leaves { OnOk result (Leaves command.Monitor operands.now self.old self.new) }
-        ensures err { OnErr result (RunsOut (Leaves command.Monitor operands.now) self.old self.new) }
+            (λ d. d.next ≡ monitor_next (command_in operands.now self.old.recording.session) self.new) }
+        ensures leaves { OnOk result (Monitors operands.now self.old self.new) }
+        ensures answers { IfOk result (λ d. d.answer ≡ monitor_answer operands.now self.old self.new) }
+        ensures err { OnErr result (RunsOut (Monitors operands.now) self.old self.new) }
     {
         match self.monitored_run(operands) {
-            Some(plan) => self.start(plan, answer),
-            None => self.monitor_look(operands, answer),
+            Some(plan) => self.start(plan),
+            None => self.monitor_look(operands),
         }
     }
 }

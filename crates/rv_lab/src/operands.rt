@@ -2,13 +2,10 @@
 ghost use Rattle.std.specs.Prelude.{◌≡◌, ◌<◌};
 ghost use Rattle.rv_base.specs.Words.{words};
 ghost use Rattle.rv_asm.specs.Seen.{seen};
-ghost use Rattle.rv_asm.specs.Seen.{seen};
 ghost use Rattle.rv_lab.specs.State.{board, listing};
 ghost use Rattle.rv_lab.specs.Words.{count_of};
 
 use crate::lab::Lab;
-use crate::nearest::Nearest;
-use rv_answers::Printer;
 use rv_base::{decimal, has_word};
 use rv_operands::{Scope, only_word};
 
@@ -33,20 +30,5 @@ impl Lab {
             listing: self.listing(),
             board: self.board(),
         }
-    }
-
-    /// Says that a word is no address, and which name is the nearest.
-    pub(crate) fn refuse_address(&self, command: &str, word: &[u8], answer: &mut Printer) {
-        answer.refuse(
-            command,
-            word,
-            "is no line, no name of the source, no register and no number after 0x",
-        );
-        let mut nearest = Nearest::new(self.alloc, word);
-        for (name, _) in self.program().symbols() {
-            nearest.offer(name.as_slice());
-        }
-        nearest.append(answer);
-        answer.end();
     }
 }

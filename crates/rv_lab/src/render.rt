@@ -1,19 +1,10 @@
-//! The text of an answer.
-use crate::control::refuse_csr;
-use crate::lab::Lab;
-use rv_answers::{Answer, Lines, Look, Printer, Refusal, Why, append_answer};
+//! The text of a reply.
+ghost use Rattle.std.specs.Prelude.{◌≡◌, ◌≤◌, drop, min, take};
+ghost use Rattle.rv_answers.specs.declared.answer.Answer.TheVariants as answers;
+ghost use Rattle.rv_lab.specs.State.{board};
 
-/// Returns the word of a command.
-fn word_of(look: Look) -> &'static str {
-    match look {
-        Look::Registers => "r",
-        Look::ControlRegister => "p",
-        Look::Memory => "m",
-        Look::Instruction => "i",
-        Look::List => "l",
-        Look::Edges => "e",
-    }
-}
+use crate::lab::{Lab, Reply};
+use rv_answers::{Answer, Lines, Printer};
 
 impl Lab {
     /// Returns the source with its lines and labels.
@@ -24,44 +15,30 @@ impl Lab {
         }
     }
 
-    /// Appends the text of an answer of this lab.
-    pub fn append_answer(&self, answer: &Answer, text: &mut Printer) {
-        match answer {
-            Answer::Refused(refusal) => self.append_refusal(refusal, text),
-            answer => append_answer(answer, self.lines(), text),
-        }
+    /// Appends the line of the next instruction.
+    pub(crate) fn append_here(&self, text: &mut Printer) {
+        let here = self.place_of(self.board().pc());
+        self.lines().append_place(here, text);
+        text.end();
     }
 
-    /// Appends why the operands of a command have no meaning.
-    fn append_refusal(&self, refusal: &Refusal, text: &mut Printer) {
-        let word = word_of(refusal.look);
-        let operand = refusal.text.items();
-        match refusal.why {
-            Why::NoAddress => self.refuse_address(word, operand, text),
-            Why::NoRegister => {
-                text.refuse(
-                    word,
-                    operand,
-                    "is no register; `p` shows a control register\n",
-                );
-            }
-            Why::NoControlRegister => refuse_csr(self.alloc, operand, text),
-            Why::Missing => {
-                text.say("m: an address is missing");
-                text.see_help(word);
-            }
-            Why::NoExtent => text.say(
-                "m: a number from 0 to 4096 is wanted, and w, b or t; `help m` has an example\n",
-            ),
-            Why::NoLine(address) => {
-                text.say("l: no line of the source is at ");
-                text.word(address);
-                text.end();
-            }
-            Why::NoCount => text.say("l: the number of lines is from 0 to 1000\n"),
-            Why::NoEdgeSource => {
-                text.say("e: a source from 24 to 31 is wanted; `dev` shows the others\n");
-            }
+    /// Returns the bytes that the console got meanwhile.
+    pub fn console_of(&self, reply: &Reply) -> &[u8]
+        ensures { result.now ≡ drop reply.now.from (take reply.now.to (board self.now).machine.bus.serial.sent) }
+    {
+        let console = self.board().console();
+        let told = console.split_at(reply.to.min(console.len())).0;
+        told.split_at(reply.from.min(told.len())).1
+    }
+
+    /// Appends the text of a reply of this lab.
+    pub fn append_reply(&self, reply: &Reply, text: &mut Printer)
+        ensures quiet { reply.now.answer ≡ answers.Nothing → reply.now.to ≤ reply.now.from → text.new ≡ text.old }
+    {
+        if matches!(reply.answer, Answer::Nothing) && reply.to <= reply.from {
+            return;
         }
+        let console = self.console_of(reply);
+        self.lines().append_reply(&reply.answer, console, text);
     }
 }

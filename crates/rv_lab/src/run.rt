@@ -1,25 +1,26 @@
 //! Commands that move the board.
-ghost use Rattle.std.specs.Prelude.{◌≡◌, ◌≤◌, Ok, Some, None, true, false, IfOk, OnErr, OnOk, ℕ, max, min};
-ghost use Rattle.rv_lab.specs.declared.command.Command.TheVariants as command;
-ghost use Rattle.rv_lab.specs.declared.command.Move.TheVariants as moves;
-ghost use Rattle.rv_lab.specs.declared.plan.Goal.TheVariants as goal;
-ghost use Rattle.rv_lab.specs.Commands.{Begins, GoesOn, InPieces, IsWithin, Leaves, Starts, Steps, With, begun, goal_after, next_of, run_ends, with_console, with_piece, with_session};
-ghost use Rattle.rv_lab.specs.Words.{usual_steps};
+ghost use Rattle.std.specs.Prelude.{◌≡◌, ◌≤◌, Ok, Some, None, true, IfOk, OnErr, OnOk, ℕ, max, min};
+ghost use Rattle.std.specs.Option.{option_map_or};
+ghost use Rattle.rv_lab.specs.Answers.{standing};
+ghost use Rattle.rv_lab.specs.declared.lab.Next.TheVariants as after;
+ghost use Rattle.rv_lab.specs.declared.order.Order.TheVariants as orders;
+ghost use Rattle.rv_lab.specs.Commands.{GoesOn, InPieces, IsWithin, Leaves, Starts, Steps, With, begun, goal_after, next_of, run_ends, with_piece, with_session};
 ghost use Rattle.rv_lab.specs.Refusals.{RunsOut, StopsShort};
-ghost use Rattle.rv_lab.specs.Support.Short.{IsOnWay, Traced, backed, rest_of, stepped};
-ghost use Rattle.rv_monitor.specs.Stops.{may_step, steps_between};
+ghost use Rattle.rv_lab.specs.Runs.{end_of, run_answer, steps_answer};
+ghost use Rattle.rv_answers.specs.declared.answer.Answer.TheVariants as answers;
+ghost use Rattle.rv_lab.specs.Support.Short.{backed, rest_of};
+ghost use Rattle.rv_monitor.specs.Stops.{steps_between};
 ghost use Rattle.rv_recording.specs.Until.{HasRun};
 ghost use Rattle.rv_recording.specs.Support.Refused.{IsRefusedIn};
 ghost use Rattle.rv_lab.specs.State.{LabState, setup, timed};
 ghost use Rattle.rv_monitor.specs.State.{IsInTime};
 
-use crate::lab::{Lab, Next, unless_cut};
-use crate::operands::count_or;
+use crate::lab::{Done, Lab, Next, Reply};
 use crate::plan::{Goal, Plan};
 use crate::registers::registers_of;
-use rv_answers::Printer;
+use rv_answers::Answer;
 use rv_base::NoMemory;
-use rv_recording::{End, LAST_STEP, Recording};
+use rv_recording::{End, Recording};
 
 /// How many steps `c` and `until` take where no number is given.
 pub(crate) const USUAL_STEPS: u64 = 1_000_000;
@@ -27,8 +28,11 @@ pub(crate) const USUAL_STEPS: u64 = 1_000_000;
 /// The most steps of a command, of the lab and of the monitor.
 pub(crate) const MOST_STEPS: u64 = 1_000_000_000;
 
-/// The most lines of a trace.
-const MOST_TRACED: u64 = 1000;
+/// How many steps `trace` takes where no number is given.
+pub(crate) const USUAL_TRACED: u64 = 10;
+
+/// The most steps of `trace`.
+pub(crate) const MOST_TRACED: u64 = 1000;
 
 /// Takes steps of a run, at most `most`, and returns why it is over or ended. `goal` is what the run goes on
 /// for, before them and after them.
@@ -87,27 +91,31 @@ impl Lab {
     ///
     /// `NoMemory` if memory runs out. The lab is as after some of the run's steps then.
     #[tactic(auto, using(crate::proofs::Bounds::unmoved))]
-    pub fn go_on(&mut self, answer: &mut Printer) -> Result<Next, NoMemory>
+    pub fn go_on(&mut self) -> Result<Reply, NoMemory>
         ensures setup { setup self.new ≡ setup self.old }
         ensures continues { OnOk result (With self.old.plan GoesOn self.old self.new) }
-        ensures next { IfOk result (λ next. next ≡ next_of self.new) }
-        ensures quiet { self.old.plan ≡ None → answer.new ≡ answer.old }
+        ensures next { IfOk result (λ r. r.next ≡ next_of self.new) }
+        ensures answers { IfOk result
+            (λ r. r.answer ≡ option_map_or (λ p. run_answer p self.old self.new) self.old.plan answers.Nothing) }
+        ensures console { IfOk result (λ r. (r.from ≡ self.old.told) × (r.to ≡ max self.old.told self.new.told)) }
         ensures err { OnErr result (RunsOut (With self.old.plan GoesOn) self.old self.new) }
         ensures bound { IsWithin (max self.old.piece 1) self.old self.new }
     {
+        let from = self.last.told;
         let Some(plan) = self.plan() else {
-            return Ok(Next::More);
+            return Ok(self.reply(Next::More, Answer::Nothing, from));
         };
-        let next = self.go_on_with(plan, answer)?;
-        unless_cut(next, answer)
+        let Done { next, answer } = self.go_on_with(plan)?;
+        Ok(self.reply(next, answer, from))
     }
 
     /// Goes on with a run.
-    #[tactic(auto, using(crate::proofs::Runs::told_end, crate::proofs::Runs::running_next, crate::proofs::Runs::ended_next))]
-    fn go_on_with(&mut self, plan: Plan, answer: &mut Printer) -> Result<Next, NoMemory>
+    #[tactic(auto, using(crate::proofs::Runs::told_end, crate::proofs::Runs::running_next, crate::proofs::Runs::ended_next, crate::proofs::Told::running, crate::proofs::Told::over, crate::proofs::Told::over_short))]
+    fn go_on_with(&mut self, plan: Plan) -> Result<Done, NoMemory>
         ensures setup { setup self.new ≡ setup self.old }
         ensures goes_on { OnOk result (GoesOn plan self.old self.new) }
-        ensures next { IfOk result (λ next. next ≡ next_of self.new) }
+        ensures next { IfOk result (λ d. d.next ≡ next_of self.new) }
+        ensures answers { IfOk result (λ d. d.answer ≡ run_answer plan self.old self.new) }
         ensures err { OnErr result (StopsShort (GoesOn plan) self.old self.new) }
     {
         let goal = plan.goal;
@@ -115,12 +123,16 @@ impl Lab {
         let end = self.take_piece(plan)?;
         match self.plan() {
             Some(rest) => {
-                self.tell_piece(rest.is_monitored, answer);
-                Ok(Next::Running)
+                self.tell_piece(rest.is_monitored);
+                Ok(Done {
+                    next: Next::Running,
+                    answer: Answer::Running(self.steps()),
+                })
             }
             None => {
-                self.tell_end(is_monitored, goal, end, answer);
-                Ok(Next::More)
+                self.tell_console();
+                let answer = self.over_answer(is_monitored, goal, end)?;
+                Ok(Done::more(answer))
             }
         }
     }
@@ -149,6 +161,7 @@ impl Lab {
     fn take_piece(&mut self, plan: Plan) -> Result<End, NoMemory>
         ensures setup { setup self.new ≡ setup self.old }
         ensures piece { OnOk result (self.new ≡ with_piece plan self.old) }
+        ensures end { IfOk result (λ end. end ≡ end_of plan self.old) }
         ensures err { OnErr result (StopsShort (GoesOn plan) self.old self.new) }
     {
         // It tells that the board is the run of the recorded events.
@@ -171,29 +184,15 @@ impl Lab {
     }
 
     /// Begins a run of a plan.
-    pub(crate) fn start(&mut self, plan: Plan, answer: &mut Printer) -> Result<Next, NoMemory>
+    pub(crate) fn start(&mut self, plan: Plan) -> Result<Done, NoMemory>
         ensures setup { setup self.new ≡ setup self.old }
         ensures runs { OnOk result (Starts plan self.old self.new) }
-        ensures next { IfOk result (λ next. next ≡ next_of self.new) }
+        ensures next { IfOk result (λ d. d.next ≡ next_of self.new) }
+        ensures answers { IfOk result (λ d. d.answer ≡ run_answer plan (begun self.old) self.new) }
         ensures err { OnErr result (StopsShort (Starts plan) self.old self.new) }
     {
         self.begin();
-        self.go_on_with(plan, answer)
-    }
-
-    /// Begins a run.
-    fn run(&mut self, goal: Goal, most: u64, answer: &mut Printer) -> Result<Next, NoMemory>
-        ensures setup { setup self.new ≡ setup self.old }
-        ensures runs { OnOk result (Begins goal most self.old self.new) }
-        ensures next { IfOk result (λ next. next ≡ next_of self.new) }
-        ensures err { OnErr result (StopsShort (Begins goal most) self.old self.new) }
-    {
-        let plan = Plan {
-            goal,
-            left: most,
-            is_monitored: false,
-        };
-        self.start(plan, answer)
+        self.go_on_with(plan)
     }
 
     /// Keeps the number of steps that an empty line repeats.
@@ -204,10 +203,12 @@ impl Lab {
     }
 
     /// Takes some steps.
-    pub(crate) fn run_steps(&mut self, count: u64, answer: &mut Printer) -> Result<Next, NoMemory>
+    #[tactic(auto, using(crate::proofs::Told::one_step, crate::proofs::Told::some_steps))]
+    pub(crate) fn run_steps(&mut self, count: u64) -> Result<Done, NoMemory>
         ensures setup { setup self.new ≡ setup self.old }
         ensures steps { OnOk result (Steps count self.old self.new) }
-        ensures next { IfOk result (λ next. next ≡ next_of self.new) }
+        ensures next { IfOk result (λ d. d.next ≡ next_of self.new) }
+        ensures answers { IfOk result (λ d. d.answer ≡ steps_answer count self.old self.new) }
         ensures err { OnErr result (StopsShort (Steps count) self.old self.new) }
     {
         // It tells that the board is the run of the recorded events.
@@ -215,173 +216,14 @@ impl Lab {
         self.keep_count(count);
         if count == 1 {
             self.keep_plan(None);
-            self.step_once(answer)?;
-            return Ok(Next::More);
+            let answer = self.step_once()?;
+            return Ok(Done::more(answer));
         }
-        self.run(Goal::Count, count, answer)
-    }
-
-    /// Takes a step, and tells what it did.
-    fn step_once(&mut self, answer: &mut Printer) -> Result<(), NoMemory>
-        ensures setup { setup self.new ≡ setup self.old }
-        ensures step { OnOk result
-            (self.new ≡ with_console (record (begun self.old) { recording = stepped self.old.recording })) }
-        ensures err { OnErr result
-            (IsOnWay self.old.recording self.new.recording (stepped self.old.recording)) }
-        ensures others { OnErr result (self.new ≡ record (begun self.old) { recording = self.new.recording }) }
-    {
-        self.begin();
-        // It tells that the steps of the inputs never fall.
-        let _inputs = self.recording.inputs();
-        let outcome = self.recording.take_step()?;
-        self.tell_step(outcome, answer);
-        Ok(())
-    }
-
-    /// Executes `s`.
-    pub(crate) fn step_command(
-        &mut self,
-        operands: &[u8],
-        answer: &mut Printer,
-    ) -> Result<Next, NoMemory>
-        requires { self.old.plan ≡ None }
-        ensures setup { setup self.new ≡ setup self.old }
-        ensures leaves { OnOk result (Leaves command.Step operands.now self.old self.new) }
-        ensures next { IfOk result (λ next. next ≡ next_of self.new) }
-        ensures err { OnErr result (RunsOut (Leaves command.Step operands.now) self.old self.new) }
-    {
-        match count_or(operands, 1, MOST_STEPS) {
-            Some(count) => self.run_steps(count, answer),
-            None => {
-                refuse_count("s", operands, answer);
-                Ok(Next::More)
-            }
-        }
-    }
-
-    /// Executes `c`.
-    pub(crate) fn go_command(
-        &mut self,
-        operands: &[u8],
-        answer: &mut Printer,
-    ) -> Result<Next, NoMemory>
-        requires { self.old.plan ≡ None }
-        ensures setup { setup self.new ≡ setup self.old }
-        ensures leaves { OnOk result (Leaves (command.Moves moves.Go) operands.now self.old self.new) }
-        ensures next { IfOk result (λ next. next ≡ next_of self.new) }
-        ensures err { OnErr result (RunsOut (Leaves (command.Moves moves.Go) operands.now) self.old self.new) }
-    {
-        match count_or(operands, USUAL_STEPS, MOST_STEPS) {
-            Some(count) => self.run(Goal::Break, count, answer),
-            None => {
-                refuse_count("c", operands, answer);
-                Ok(Next::More)
-            }
-        }
-    }
-
-    /// Executes `next`.
-    pub(crate) fn over_command(&mut self, answer: &mut Printer) -> Result<Next, NoMemory>
-        ensures setup { setup self.new ≡ setup self.old }
-        ensures leaves { OnOk result (Begins (goal.Out 0) usual_steps self.old self.new) }
-        ensures next { IfOk result (λ next. next ≡ next_of self.new) }
-        ensures err { OnErr result (StopsShort (Begins (goal.Out 0) usual_steps) self.old self.new) }
-    {
-        self.run(Goal::Out(0), USUAL_STEPS, answer)
-    }
-
-    /// Executes `finish`.
-    pub(crate) fn finish_command(&mut self, answer: &mut Printer) -> Result<Next, NoMemory>
-        ensures setup { setup self.new ≡ setup self.old }
-        ensures leaves { OnOk result (Begins (goal.Out 1) usual_steps self.old self.new) }
-        ensures next { IfOk result (λ next. next ≡ next_of self.new) }
-        ensures err { OnErr result (StopsShort (Begins (goal.Out 1) usual_steps) self.old self.new) }
-    {
-        self.run(Goal::Out(1), USUAL_STEPS, answer)
-    }
-
-    /// Executes `until`.
-    pub(crate) fn until_command(
-        &mut self,
-        operands: &[u8],
-        answer: &mut Printer,
-    ) -> Result<Next, NoMemory>
-        requires { self.old.plan ≡ None }
-        ensures setup { setup self.new ≡ setup self.old }
-        ensures leaves { OnOk result (Leaves (command.Moves moves.Until) operands.now self.old self.new) }
-        ensures next { IfOk result (λ next. next ≡ next_of self.new) }
-        ensures err { OnErr result (RunsOut (Leaves (command.Moves moves.Until) operands.now) self.old self.new) }
-    {
-        match self.read_condition(operands, answer) {
-            Some(condition) => self.run(Goal::Until(condition), USUAL_STEPS, answer),
-            None => Ok(Next::More),
-        }
-    }
-
-    /// Takes a step, and tells it in a line. Returns whether the board goes on.
-    fn trace_step(&mut self, answer: &mut Printer) -> Result<bool, NoMemory>
-        ensures setup { setup self.new ≡ setup self.old }
-        ensures step { OnOk result (self.new ≡ record self.old { recording = stepped self.old.recording }) }
-        ensures over { IfOk result (λ goes_on. goes_on ≡ false → may_step self.new.recording.session ≡ false) }
-        ensures err { OnErr result
-            (IsOnWay self.old.recording self.new.recording (stepped self.old.recording)) }
-        ensures others { self.new ≡ record self.old { recording = self.new.recording } }
-    {
-        // It tells that the steps of the inputs never fall.
-        let _inputs = self.recording.inputs();
-        let before = registers_of(self.board());
-        let at = self.board().pc();
-        let Some(outcome) = self.recording.take_step()? else {
-            self.tell_last_step(answer);
-            return Ok(false);
-        };
-        answer.fill("%d  ", &[self.recording.steps()]);
-        self.append_place(at, answer);
-        self.append_outcome(outcome, &before, answer);
-        answer.end();
-        Ok(self.board().halted().is_none())
-    }
-
-    /// Takes steps, at most `count`, and tells each in a line.
-    #[tactic(auto, using(crate::proofs::Runs::traced_none, crate::proofs::Runs::traced_last))]
-    fn trace_steps(&mut self, count: u64, answer: &mut Printer) -> Result<(), NoMemory>
-        requires { self.old.plan ≡ None }
-        ensures setup { setup self.new ≡ setup self.old }
-        ensures traced { OnOk result (Traced count self.old self.new) }
-        ensures err { OnErr result (StopsShort (Traced count) self.old self.new) }
-    {
-        if count == 0 {
-            return Ok(());
-        }
-        if self.trace_step(answer)? {
-            return self.trace_steps(count - 1, answer);
-        }
-        Ok(())
-    }
-
-    /// Executes `trace`.
-    pub(crate) fn trace_command(
-        &mut self,
-        operands: &[u8],
-        answer: &mut Printer,
-    ) -> Result<Next, NoMemory>
-        requires { self.old.plan ≡ None }
-        ensures setup { setup self.new ≡ setup self.old }
-        ensures leaves { OnOk result (Leaves (command.Moves moves.Trace) operands.now self.old self.new) }
-        ensures next { IfOk result (λ next. next ≡ next_of self.new) }
-        ensures err { OnErr result (RunsOut (Leaves (command.Moves moves.Trace) operands.now) self.old self.new) }
-    {
-        let Some(count) = count_or(operands, 10, MOST_TRACED) else {
-            refuse_count("trace", operands, answer);
-            return Ok(Next::More);
-        };
-        // It tells that the board is the run of the recorded events.
-        let _board = self.board();
-        self.begin();
-        self.trace_steps(count, answer)?;
-        self.tell_console(answer);
-        self.tell_halt(answer);
-        Ok(Next::More)
+        self.start(Plan {
+            goal: Goal::Count,
+            left: count,
+            is_monitored: false,
+        })
     }
 
     /// Goes back to after the first `to` steps.
@@ -403,36 +245,18 @@ impl Lab {
         }
     }
 
-    /// Executes `u`.
-    pub(crate) fn back_command(
-        &mut self,
-        operands: &[u8],
-        answer: &mut Printer,
-    ) -> Result<Next, NoMemory>
-        requires { self.old.plan ≡ None }
+    /// Goes back by some steps.
+    pub(crate) fn back(&mut self, count: u64) -> Result<Done, NoMemory>
         ensures setup { setup self.new ≡ setup self.old }
-        ensures leaves { OnOk result (Leaves (command.Moves moves.Back) operands.now self.old self.new) }
-        ensures next { IfOk result (λ next. next ≡ next_of self.new) }
-        ensures err { OnErr result (RunsOut (Leaves (command.Moves moves.Back) operands.now) self.old self.new) }
+        ensures leaves { OnOk result (Leaves (orders.Back count) self.old self.new) }
+        ensures next { IfOk result (λ d. d.next ≡ after.More) }
+        ensures answers { IfOk result (λ d. d.answer ≡ answers.Back (standing self.new)) }
+        ensures err { OnErr result (self.new ≡ self.old) }
     {
         let now = self.recording.steps();
-        let usual = now.saturating_sub(self.last.steps);
-        let Some(count) = count_or(operands, usual, LAST_STEP) else {
-            refuse_count("u", operands, answer);
-            return Ok(Next::More);
-        };
         self.go_back_to(now.saturating_sub(count))?;
-        answer.fill("back at step %d\n", &[self.recording.steps()]);
-        self.tell_halt(answer);
-        self.append_here(answer);
-        Ok(Next::More)
+        Ok(Done::more(Answer::Back(self.standing())))
     }
-}
-
-/// Says that the operands of a command are no number of steps.
-fn refuse_count(word: &str, operands: &[u8], answer: &mut Printer) {
-    answer.refuse(word, operands, "is no number of steps");
-    answer.see_help(word);
 }
 
 /// Law: however a run is cut into calls, it leaves the same lab.

@@ -1,21 +1,15 @@
 //! The source with addresses and words.
-ghost use Rattle.std.specs.Prelude.{◌≡◌, ◌≤◌, IfSome};
-ghost use Rattle.rv_base.specs.Words.{words};
+ghost use Rattle.std.specs.Prelude.{◌≡◌};
 ghost use Rattle.rv_asm.specs.Seen.{seen};
-ghost use Rattle.rv_lab.specs.declared.command.Command.TheVariants.{List};
-ghost use Rattle.rv_lab.specs.Commands.{Leaves};
-ghost use Rattle.rv_lab.specs.Lines.{bytes_at, excerpt, excerpt_round, line_count, next_excerpt, row_of, with_listed};
+ghost use Rattle.rv_lab.specs.Lines.{bytes_at, excerpt_round, line_count, row_of, with_listed};
 ghost use Rattle.rv_lab.specs.State.{listing};
-ghost use Rattle.rv_lab.specs.Support.Rows.{is_here, is_marked, line_of, line_word};
+ghost use Rattle.rv_lab.specs.Support.Rows.{is_here, is_marked, line_word};
 
 use crate::lab::Lab;
-use crate::operands::count_or;
 use crate::places::line_at;
 use rv_answers::Row;
 use rv_asm::Listing;
-use rv_base::first_word;
 use rv_monitor::word_at;
-use rv_operands::line_number;
 
 /// How many lines `l` lists where no number is given.
 pub(crate) const USUAL_LINES: u64 = 11;
@@ -23,10 +17,10 @@ pub(crate) const USUAL_LINES: u64 = 11;
 /// The most lines that `l` lists.
 pub(crate) const MOST_LINES: u64 = 1000;
 
-/// Some lines of the source: from which on, and how many.
+/// Some lines of the source: after which, and how many.
 #[derive(Clone, Copy)]
 pub(crate) struct Excerpt {
-    pub(crate) first: usize,
+    pub(crate) after: usize,
     pub(crate) count: usize,
 }
 
@@ -37,7 +31,7 @@ impl Excerpt {
     {
         let count = count as usize;
         Excerpt {
-            first: line.saturating_sub(count / 2).max(1),
+            after: line.saturating_sub(count / 2).saturating_sub(1),
             count,
         }
     }
@@ -107,53 +101,10 @@ impl Lab {
     }
 
     /// Keeps which line an excerpt ended with.
-    fn keep_listed(&mut self, excerpt: Excerpt)
-        requires { 1 ≤ excerpt.first }
+    pub(crate) fn keep_listed(&mut self, excerpt: Excerpt)
         ensures { self.new ≡ with_listed self.old excerpt }
     {
-        let end = (excerpt.first - 1).saturating_add(excerpt.count);
-        self.last.listed = end.min(line_count(self.listing()));
-    }
-
-    /// Returns the line that a word stands for, if there is one: its number, or the line at an address.
-    fn line_of(&self, word: &[u8]) -> Option<usize>
-        ensures { result ≡ line_of self.now word.now }
-    {
-        if let Some(line) = line_number(word) {
-            return Some(line as usize);
-        }
-        line_at(self.listing(), self.scope().address(word)?)
-    }
-
-    /// Returns the lines that the operands of `l` ask for, if they can be read.
-    #[tactic(auto, unfolding(crate::specs::Lines::excerpt))]
-    fn excerpt(&self, operands: &[u8]) -> Option<Excerpt>
-        ensures value { result ≡ excerpt self.now (words operands.now) }
-        ensures begins { IfSome result (λ e. 1 ≤ e.first) }
-    {
-        let Some((word, rest)) = first_word(operands) else {
-            let here = line_at(self.listing(), self.board().pc());
-            return Some(Excerpt::round(here.unwrap_or(1), USUAL_LINES));
-        };
-        let line = self.line_of(word)?;
-        let count = count_or(rest, USUAL_LINES, MOST_LINES)?;
-        Some(Excerpt::round(line, count))
-    }
-
-    /// Executes `l`: keeps where its list ends.
-    pub(crate) fn list_command(&mut self, operands: &[u8])
-        ensures { Leaves List operands.now self.old self.new }
-    {
-        if let Some(excerpt) = self.excerpt(operands) {
-            self.keep_listed(excerpt);
-        }
-    }
-
-    /// Keeps where the list of the lines that follow the last list ends.
-    pub(crate) fn list_more(&mut self)
-        ensures { self.new ≡ with_listed self.old (next_excerpt self.old) }
-    {
-        let end = self.last.listed.saturating_add(USUAL_LINES as usize);
+        let end = excerpt.after.saturating_add(excerpt.count);
         self.last.listed = end.min(line_count(self.listing()));
     }
 }

@@ -1,137 +1,60 @@
-//! Where the program is, and what a command did.
-ghost use Rattle.std.specs.Prelude.{◌≡◌, ◌-◌, drop, if◌then◌else◌, length, slice_get};
-ghost use Rattle.rv_answers.specs.Printer.{Appended};
+//! What the console got, and how a run ended.
+ghost use Rattle.std.specs.Prelude.{◌≡◌, ◌-◌, if◌then◌else◌, length, slice_get, IfOk};
 ghost use Rattle.rv_lab.specs.Commands.{with_console};
-ghost use Rattle.rv_lab.specs.Support.Rows.{stop_word};
+ghost use Rattle.rv_lab.specs.Runs as spec;
+ghost use Rattle.rv_lab.specs.Runs.{ending_of, watch_of};
 ghost use Rattle.rv_monitor.specs.Views.{stop_text};
 ghost use Rattle.rv_lab.specs.State.{board};
 
 use crate::lab::Lab;
 use crate::plan::Goal;
 use crate::registers::registers_of;
-use rv_answers::{
-    Printer, Registers, append_cause, append_changes, append_escaped, append_halted,
-    append_register, append_value,
-};
+use crate::steps::changes;
+use rv_answers::{Aim, Answer, Ending, Many, Run, Target, Trap, Watch};
 use rv_base::NoMemory;
 use rv_board::TrapRecord;
-use rv_hart::Outcome;
 use rv_monitor::{word_at, write_stop};
 use rv_recording::{Condition, End, Watched};
 
+/// Returns the monitor's word for why a run is over.
+fn stop_word(end: End) -> &'static str
+    ensures { result.now ≡ spec.stop_word end }
+{
+    match end {
+        End::Halted => "halted",
+        End::Breakpoint => "break",
+        _ => "limit",
+    }
+}
+
+/// Returns why a run is over.
+fn ending_of(end: End) -> Ending
+    ensures { result ≡ ending_of end }
+{
+    match end {
+        End::Halted => Ending::Halted,
+        End::Reached => Ending::Reached,
+        End::Breakpoint => Ending::Breakpoint,
+        End::Limit => Ending::Limit,
+        End::Stuck => Ending::Stuck,
+    }
+}
+
 impl Lab {
-    /// Appends an address with its label, its line's number and the line's text.
-    pub(crate) fn append_place(&self, address: u32, answer: &mut Printer) {
-        self.lines().append_place(self.place_of(address), answer);
-    }
-
-    /// Appends the line of the next instruction.
-    pub(crate) fn append_here(&self, answer: &mut Printer) {
-        self.append_place(self.board().pc(), answer);
-        answer.end();
-    }
-
-    /// Appends the registers that changed since the last command that moved the board, in a line, if any did.
-    fn append_changed(&self, answer: &mut Printer) {
-        let now = registers_of(self.board());
-        if append_changes(&self.last.registers, &now, answer) > 0 {
-            answer.end();
-        }
-    }
-
-    /// Appends what a step did: a trap, or the registers that it changed.
-    pub(crate) fn append_outcome(
-        &self,
-        outcome: Outcome,
-        before: &Registers,
-        answer: &mut Printer,
-    ) {
-        if let Outcome::Trapped { cause, tval, .. } = outcome {
-            answer.say("  trap ");
-            append_cause(cause, answer);
-            answer.fill(", mtval %x", &[tval as u64]);
-        }
-        append_changes(before, &registers_of(self.board()), answer);
-    }
-
-    /// Returns the bytes that the console got and that weren't told.
-    fn untold(&self) -> &[u8]
-        ensures { result.now ≡ drop self.now.told (board self.now).machine.bus.serial.sent }
-    {
-        let console = self.board().console();
-        console.split_at(self.last.told.min(console.len())).1
-    }
-
-    /// Appends the bytes that the console got and that weren't told, marked by a bar. A line that isn't ended
-    /// yet ends with a backslash.
-    pub(crate) fn tell_console(&mut self, answer: &mut Printer)
+    /// Keeps that all bytes of the console were told.
+    pub(crate) fn tell_console(&mut self)
         ensures { self.new ≡ with_console self.old }
     {
-        append_console(self.untold(), answer);
         self.last.told = self.board().console().len();
     }
 
-    /// Appends that the board halted, if it did.
-    pub(crate) fn tell_halt(&self, answer: &mut Printer) {
-        if let Some(code) = self.board().halted() {
-            append_halted(code, self.steps(), answer);
-        }
-    }
-
-    /// Appends why the board takes no step.
-    pub(crate) fn tell_stuck(&self, answer: &mut Printer) {
-        self.tell_halt(answer);
-        self.tell_last_step(answer);
-    }
-
-    /// Appends that the lab takes no more steps, where the board hasn't halted.
-    pub(crate) fn tell_last_step(&self, answer: &mut Printer) {
-        if self.board().halted().is_none() {
-            answer.say("the lab takes no more than 9999999999 steps\n");
-        }
-    }
-
-    /// Returns the number of steps that the last command took.
-    fn last_steps(&self) -> u64 {
-        self.steps().saturating_sub(self.last.steps)
-    }
-
-    /// Appends what a single step did, and where the program is.
-    pub(crate) fn tell_step(&mut self, outcome: Option<Outcome>, answer: &mut Printer)
-        ensures { self.new ≡ with_console self.old }
+    /// Keeps that the bytes of the console were told that a piece of a run sent. The monitor tells nothing before the
+    /// end.
+    pub(crate) fn tell_piece(&mut self, is_monitored: bool)
+        ensures { self.new ≡ (if is_monitored then self.old else with_console self.old) }
     {
-        self.tell_console(answer);
-        let Some(outcome) = outcome else {
-            return self.tell_stuck(answer);
-        };
-        answer.fill("step %d", &[self.steps()]);
-        self.append_outcome(outcome, &self.last.registers, answer);
-        answer.end();
-        self.tell_rest(answer);
-    }
-
-    /// Appends that the board halted, or where the program is.
-    fn tell_rest(&self, answer: &mut Printer) {
-        let board = self.board();
-        if board.halted().is_some() {
-            return self.tell_halt(answer);
-        }
-        if board.ram(board.pc()).is_none() {
-            answer.say("no memory is at pc: the last trap met no handler; type `why`\n");
-        }
-        self.append_here(answer);
-    }
-
-    /// Appends the goal that was reached.
-    fn append_goal(&self, goal: Goal, answer: &mut Printer) {
-        match goal {
-            Goal::Until(Condition::Changed { watched, .. } | Condition::Compares { watched, .. }) =>
-                {
-                    answer.say(": ");
-                    self.append_watched(watched, answer);
-                }
-            Goal::Until(Condition::Trap) => self.append_last_trap(answer),
-            _ => {}
+        if !is_monitored {
+            self.tell_console();
         }
     }
 
@@ -143,144 +66,91 @@ impl Lab {
         board.trap(board.trap_count().saturating_sub(1))
     }
 
-    /// Appends the cause of the last trap.
-    fn append_last_trap(&self, answer: &mut Printer) {
-        if let Some(trap) = self.last_trap() {
-            answer.say(": trap ");
-            append_cause(trap.cause, answer);
-            answer.fill(", mtval %x, at", &[trap.tval as u64]);
-            self.append_short_place(trap.epc, answer);
-        }
-    }
-
-    /// Appends an address with the number of its line.
-    pub(crate) fn append_short_place(&self, address: u32, answer: &mut Printer) {
-        self.lines()
-            .append_short_place(self.place_of(address), answer);
-    }
-
-    /// Appends what is watched, with its value.
-    fn append_watched(&self, watched: Watched, answer: &mut Printer) {
-        match watched {
-            Watched::Register(register) => {
-                append_register(register, self.board().reg(register), answer);
-            }
-            Watched::Word(address) => {
-                answer.say("[");
-                answer.word(address);
-                answer.say("] = ");
-                match word_at(self.board(), address) {
-                    Some(word) => append_value(word, answer),
-                    None => answer.say("--------"),
-                }
-            }
-        }
-    }
-
-    /// Appends what the console got in a piece of a run. The monitor tells nothing before the end.
-    pub(crate) fn tell_piece(&mut self, is_monitored: bool, answer: &mut Printer)
-        ensures { self.new ≡ (if is_monitored then self.old else with_console self.old) }
+    /// Returns the last trap with its place, if there was one.
+    fn last_trap_value(&self) -> Option<Trap>
+        ensures { result ≡ spec.last_trap self.now }
     {
-        if !is_monitored {
-            self.tell_console(answer);
+        match self.last_trap() {
+            Some(trap) => Some(self.trap_of(trap, 1)),
+            None => None,
         }
     }
 
-    /// Appends why a run is over, as the lab or as the monitor does.
-    pub(crate) fn tell_end(
-        &mut self,
+    /// Returns what is watched, with its value.
+    fn watch_of(&self, watched: Watched) -> Watch
+        ensures { result ≡ watch_of self.now watched }
+    {
+        let board = self.board();
+        match watched {
+            Watched::Register(register) => Watch {
+                target: Target::Register(register),
+                value: Some(board.reg(register)),
+            },
+            Watched::Word(address) => Watch {
+                target: Target::Word(address),
+                value: word_at(board, address),
+            },
+        }
+    }
+
+    /// Returns what a run went on for that went on until a condition holds.
+    fn until_aim(&self, condition: Condition) -> Aim
+        ensures { result ≡ spec.until_aim self.now condition }
+    {
+        match condition {
+            Condition::Trap => Aim::Trap(self.last_trap_value()),
+            Condition::Console(_) => Aim::Console,
+            Condition::At { .. } => Aim::Arrival,
+            Condition::Changed { watched, .. } => Aim::Watch(self.watch_of(watched)),
+            Condition::Compares { watched, .. } => Aim::Watch(self.watch_of(watched)),
+        }
+    }
+
+    /// Returns what a run went on for.
+    fn aim_of(&self, goal: Goal) -> Aim
+        ensures { result ≡ spec.aim_of self.now goal }
+    {
+        match goal {
+            Goal::Count => Aim::Steps,
+            Goal::Break => Aim::Breakpoint,
+            Goal::Out(_) => Aim::Return,
+            Goal::Until(condition) => self.until_aim(condition),
+        }
+    }
+
+    /// Returns why a run is over, as the monitor prints it.
+    fn stop_text(&self, end: End) -> Result<Many<u8>, NoMemory>
+        ensures { IfOk result (λ t. t ≡ stop_text (board self.now) (spec.stop_word end)) }
+    {
+        let mut text = Vec::new(self.alloc);
+        write_stop(self.board(), stop_word(end), &mut text)?;
+        Ok(Many::of(text))
+    }
+
+    /// Answers that a run is over, as the monitor or as the lab does.
+    #[tactic(auto, unfolding(crate::specs::Runs::over_answer))]
+    pub(crate) fn over_answer(
+        &self,
         is_monitored: bool,
         goal: Goal,
         end: End,
-        answer: &mut Printer,
-    )
-        ensures { self.new ≡ with_console self.old }
+    ) -> Result<Answer, NoMemory>
+        ensures { IfOk result (λ a. a ≡ spec.over_answer is_monitored goal end self.now) }
     {
         if is_monitored {
-            self.append_stop(end, answer);
-            return self.tell_console(answer);
+            return Ok(Answer::Monitor(self.stop_text(end)?));
         }
-        self.tell_goal_end(goal, end, answer);
-    }
-
-    /// Appends why a run is over as the monitor does.
-    fn append_stop(&self, end: End, answer: &mut Printer)
-        ensures { Appended answer.old answer.new (stop_text (board self.now) (stop_word end)) }
-    {
-        let mut text = Vec::new(self.alloc);
-        match write_stop(self.board(), stop_word(end), &mut text) {
-            Ok(()) => answer.put(text.as_slice()),
-            Err(NoMemory) => answer.cut(),
-        }
-    }
-
-    /// Appends why a run is over, what it changed, and where the program is.
-    fn tell_goal_end(&mut self, goal: Goal, end: End, answer: &mut Printer)
-        ensures { self.new ≡ with_console self.old }
-    {
-        self.tell_console(answer);
-        let steps = self.last_steps();
-        match end {
-            End::Halted => {}
-            End::Stuck => return self.tell_stuck(answer),
-            End::Breakpoint => {
-                let is_goal = matches!(goal, Goal::Break) as u64;
-                let form = "breakpoint after %d step%{s||s}%{, before the goal is reached|}\n";
-                answer.fill(form, &[steps, steps, is_goal]);
-            }
-            End::Reached => {
-                answer.fill("stopped after %d step%{s||s}", &[steps, steps]);
-                self.append_goal(goal, answer);
-                answer.end();
-            }
-            End::Limit => {
-                let form = limit_form(goal);
-                answer.fill(form, &[steps, steps]);
-            }
-        }
-        self.append_changed(answer);
-        self.tell_rest(answer);
-    }
-}
-
-/// Returns the monitor's word for why a run is over.
-fn stop_word(end: End) -> &'static str
-    ensures { result.now ≡ stop_word end }
-{
-    match end {
-        End::Halted => "halted",
-        End::Breakpoint => "break",
-        _ => "limit",
-    }
-}
-
-/// Returns how it is told that as many steps were taken as were asked for.
-fn limit_form(goal: Goal) -> &'static str {
-    match goal {
-        Goal::Count => "stopped after %d step%{s||s}\n",
-        Goal::Break => "still running after %d step%{s||s}; c goes on\n",
-        Goal::Until(_) =>
-            "not reached after %d step%{s||s}; c goes on without the condition, `until` again with it\n",
-        Goal::Out(_) => "not returned after %d step%{s||s}; c goes on, and past the return\n",
-    }
-}
-
-/// Appends bytes of the console, each of their lines after a bar. A byte that isn't printed is escaped, and a
-/// backslash ends a line that isn't ended yet.
-fn append_console(bytes: &[u8], answer: &mut Printer) {
-    let mut is_open = false;
-    for byte in bytes {
-        if !is_open {
-            answer.say("| ");
-        }
-        is_open = *byte != b'\n';
-        match *byte {
-            b'\n' => answer.end(),
-            b'"' => answer.say("\""),
-            byte => append_escaped(byte, answer),
-        }
-    }
-    if is_open {
-        answer.say("\\\n");
+        let changed = changes(
+            self.alloc,
+            &self.last.registers,
+            &registers_of(self.board()),
+        )?;
+        Ok(Answer::Ended(Run {
+            ending: ending_of(end),
+            aim: self.aim_of(goal),
+            steps: self.steps().saturating_sub(self.last.steps),
+            changed,
+            standing: self.standing(),
+        }))
     }
 }

@@ -1,13 +1,11 @@
 -- Not to audit: private contracts alone cite this.
 -- The tables of the program, as the definitions have them, and parts of the answers, as the code finds them.
-use Rattle.std.specs.Prelude.{◌≡◌, ℕ, ◌+◌, ◌-◌, ◌*◌, ◌%◌, ◌^◌, ◌==◌, ◌&&◌, Bool, false, List, [], ◌∷◌, codes, filter, find, if◌then◌else◌, length, map, nat_le, nat_lt, not, Option, Some, None, Result, Ok, Err, option_and_then, unwrap_or}
+use Rattle.std.specs.Prelude.{ℕ, ◌+◌, ◌-◌, ◌*◌, ◌%◌, ◌^◌, ◌==◌, ◌&&◌, Bool, false, List, [], ◌∷◌, filter, find, if◌then◌else◌, length, nat_le, nat_lt, not, Option, Some, None, option_and_then, unwrap_or}
 use Rattle.std.specs.FinSet as set
 use Rattle.std.specs.Int.{is_in_range}
-use Rattle.std.specs.List.{last_or, list_any, position_or_len, range_with_len}
-use Rattle.std.specs.Str.{bytes_eq}
+use Rattle.std.specs.List.{last_or, position_or_len, range_with_len}
 use Rattle.rv_base.specs.Words.{words}
-use Rattle.std.specs.Option.{option_map, option_map_or, option_or}
-use Rattle.std.specs.Borrow.{Bor}
+use Rattle.std.specs.Option.{option_map, option_map_or}
 use Rattle.rv_isa.specs.Number.{flag}
 use Rattle.rv_pmp.specs.Mode.{is_machine}
 use Rattle.rv_board.specs.BoardState.{BoardState, csr_of}
@@ -17,29 +15,9 @@ use Rattle.rv_base.specs.Tables.{lookup}
 use Rattle.rv_isa.specs.Names.{register_names}
 use Rattle.rv_operands.specs.Support.Words.{only_of}
 use Rattle.rv_asm.specs.Lines.{Listed, bytes_of}
-use Rattle.rv_operands.specs.Operands.{address, line_number}
-use Rattle.rv_answers.specs.declared.answer.Answer.{Answer}
-use Rattle.rv_recording.specs.declared.until.End.{End}
-use Rattle.rv_recording.specs.declared.until.End.TheVariants as ends
 use Rattle.rv_lab.specs.Lines.{bytes_at, line_at}
 use Rattle.rv_lab.specs.State.{LabState, board, listing}
-use Rattle.rv_lab.specs.Words.{commands, count_of}
-use Rattle.rv_lab.specs.declared.command.Command.{Command}
-use Rattle.rv_lab.specs.declared.command.Command.TheVariants.{Nothing}
-use Rattle.rv_lab.specs.declared.command.Row.{Row}
-
--- the commands by their words
-abbrev pub named : List (Bor (List ℕ) × Row) → List (List ℕ × Command)
-named rows = map (λ r. (r.0.now, r.1.command)) rows
-
--- the command of a word in a table
-abbrev pub named_in : List ℕ → List (List ℕ × Command) → Option Command
-named_in word table = option_map (λ row. row.1) (find (λ row. list_any (bytes_eq word) (words row.0)) table)
-
--- the command of a word; a word that is no command does nothing, and so does a comment
-unfoldable pub word_command : List ℕ → Command
-word_command word =
-    unwrap_or (option_map (λ r. r.1) (find (λ r. list_any (bytes_eq word) (words r.0)) commands)) Nothing
+use Rattle.rv_lab.specs.Words.{count_of}
 
 -- the number of the register that words name
 abbrev pub register_of : List (List ℕ) → Option ℕ
@@ -50,14 +28,6 @@ unfoldable pub label_at : Listed → ℕ → Option (List ℕ × ℕ)
 label_at l a =
     option_and_then (λ line. option_map (λ label. (label.0, a - label.1))
     (last_or None (filter (λ label. nat_le label.1 a) l.labels))) (line_at l a)
-
--- ---- an answer
-
--- the answer is a value where there is one
-abbrev pub Replies : {E : Type 0} → Result (Option Answer) E → Answer → Type 0
-Replies (Ok (Some value)) answer = answer ≡ value
-Replies (Ok None) answer = Unit
-Replies (Err e) answer = ⊥
 
 -- ---- `l`
 
@@ -75,19 +45,6 @@ abbrev pub line_word : LabState → ℕ → Option ℕ
 line_word l n =
     if nat_lt (length (bytes_of (listing l) n)) 4 then None
     else option_and_then (word_at (board l)) (bytes_at (listing l) n)
-
--- the line that a word stands for: its number, or the line at an address
-abbrev pub line_of : LabState → List ℕ → Option ℕ
-line_of l word =
-    option_or (line_number word) (option_and_then (line_at (listing l)) (address (listing l) (board l) word))
-
--- ---- runs of the monitor
-
--- its word for why a run is over
-abbrev pub stop_word : End → List ℕ
-stop_word ends.Halted = codes "halted"
-stop_word ends.Breakpoint = codes "break"
-stop_word _ = codes "limit"
 
 -- ---- `e` and `dev`
 

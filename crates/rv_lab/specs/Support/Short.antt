@@ -5,12 +5,9 @@ use Rattle.rv_timeline.specs.declared.input.Input.{Input}
 use Rattle.rv_monitor.specs.State.{after}
 use Rattle.rv_monitor.specs.Stops.{may_step}
 use Rattle.rv_recording.specs.Recording.{RecordingState, gone_back, with_timed}
-use Rattle.rv_lab.specs.Commands.{Leaves, begun, with_console, with_inputs}
+use Rattle.rv_lab.specs.Commands.{begun, with_console, with_inputs}
 use Rattle.rv_lab.specs.Refusals.{Leads}
 use Rattle.rv_lab.specs.State.{LabState}
-use Rattle.rv_lab.specs.declared.command.Command.{Command}
-use Rattle.rv_lab.specs.declared.command.Command.TheVariants.{Break, Clear, Receive, Line, Monitor}
-use Rattle.rv_lab.specs.declared.command.Command.TheVariants as command
 use Rattle.rv_recording.specs.declared.until.End.{End}
 use Rattle.rv_recording.specs.declared.until.End.TheVariants.{Limit}
 use Rattle.rv_lab.specs.declared.plan.Goal.{Goal}
@@ -39,18 +36,6 @@ abbrev pub IsOnWay : RecordingState → RecordingState → RecordingState → Ty
 IsOnWay old new done =
     Leads old.session.timed new.session.timed × Leads new.session.timed done.session.timed
     × (new ≡ with_timed old new.session.timed)
-
--- ---- commands
-
--- the lab that a command leaves which takes no step
-abbrev pub Changes : Command → List ℕ → LabState → LabState → Type 0
-Changes Break operands old new = Leaves Break operands old new
-Changes Clear operands old new = Leaves Clear operands old new
-Changes Receive operands old new = Leaves Receive operands old new
-Changes Line operands old new = Leaves Line operands old new
-Changes Monitor operands old new = Leaves Monitor operands old new
-Changes command.List operands old new = Leaves command.List operands old new
-Changes _ operands old new = new ≡ old
 
 -- a lab was to be given inputs
 abbrev pub Gives : List Input → LabState → LabState → Type 0

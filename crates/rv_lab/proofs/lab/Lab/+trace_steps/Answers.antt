@@ -1,22 +1,36 @@
-use Rattle.std.proofs.Common.{arith}
+use Rattle.std.proofs.Common.{◌∙◌, sym, arith}
 use Rattle.rv_lab.specs.Support.Short.{Traced}
 use Rattle.rv_lab.specs.Refusals.{StopsShort}
 use Rattle.rv_lab.proofs.Runs.{traced_all}
 use Rattle.rv_lab.proofs.Short.{on_err, traced_further, traced_short}
+use Rattle.rv_lab.proofs.Told.{more_steps, wholly}
 use Rattle.rv_lab.proofs.lab.Lab.+trace_steps.Goals as goal
 
-pub returns-then-branch-clause-traced : goal.returns-then-branch-clause-traced
-returns-then-branch-clause-traced t c =
-    traced_all c.trace_steps.result c.args.count c.args.self.now c.trace_step.new.self c.trace_steps.new.self
-    (omega arith) c.in_ok-trace_step.ensures.step c.trace_steps.ensures.traced
+pub returns-clause-traced : goal.returns-clause-traced
+returns-clause-traced t c =
+    traced_all c.trace_steps.result c.args.count c.args.self.now c.take_step.new.self c.trace_steps.new.self
+    (omega arith) c.in_ok-step.ensures.step c.trace_steps.ensures.traced
 
-pub returns-in_err-trace_step-clause-err : goal.returns-in_err-trace_step-clause-err
-returns-in_err-trace_step-clause-err t c =
-    on_err c.from_residual.result (StopsShort (Traced c.args.count) c.args.self.now c.trace_step.new.self)
-    (traced_short c.args.count c.args.self.now c.trace_step.new.self (omega arith) c.requires
-    c.in_err-trace_step.ensures.err c.in_err-trace_step.ensures.others)
+pub returns-clause-steps : goal.returns-clause-steps
+returns-clause-steps t c =
+    more_steps c.trace_steps.result c.args.count c.args.self.now c.take_step.new.self c.in-Some.step
+    c.args.steps.now.items c.push_step.new.steps.items c.trace_steps.new.steps.items
+    (omega arith) c.in_ok-step.ensures.step
+    (sym c.in-Some.is ∙ c.in_ok-step.ensures.value) c.in_ok-push_step.ensures c.trace_steps.ensures.steps
 
-pub returns-then-branch-clause-err : goal.returns-then-branch-clause-err
-returns-then-branch-clause-err t c =
-    traced_further c.trace_steps.result c.args.count c.args.self.now c.trace_step.new.self c.trace_steps.new.self
-    (omega arith) c.in_ok-trace_step.ensures.step c.trace_steps.ensures.err
+pub returns-in_err-step-clause-err : goal.returns-in_err-step-clause-err
+returns-in_err-step-clause-err t c =
+    on_err c.from_residual.result (StopsShort (Traced c.args.count) c.args.self.now c.take_step.new.self)
+    (traced_short c.args.count c.args.self.now c.take_step.new.self (omega arith) c.requires
+    c.in_err-step.ensures.err c.take_step.ensures.others)
+
+pub returns-in_err-push_step-clause-err : goal.returns-in_err-push_step-clause-err
+returns-in_err-push_step-clause-err t c =
+    on_err c.from_residual-in_err-push_step.result (StopsShort (Traced c.args.count) c.args.self.now c.take_step.new.self)
+    (traced_short c.args.count c.args.self.now c.take_step.new.self (omega arith) c.requires
+    (wholly c.args.self.now c.take_step.new.self c.in_ok-step.ensures.step) c.take_step.ensures.others)
+
+pub returns-clause-err : goal.returns-clause-err
+returns-clause-err t c =
+    traced_further c.trace_steps.result c.args.count c.args.self.now c.take_step.new.self c.trace_steps.new.self
+    (omega arith) c.in_ok-step.ensures.step c.trace_steps.ensures.err

@@ -1,0 +1,376 @@
+-- What commands answered.
+use Rattle.std.proofs.Common.{◌≡◌, ◌∙◌, ℕ, zero, suc, ◌-◌, ◌<◌, ◌==◌, Bool, true, false, List, [], ◌∷◌, ◌++◌, refl, sym, ap, subst, append-nil, append_assoc, arith}
+use Rattle.std.specs.Prelude.{Option, Some, None, IfOk, OnOk, OnErr, length, Result, Ok, Err, if◌then◌else◌}
+use Rattle.std.specs.Option.{option_map_or}
+use Rattle.rv_base.specs.declared.memory.NoMemory.{NoMemory}
+use Rattle.rv_hart.specs.declared.trap.Outcome.{Outcome}
+use Rattle.rv_hart.specs.Step.{step}
+use Rattle.rv_monitor.specs.State.{SessionState, after, with_due}
+use Rattle.rv_monitor.specs.Stops.{TakesStep, may_step}
+use Rattle.rv_recording.specs.Recording.{RecordingState, with_timed}
+use Rattle.rv_recording.specs.declared.until.End.{End}
+use Rattle.rv_answers.specs.declared.answer.Answer.{Answer}
+use Rattle.rv_answers.specs.declared.answer.Answer.TheVariants as answers
+use Rattle.rv_answers.specs.declared.moves.Aim.{Aim}
+use Rattle.rv_answers.specs.declared.moves.Ending.{Ending}
+use Rattle.rv_answers.specs.declared.moves.Step.{Step}
+use Rattle.rv_answers.specs.declared.values.Place.{Place}
+use Rattle.rv_answers.specs.declared.values.RegisterValue.{RegisterValue}
+use Rattle.rv_answers.specs.declared.values.Standing.{Standing}
+use Rattle.rv_answers.specs.declared.values.Trap.{Trap}
+use Rattle.rv_timeline.specs.declared.input.Input.{Input}
+use Rattle.rv_monitor.specs.Commands as monitor
+use Rattle.rv_monitor.specs.Commands.{command_in}
+use Rattle.rv_lab.specs.Answers.{place_of, standing}
+use Rattle.rv_lab.specs.Commands.{GoesOn, begun, follows, gone_on, monitor_next, monitored_run, with_console, with_piece, with_steps}
+use Rattle.rv_lab.specs.Refusals.{StopsShort, nowhere}
+use Rattle.rv_lab.specs.Runs.{aim_of, answer_by, begins_answer, changes, end_of, ending_of, given_answer, monitor_answer, next_step, next_steps, over_answer, run_answer, step_answer, step_value, steps_answer, trace_answer, trace_ending, trap_in}
+use Rattle.rv_lab.specs.State.{LabState, board, registers_of, timed}
+use Rattle.rv_lab.specs.Support.Short.{IsOnWay, Traced, stepped}
+use Rattle.rv_lab.specs.declared.lab.Done.{Done}
+use Rattle.rv_lab.specs.declared.order.Order.{Order}
+use Rattle.rv_lab.specs.declared.order.Order.TheVariants as orders
+use Rattle.rv_lab.specs.declared.plan.Goal.{Goal}
+use Rattle.rv_lab.specs.declared.plan.Goal.TheVariants as goal
+use Rattle.rv_lab.specs.declared.plan.Plan.{Plan}
+use Rattle.rv_lab.proofs.Runs.{told_end, traced_last}
+use Rattle.rv_lab.proofs.Short.{on_err, to_steps}
+
+-- ---- runs
+
+plan_kept : (b : Bool) (mid : LabState) → (if b then mid else with_console mid).plan ≡ mid.plan
+plan_kept true mid = refl
+plan_kept false mid = refl
+
+pub running : (p rest : Plan) (kept : Option Plan) (old mid new : LabState) (n : ℕ) → kept ≡ mid.plan
+    → kept ≡ Some rest → new ≡ (if rest.is_monitored then mid else with_console mid) → n ≡ (timed new).taken
+    → answers.Running n ≡ run_answer p old new
+unfolding run_answer
+running p rest kept old mid new n now e told is =
+    let some : new.plan ≡ Some rest =
+    ap (λ (l : LabState). l.plan) told ∙ (plan_kept rest.is_monitored mid ∙ (sym now ∙ e)) in
+    ap (λ (k : ℕ). answers.Running k) is ∙ sym (rw some refl)
+
+pub over : (p : Plan) (end : End) (kept : Option Plan) (old mid new : LabState) (a : Answer) → kept ≡ mid.plan
+    → kept ≡ None → new ≡ with_console mid → end ≡ end_of p old → a ≡ over_answer p.is_monitored p.goal end new
+    → a ≡ run_answer p old new
+unfolding run_answer
+over p end kept old mid new a now e told ended h =
+    let none : new.plan ≡ None = ap (λ (l : LabState). l.plan) told ∙ (sym now ∙ e) in
+    h ∙ (ap (λ (x : End). over_answer p.is_monitored p.goal x new) ended ∙ sym (rw none refl))
+
+-- memory ran out after a whole run
+pub over_short : {A : Type 0} (r : Result A NoMemory) (p : Plan) (kept : Option Plan) (old mid new : LabState)
+    → mid ≡ with_piece p old → kept ≡ mid.plan → kept ≡ None → new ≡ with_console mid
+    → OnErr r (StopsShort (GoesOn p) old new)
+over_short r p kept old mid new is now e told =
+    let all : new ≡ gone_on p old = told_end p kept old mid new is now e told in
+    let none : (gone_on p old).plan ≡ None = sym (ap (λ (l : LabState). l.plan) is) ∙ (sym now ∙ e) in
+    on_err r (StopsShort (GoesOn p) old new) (subst (StopsShort (GoesOn p) old) (sym all) (
+      gone_on p old,
+      refl,
+      to_steps (timed old) _,
+      nowhere,
+      ap (λ (q : Option Plan). record (gone_on p old) { plan = q }) none,
+    ))
+
+-- ---- a step
+
+-- a lab of which the board and the source are the same does the same
+abbrev other : LabState → List ℕ → (before told count : ℕ) → Option Plan → LabState
+other l registers before told count plan =
+    record l { registers = registers; before = before; told = told; count = count; plan = plan }
+
+same_value : (l : LabState) (rs : List ℕ) (b t c : ℕ) (p : Option Plan) → step_value (other l rs b t c p) ≡ step_value l
+unfolding step_value trap_in place_of
+same_value l rs b t c p = refl
+
+same_step : (l : LabState) (rs : List ℕ) (b t c : ℕ) (p : Option Plan) → next_step (other l rs b t c p) ≡ next_step l
+same_step l rs b t c p =
+    ap (λ (v : Step). if may_step l.recording.session then Some v else None) (same_value l rs b t c p)
+
+same_steps : (n : ℕ) (l : LabState) (rs : List ℕ) (b t c : ℕ) (p : Option Plan)
+    → next_steps n (other l rs b t c p) ≡ next_steps n l
+unfolding next_steps
+same_steps zero l rs b t c p = refl
+same_steps (suc n) l rs b t c p =
+    ap (λ (v : Step). if may_step l.recording.session then v ∷ next_steps n (with_steps 1 (other l rs b t c p)) else [])
+    (same_value l rs b t c p)
+    ∙ ap (λ (vs : List Step). if may_step l.recording.session then step_value l ∷ vs else [])
+    (same_steps n (with_steps 1 l) rs b t c p)
+
+begun_step : (old mid : LabState) → mid ≡ begun old → next_step mid ≡ next_step old
+begun_step old mid e = ap next_step e ∙ same_step old _ _ _ old.count old.plan
+
+step_said : (o p : Option Step) (st : Standing) → o ≡ p
+    → option_map_or (λ (x : Step). answers.Stepped (record { step = x; standing = st })) o (answers.Stuck st)
+    ≡ option_map_or (λ (x : Step). answers.Stepped (record { step = x; standing = st })) p (answers.Stuck st)
+step_said o p st e = ap (λ (q : Option Step). option_map_or
+    (λ (x : Step). answers.Stepped (record { step = x; standing = st })) q (answers.Stuck st)) e
+
+pub did_step : (old mid new : LabState) (s : Option Step) (v : Step) (st : Standing) → mid ≡ begun old
+    → s ≡ next_step mid → s ≡ Some v → st ≡ standing new
+    → answers.Stepped (record { step = v; standing = st }) ≡ step_answer old new
+did_step old mid new s v st e is some stands =
+    ap (λ (x : Standing). answers.Stepped (record { step = v; standing = x })) stands
+    ∙ step_said (Some v) (next_step old) (standing new) (sym some ∙ (is ∙ begun_step old mid e))
+
+pub no_step : (old mid new : LabState) (s : Option Step) (st : Standing) → mid ≡ begun old
+    → s ≡ next_step mid → s ≡ None → st ≡ standing new → answers.Stuck st ≡ step_answer old new
+no_step old mid new s st e is none stands =
+    ap (λ (x : Standing). answers.Stuck x) stands
+    ∙ step_said None (next_step old) (standing new) (sym none ∙ (is ∙ begun_step old mid e))
+
+-- ---- what a step did
+
+-- a value by its parts
+pub did : (l : LabState) (place : Place) (o : Outcome) (n : ℕ) (t : Option Trap) (before now : List ℕ)
+    (changed : List RegisterValue) → n ≡ (timed l).taken → t ≡ trap_in l o → now ≡ registers_of (board l)
+    → changed ≡ changes before now
+    → ◌≡◌ {A = Step} (record { number = n; place = place; trap = t; changed = changed })
+    (record { number = (timed l).taken; place = place; trap = trap_in l o; changed = changes before (registers_of (board l)) })
+did l place o n t before now changed taken traps is c =
+    ap (λ (k : ℕ). record { number = k; place = place; trap = t; changed = changed }) taken
+    ∙ (ap (λ (x : Option Trap). record { number = (timed l).taken; place = place; trap = x; changed = changed }) traps
+    ∙ ap (λ (x : List RegisterValue). record { number = (timed l).taken; place = place; trap = trap_in l o; changed = x })
+    (c ∙ ap (changes before) is))
+
+value_of : (old : LabState) (place : Place) (before : List ℕ) → place ≡ place_of old (board old).machine.pc
+    → before ≡ registers_of (board old)
+    → ◌≡◌ {A = Step} (record {
+      number = (timed (with_steps 1 old)).taken;
+      place = place;
+      trap = trap_in (with_steps 1 old) (step (with_due (timed old)).board.machine).1;
+      changed = changes before (registers_of (board (with_steps 1 old)));
+    }) (step_value old)
+unfolding step_value
+value_of old place before at from =
+    ap (λ (q : Place). record {
+      number = (timed (with_steps 1 old)).taken;
+      place = q;
+      trap = trap_in (with_steps 1 old) (step (with_due (timed old)).board.machine).1;
+      changed = changes before (registers_of (board (with_steps 1 old)));
+    }) at
+    ∙ ap (λ (q : List ℕ). record {
+      number = (timed (with_steps 1 old)).taken;
+      place = place_of old (board old).machine.pc;
+      trap = trap_in (with_steps 1 old) (step (with_due (timed old)).board.machine).1;
+      changed = changes q (registers_of (board (with_steps 1 old)));
+    }) from
+
+took_here : (old : LabState) (q : RecordingState) (o : Outcome)
+    → TakesStep old.recording.session q.session (Ok (Some o)) → q ≡ record old.recording { session = q.session }
+    → (v : Step) (place : Place) (before : List ℕ) → place ≡ place_of old (board old).machine.pc
+    → before ≡ registers_of (board old)
+    → v ≡ record {
+      number = q.session.timed.taken;
+      place = place;
+      trap = trap_in (record old { recording = q }) o;
+      changed = changes before (registers_of q.session.timed.board);
+    } → Some v ≡ next_step old
+took_here old q o took others v place before at from is =
+    let after_it : q ≡ with_timed old.recording (after (timed old) 1) =
+    others ∙ ap (λ (s : SessionState). record old.recording { session = s }) took.1 in
+    let value : v ≡ step_value old =
+    is ∙ (ap (λ (r : RecordingState). record {
+      number = r.session.timed.taken;
+      place = place;
+      trap = trap_in (record old { recording = r }) o;
+      changed = changes before (registers_of r.session.timed.board);
+    }) after_it
+    ∙ (ap (λ (d : Outcome). record {
+      number = (timed (with_steps 1 old)).taken;
+      place = place;
+      trap = trap_in (with_steps 1 old) d;
+      changed = changes before (registers_of (board (with_steps 1 old)));
+    }) took.2 ∙ value_of old place before at from)) in
+    ap (λ (x : Step). Some x) value ∙ sym (rw took.0 refl)
+
+pub took_one : (old inside : LabState) (q : RecordingState) (r : Option Outcome) (o : Outcome) → inside ≡ old
+    → r ≡ Some o → TakesStep inside.recording.session q.session (Ok r)
+    → q ≡ record inside.recording { session = q.session } → (v : Step) (place : Place) (before : List ℕ)
+    → place ≡ place_of old (board old).machine.pc → before ≡ registers_of (board old)
+    → v ≡ record {
+      number = q.session.timed.taken;
+      place = place;
+      trap = trap_in (record inside { recording = q }) o;
+      changed = changes before (registers_of q.session.timed.board);
+    } → Some v ≡ next_step old
+took_one old inside q r o same did took others v place before at from is =
+    took_here old q o
+    (subst (λ (l : LabState). TakesStep l.recording.session q.session (Ok (Some o))) same
+    (subst (λ (d : Option Outcome). TakesStep inside.recording.session q.session (Ok d)) did took))
+    (others ∙ ap (λ (l : LabState). record l.recording { session = q.session }) same) v place before at from
+    (is ∙ ap (λ (l : LabState). record {
+      number = q.session.timed.taken;
+      place = place;
+      trap = trap_in (record l { recording = q }) o;
+      changed = changes before (registers_of q.session.timed.board);
+    }) same)
+
+-- a step that was taken is on the way to itself
+took_on_way : (old new : RecordingState) (o : Outcome) → TakesStep old.session new.session (Ok (Some o))
+    → new ≡ record old { session = new.session } → IsOnWay old new (stepped old)
+took_on_way old new o took others =
+    let now : new ≡ with_timed old (after old.session.timed 1) =
+    others ∙ ap (λ (s : SessionState). record old { session = s }) took.1 in
+    let all : stepped old ≡ with_timed old (after old.session.timed 1) = rw took.0 refl in
+    subst (λ (d : RecordingState). IsOnWay old new d) (sym all)
+    (subst (λ (n : RecordingState). IsOnWay old n (with_timed old (after old.session.timed 1))) (sym now)
+    (to_steps old.session.timed 1, nowhere, refl))
+
+pub took_wholly : (inside old new : RecordingState) (r : Option Outcome) (o : Outcome) → inside ≡ old → r ≡ Some o
+    → TakesStep inside.session new.session (Ok r) → new ≡ record inside { session = new.session }
+    → IsOnWay old new (stepped old)
+took_wholly inside old new r o same did took others =
+    subst (λ (d : RecordingState). IsOnWay d new (stepped d)) same
+    (took_on_way inside new o (subst (λ (d : Option Outcome). TakesStep inside.session new.session (Ok d)) did took) others)
+
+-- a step that was taken leaves a lab on the way to itself
+pub wholly : (old new : LabState) → new ≡ record old { recording = stepped old.recording }
+    → IsOnWay old.recording new.recording (stepped old.recording)
+wholly old new e =
+    let now : new.recording ≡ stepped old.recording = ap (λ (l : LabState). l.recording) e in
+    subst (λ (r : RecordingState). IsOnWay old.recording r (stepped old.recording)) (sym now)
+    (by_may (may_step old.recording.session))
+  where
+    by_may : (b : Bool) → IsOnWay old.recording
+        (if b then with_timed old.recording (after (timed old) 1) else old.recording)
+        (if b then with_timed old.recording (after (timed old) 1) else old.recording)
+    by_may true = (to_steps (timed old) 1, nowhere, refl)
+    by_may false = (nowhere, nowhere, refl)
+
+-- ---- a trace
+
+may_by : (b : Bool) (v w : Step) → Some v ≡ (if b then Some w else None) → (b ≡ true) × (v ≡ w)
+may_by true v w e = (refl, cc)
+may_by false v w e = absurd cc
+
+may_not : (b : Bool) (w : Step) → None ≡ (if b then Some w else None) → b ≡ false
+may_not true w e = absurd cc
+may_not false w e = refl
+
+pub no_steps : (n : ℕ) (l : LabState) (xs : List Step) → n ≡ 0 → xs ≡ xs ++ next_steps n l
+unfolding next_steps
+no_steps n l xs e = rw e (sym (append-nil xs))
+
+pub last_steps : (n : ℕ) (l : LabState) (xs : List Step) → None ≡ next_step l → xs ≡ xs ++ next_steps n l
+unfolding next_steps
+last_steps zero l xs e = sym (append-nil xs)
+last_steps (suc n) l xs e =
+    let over : may_step l.recording.session ≡ false = may_not _ (step_value l) e in rw over (sym (append-nil xs))
+
+pub trace_ends : (n : ℕ) (old new : LabState) → 0 < n → new ≡ record old { recording = stepped old.recording }
+    → None ≡ next_step old → Traced n old new
+trace_ends n old new h e none =
+    let over : may_step old.recording.session ≡ false = may_not _ (step_value old) none in
+    let same : new.recording ≡ old.recording = ap (λ (l : LabState). l.recording) e ∙ rw over refl in
+    traced_last n old new h e (ap (λ (r : RecordingState). may_step r.session) same ∙ over)
+
+pub more_steps : {A E : Type 0} (r : Result A E) (n : ℕ) (old mid : LabState) (v : Step) (xs ys zs : List Step) → 0 < n
+    → mid ≡ record old { recording = stepped old.recording } → Some v ≡ next_step old → ys ≡ xs ++ v ∷ []
+    → OnOk r (zs ≡ ys ++ next_steps (n - 1) mid) → OnOk r (zs ≡ xs ++ next_steps n old)
+unfolding next_steps
+more_steps (Err why) n old mid v xs ys zs h e some g f = tt
+more_steps (Ok x) zero old mid v xs ys zs h e some g f = absurd (omega (arith, h))
+more_steps (Ok x) (suc n) old mid v xs ys zs h e some g f =
+    let may = may_by (may_step old.recording.session) v (step_value old) some in
+    let first : stepped old.recording ≡ with_timed old.recording (after (timed old) 1) = rw may.0 refl in
+    let at : mid ≡ with_steps 1 old = e ∙ ap (λ (q : RecordingState). record old { recording = q }) first in
+    let less : suc n - 1 ≡ n = omega arith in
+    f ∙ (ap (λ us. us ++ next_steps (suc n - 1) mid) g
+    ∙ (append_assoc xs (v ∷ []) (next_steps (suc n - 1) mid)
+    ∙ ap (λ us. xs ++ us) (ap (λ k. v ∷ next_steps k mid) less
+    ∙ (ap (λ (l : LabState). v ∷ next_steps n l) at
+    ∙ (ap (λ (w : Step). w ∷ next_steps n (with_steps 1 old)) may.1 ∙ sym (rw may.0 refl))))))
+
+pub traced : (n : ℕ) (old mid new : LabState) (steps : List Step) (en : Ending) (st : Standing) → mid ≡ begun old
+    → steps ≡ [] ++ next_steps n mid → en ≡ trace_ending new → st ≡ standing new
+    → answers.Traced (record { steps = steps; ending = en; standing = st }) ≡ trace_answer n old new
+unfolding trace_answer
+traced n old mid new steps en st e is ends stands =
+    ap (λ (x : Standing). answers.Traced (record { steps = steps; ending = en; standing = x })) stands
+    ∙ (ap (λ (x : Ending). answers.Traced (record { steps = steps; ending = x; standing = standing new })) ends
+    ∙ ap (λ (vs : List Step). answers.Traced (record { steps = vs; ending = trace_ending new; standing = standing new }))
+    (is ∙ (ap (next_steps n) e ∙ same_steps n old _ _ _ old.count old.plan)))
+
+-- ---- `s`
+
+pub one_step : (n : ℕ) (old counted mid new : LabState) (a : Answer) → n ≡ 1 → counted ≡ record old { count = n }
+    → mid ≡ record counted { plan = None } → a ≡ step_answer mid new → a ≡ steps_answer n old new
+unfolding steps_answer
+one_step n old counted mid new a one is at h =
+    let same : next_step mid ≡ next_step old =
+    ap next_step (at ∙ ap (λ (l : LabState). record l { plan = None }) is)
+    ∙ same_step old old.registers old.before old.told n None in
+    h ∙ (step_said (next_step mid) (next_step old) (standing new) same ∙ sym (rw one refl))
+
+pub some_steps : {E : Type 0} (r : Result Done E) (n : ℕ) (old mid new : LabState) → (n == 1) ≡ false
+    → mid ≡ record old { count = n } → IfOk r (λ d. d.answer ≡ begins_answer goal.Count n mid new)
+    → IfOk r (λ d. d.answer ≡ steps_answer n old new)
+unfolding steps_answer run_answer
+some_steps (Err why) n old mid new many is h = tt
+some_steps (Ok d) n old mid new many is h =
+    h ∙ (ap (λ (l : LabState). begins_answer goal.Count n l new) is ∙ sym (rw many refl))
+
+-- ---- an order
+
+pub started : {E : Type 0} (r : Result Done E) (p : Plan) (old mid new : LabState) → mid ≡ begun old
+    → IfOk r (λ d. d.answer ≡ run_answer p mid new) → IfOk r (λ d. d.answer ≡ run_answer p (begun old) new)
+started r p old mid new e h = subst (λ (l : LabState). IfOk r (λ (d : Done). d.answer ≡ run_answer p l new)) e h
+
+pub monitor_ran : {E : Type 0} (r : Result Done E) (line : List ℕ) (p : Plan) (old new : LabState)
+    → Some p ≡ monitored_run line old.recording.session → IfOk r (λ d. d.answer ≡ run_answer p (begun old) new)
+    → IfOk r (λ d. d.answer ≡ monitor_answer line old new)
+unfolding monitor_answer
+monitor_ran (Err why) line p old new e h = tt
+monitor_ran (Ok d) line p old new e h = h ∙ sym (rw (sym e) refl)
+
+pub monitor_looked : {E : Type 0} (r : Result Done E) (line : List ℕ) (old new : LabState)
+    → None ≡ monitored_run line old.recording.session
+    → IfOk r (λ d. d.answer ≡ answers.Monitor (monitor.answer (command_in line old.recording.session)
+    old.recording.session new.recording.session))
+    → IfOk r (λ d. d.answer ≡ monitor_answer line old new)
+unfolding monitor_answer
+monitor_looked (Err why) line old new e h = tt
+monitor_looked (Ok d) line old new e h = h ∙ sym (rw (sym e) refl)
+
+-- what was answered to what the order has
+pub give_said : {E : Type 0} (r : Result Done E) (order : Order) (inputs those : List Input) (old new : LabState)
+    → order ≡ orders.Give inputs → those ≡ inputs → IfOk r (λ d. d.answer ≡ given_answer (length those) new)
+    → IfOk r (λ d. d.answer ≡ answer_by order old new)
+give_said r order inputs those old new e same h =
+    subst (λ (o : Order). IfOk r (λ (d : Done). d.answer ≡ answer_by o old new)) (sym e)
+    (subst (λ (is : List Input). IfOk r (λ (d : Done). d.answer ≡ given_answer (length is) new)) same h)
+
+pub monitor_said : {E : Type 0} (r : Result Done E) (order : Order) (line this : List ℕ) (old new : LabState)
+    → order ≡ orders.Monitor line → this ≡ line → IfOk r (λ d. d.answer ≡ monitor_answer this old new)
+    → IfOk r (λ d. d.answer ≡ answer_by order old new)
+monitor_said r order line this old new e same h =
+    subst (λ (o : Order). IfOk r (λ (d : Done). d.answer ≡ answer_by o old new)) (sym e)
+    (subst (λ (text : List ℕ). IfOk r (λ (d : Done). d.answer ≡ monitor_answer text old new)) same h)
+
+pub monitor_goes_on : {E : Type 0} (r : Result Done E) (order : Order) (line this : List ℕ) (s : SessionState)
+    (new : LabState) → order ≡ orders.Monitor line → this ≡ line
+    → IfOk r (λ d. d.next ≡ monitor_next (command_in this s) new) → IfOk r (λ d. d.next ≡ follows order s new)
+monitor_goes_on r order line this s new e same h =
+    subst (λ (o : Order). IfOk r (λ (d : Done). d.next ≡ follows o s new)) (sym e)
+    (subst (λ (text : List ℕ). IfOk r (λ (d : Done). d.next ≡ monitor_next (command_in text s) new)) same h)
+
+-- ---- a run that is over
+
+pub over_said : (is_monitored : Bool) (g : Goal) (end : End) (l : LabState) (en : Ending) (a : Aim) (n : ℕ)
+    (before now : List ℕ) (changed : List RegisterValue) (st : Standing) → is_monitored ≡ false → en ≡ ending_of end
+    → a ≡ aim_of l g → n ≡ (timed l).taken - l.before → before ≡ l.registers → now ≡ registers_of (board l)
+    → changed ≡ changes before now → st ≡ standing l
+    → answers.Ended (record { ending = en; aim = a; steps = n; changed = changed; standing = st })
+    ≡ over_answer is_monitored g end l
+unfolding over_answer
+over_said is_monitored g end l en a n before now changed st m ends aims took was is c stands =
+    ap (λ (x : Ending). answers.Ended (record { ending = x; aim = a; steps = n; changed = changed; standing = st })) ends
+    ∙ (ap (λ (x : Aim). answers.Ended (record { ending = ending_of end; aim = x; steps = n; changed = changed; standing = st })) aims
+    ∙ (ap (λ (x : ℕ). answers.Ended (record { ending = ending_of end; aim = aim_of l g; steps = x; changed = changed; standing = st })) took
+    ∙ (ap (λ (x : List RegisterValue). answers.Ended (record { ending = ending_of end; aim = aim_of l g; steps = (timed l).taken - l.before; changed = x; standing = st }))
+    (c ∙ (ap (λ (xs : List ℕ). changes xs now) was ∙ ap (changes l.registers) is))
+    ∙ (ap (λ (x : Standing). answers.Ended (record { ending = ending_of end; aim = aim_of l g; steps = (timed l).taken - l.before; changed = changes l.registers (registers_of (board l)); standing = x })) stands
+    ∙ sym (rw m refl)))))

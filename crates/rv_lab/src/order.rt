@@ -1,0 +1,329 @@
+//! What a command line asks for, its operands read.
+ghost use Rattle.std.specs.Prelude.{◌≡◌, [], IfOk};
+ghost use Rattle.rv_base.specs.Words.{words};
+ghost use Rattle.rv_answers.specs.declared.command.Command.TheVariants as command;
+ghost use Rattle.rv_answers.specs.declared.command.Move.TheVariants as moves;
+ghost use Rattle.rv_lab.specs.Answers.{refused};
+ghost use Rattle.rv_lab.specs.Orders.{again_order, command_order, help_order, list_order, list_round, no_break, run_order, save_order};
+ghost use Rattle.rv_lab.specs.declared.order.Order.TheVariants as orders;
+
+use crate::command::CommandLine;
+use crate::lab::Lab;
+use crate::operands::count_or;
+use crate::places::line_at;
+use crate::plan::{Goal, Plan};
+use crate::run::{MOST_STEPS, MOST_TRACED, USUAL_STEPS, USUAL_TRACED};
+use crate::source::{Excerpt, MOST_LINES, USUAL_LINES};
+use rv_answers::{Answer, Command, Many, Move, Why, command_named, push};
+use rv_base::{NoMemory, first_word, has_word};
+use rv_operands::{line_number, only_word, read_bytes_inputs};
+use rv_recording::LAST_STEP;
+use rv_timeline::{Input, line_input};
+
+/// What a command line asks for.
+#[derive(Drop)]
+pub(crate) enum Order {
+    /// To take some steps.
+    Steps(u64),
+    /// To begin a run.
+    Run(Plan),
+    /// To take some steps, and tell what each did.
+    Trace(u64),
+    /// To go back by some steps.
+    Back(u64),
+    /// To list lines of the source, and whether they follow those that were listed last.
+    List(Excerpt, bool),
+    /// To make an address a breakpoint.
+    Break(u32),
+    /// To remove a breakpoint.
+    Clear(u32),
+    /// To give the board inputs before its next step.
+    Give(Many<Input>),
+    /// To do what a line asks the monitor for.
+    Monitor(Many<u8>),
+    /// To save what was done, under a name or as an answer.
+    Save(Option<Many<u8>>),
+    /// To explain a trap.
+    Explain,
+    /// To end the lab.
+    Quit,
+    /// Nothing but this answer.
+    Answered(Answer),
+}
+
+/// Returns the order for a run of the lab.
+fn run_order(goal: Goal, most: u64) -> Order
+    ensures { result ≡ run_order goal most }
+{
+    Order::Run(Plan {
+        goal,
+        left: most,
+        is_monitored: false,
+    })
+}
+
+impl Lab {
+    /// Returns a copy of some bytes.
+    fn copied(&self, bytes: &[u8]) -> Result<Many<u8>, NoMemory>
+        ensures { IfOk result (λ m. m ≡ bytes.now) }
+    {
+        Ok(Many::of(Vec::from_slice(self.alloc, bytes)?))
+    }
+
+    /// Refuses operands.
+    fn refuse(&self, command: Command, text: &[u8], why: Why) -> Result<Order, NoMemory>
+        ensures { IfOk result (λ o. o ≡ orders.Answered (refused command text.now why)) }
+    {
+        Ok(Order::Answered(self.refused(command, text, why)?))
+    }
+
+    /// Reads the operands of `s`.
+    #[tactic(auto, unfolding(crate::specs::Orders::command_order))]
+    fn step_order(&self, operands: &[u8]) -> Result<Order, NoMemory>
+        ensures { IfOk result (λ o. o ≡ command_order command.Step [] operands.now self.now) }
+    {
+        match count_or(operands, 1, MOST_STEPS) {
+            Some(count) => Ok(Order::Steps(count)),
+            None => self.refuse(Command::Step, operands, Why::NoSteps),
+        }
+    }
+
+    /// Reads the operands of `c`.
+    #[tactic(auto, unfolding(crate::specs::Orders::command_order))]
+    fn go_order(&self, operands: &[u8]) -> Result<Order, NoMemory>
+        ensures { IfOk result (λ o. o ≡ command_order (command.Moves moves.Go) [] operands.now self.now) }
+    {
+        match count_or(operands, USUAL_STEPS, MOST_STEPS) {
+            Some(most) => Ok(run_order(Goal::Break, most)),
+            None => self.refuse(Command::Moves(Move::Go), operands, Why::NoSteps),
+        }
+    }
+
+    /// Reads the operands of `until`.
+    #[tactic(auto, unfolding(crate::specs::Orders::command_order))]
+    fn until_order(&self, operands: &[u8]) -> Result<Order, NoMemory>
+        ensures { IfOk result (λ o. o ≡ command_order (command.Moves moves.Until) [] operands.now self.now) }
+    {
+        match self.scope().condition(operands) {
+            Some(condition) => Ok(run_order(Goal::Until(condition), USUAL_STEPS)),
+            None => self.refuse(Command::Moves(Move::Until), operands, Why::NoCondition),
+        }
+    }
+
+    /// Reads the operands of `trace`.
+    #[tactic(auto, unfolding(crate::specs::Orders::command_order))]
+    fn trace_order(&self, operands: &[u8]) -> Result<Order, NoMemory>
+        ensures { IfOk result (λ o. o ≡ command_order (command.Moves moves.Trace) [] operands.now self.now) }
+    {
+        match count_or(operands, USUAL_TRACED, MOST_TRACED) {
+            Some(count) => Ok(Order::Trace(count)),
+            None => self.refuse(Command::Moves(Move::Trace), operands, Why::NoSteps),
+        }
+    }
+
+    /// Reads the operands of `u`.
+    #[tactic(auto, unfolding(crate::specs::Orders::command_order))]
+    fn back_order(&self, operands: &[u8]) -> Result<Order, NoMemory>
+        ensures { IfOk result (λ o. o ≡ command_order (command.Moves moves.Back) [] operands.now self.now) }
+    {
+        let usual = self.recording.steps().saturating_sub(self.last.steps);
+        match count_or(operands, usual, LAST_STEP) {
+            Some(count) => Ok(Order::Back(count)),
+            None => self.refuse(Command::Moves(Move::Back), operands, Why::NoSteps),
+        }
+    }
+
+    /// Reads the operands of a command that moves the board.
+    #[tactic(auto, unfolding(crate::specs::Orders::command_order))]
+    fn move_order(&self, moves: Move, operands: &[u8]) -> Result<Order, NoMemory>
+        ensures { IfOk result (λ o. o ≡ command_order (command.Moves moves) [] operands.now self.now) }
+    {
+        match moves {
+            Move::Go => self.go_order(operands),
+            Move::Finish => Ok(run_order(Goal::Out(1), USUAL_STEPS)),
+            Move::Until => self.until_order(operands),
+            Move::Trace => self.trace_order(operands),
+            Move::Back => self.back_order(operands),
+        }
+    }
+
+    /// Reads how many lines round one are listed.
+    fn list_round(&self, rest: &[u8], line: usize) -> Result<Order, NoMemory>
+        ensures { IfOk result (λ o. o ≡ list_round (words rest.now) line) }
+    {
+        match count_or(rest, USUAL_LINES, MOST_LINES) {
+            Some(count) => Ok(Order::List(Excerpt::round(line, count), false)),
+            None => self.refuse(Command::List, b"", Why::NoCount),
+        }
+    }
+
+    /// Reads the operands of `l`.
+    #[tactic(auto, unfolding(crate::specs::Orders::list_order))]
+    fn list_order(&self, operands: &[u8]) -> Result<Order, NoMemory>
+        ensures { IfOk result (λ o. o ≡ list_order (words operands.now) self.now) }
+    {
+        let Some((word, rest)) = first_word(operands) else {
+            let here = line_at(self.listing(), self.board().pc());
+            return self.list_round(operands, here.unwrap_or(1));
+        };
+        if let Some(line) = line_number(word) {
+            return self.list_round(rest, line as usize);
+        }
+        let Some(address) = self.scope().address(word) else {
+            return self.refuse(Command::List, word, Why::NoAddress);
+        };
+        match line_at(self.listing(), address) {
+            Some(line) => self.list_round(rest, line),
+            None => self.refuse(Command::List, b"", Why::NoLine(address)),
+        }
+    }
+
+    /// Refuses operands that are no address of a breakpoint.
+    fn refuse_break(&self, command: Command, operands: &[u8]) -> Result<Order, NoMemory>
+        ensures { IfOk result (λ o. o ≡ orders.Answered (no_break command (words operands.now))) }
+    {
+        match only_word(operands) {
+            None => self.refuse(command, b"", Why::NotOne),
+            Some(word) if line_number(word).is_some() => {
+                self.refuse(command, word, Why::NoBytesThere)
+            }
+            Some(word) => self.refuse(command, word, Why::NoAddress),
+        }
+    }
+
+    /// Reads the operands of `b`.
+    #[tactic(auto, unfolding(crate::specs::Orders::command_order))]
+    fn break_order(&self, operands: &[u8]) -> Result<Order, NoMemory>
+        ensures { IfOk result (λ o. o ≡ command_order command.Break [] operands.now self.now) }
+    {
+        if !has_word(operands) {
+            return Ok(Order::Answered(Answer::Breakpoints(self.breakpoints()?)));
+        }
+        match self.scope().break_address(operands) {
+            Some(address) => Ok(Order::Break(address)),
+            None => self.refuse_break(Command::Break, operands),
+        }
+    }
+
+    /// Reads the operands of `d`.
+    #[tactic(auto, unfolding(crate::specs::Orders::command_order))]
+    fn clear_order(&self, operands: &[u8]) -> Result<Order, NoMemory>
+        ensures { IfOk result (λ o. o ≡ command_order command.Clear [] operands.now self.now) }
+    {
+        match self.scope().break_address(operands) {
+            Some(address) => Ok(Order::Clear(address)),
+            None => self.refuse_break(Command::Clear, operands),
+        }
+    }
+
+    /// Reads the operands of `rx`.
+    #[tactic(auto, unfolding(crate::specs::Orders::command_order))]
+    fn receive_order(&self, operands: &[u8]) -> Result<Order, NoMemory>
+        ensures { IfOk result (λ o. o ≡ command_order command.Receive [] operands.now self.now) }
+    {
+        let inputs = read_bytes_inputs(self.alloc, operands)?.unwrap_or(Vec::new(self.alloc));
+        if inputs.is_empty() {
+            return self.refuse(Command::Receive, operands, Why::NoBytes);
+        }
+        Ok(Order::Give(Many::of(inputs)))
+    }
+
+    /// Reads the operands of `line`.
+    #[tactic(auto, unfolding(crate::specs::Orders::command_order))]
+    fn line_order(&self, operands: &[u8]) -> Result<Order, NoMemory>
+        ensures { IfOk result (λ o. o ≡ command_order command.Line [] operands.now self.now) }
+    {
+        let Some(input) = line_input(operands) else {
+            return self.refuse(Command::Line, operands, Why::NoLevel);
+        };
+        let mut inputs = Vec::new(self.alloc);
+        push(&mut inputs, input)?;
+        Ok(Order::Give(Many::of(inputs)))
+    }
+
+    /// Reads the operands of `save`.
+    #[tactic(auto, unfolding(crate::specs::Orders::save_order))]
+    fn save_order(&self, operands: &[u8]) -> Result<Order, NoMemory>
+        ensures { IfOk result (λ o. o ≡ save_order operands.now (words operands.now)) }
+    {
+        if !has_word(operands) {
+            return Ok(Order::Save(None));
+        }
+        match only_word(operands) {
+            Some(name) => Ok(Order::Save(Some(self.copied(name)?))),
+            None => self.refuse(Command::Save, operands, Why::NotOne),
+        }
+    }
+
+    /// Reads the operands of `help`.
+    #[tactic(auto, unfolding(crate::specs::Orders::help_order))]
+    fn help_order(&self, operands: &[u8]) -> Result<Order, NoMemory>
+        ensures { IfOk result (λ o. o ≡ help_order operands.now (words operands.now)) }
+    {
+        if !has_word(operands) {
+            return Ok(Order::Answered(Answer::Help(None)));
+        }
+        let Some(name) = only_word(operands) else {
+            return self.refuse(Command::Help, operands, Why::NoCommand);
+        };
+        match command_named(name) {
+            Some(command) => Ok(Order::Answered(Answer::Help(Some(command)))),
+            None => self.refuse(Command::Help, operands, Why::NoCommand),
+        }
+    }
+
+    /// Reads a line of the monitor.
+    #[tactic(auto, unfolding(crate::specs::Orders::command_order))]
+    fn monitor_order(&self, line: &[u8]) -> Result<Order, NoMemory>
+        ensures { IfOk result (λ o. o ≡ command_order command.Monitor [] line.now self.now) }
+    {
+        Ok(Order::Monitor(self.copied(line)?))
+    }
+
+    /// Returns what an empty line asks for.
+    fn again_order(&self) -> Order
+        ensures { result ≡ again_order self.now.again self.now }
+    {
+        match self.last.command {
+            Command::Step => Order::Steps(self.last.count),
+            Command::StepOnce => Order::Steps(1),
+            Command::Over => run_order(Goal::Out(0), USUAL_STEPS),
+            Command::List => {
+                let after = self.last.listed;
+                let count = USUAL_LINES as usize;
+                Order::List(Excerpt { after, count }, true)
+            }
+            _ => Order::Answered(Answer::Nothing),
+        }
+    }
+
+    /// Returns what a line asks for.
+    ///
+    /// # Errors
+    ///
+    /// `NoMemory` if memory runs out.
+    #[tactic(auto, unfolding(crate::specs::Orders::command_order))]
+    pub(crate) fn read_order(&self, line: CommandLine<'_>) -> Result<Order, NoMemory>
+        ensures { IfOk result (λ o. o ≡ command_order line.entry.command line.entry.word.now line.entry.operands.now self.now) }
+    {
+        match line.command {
+            Command::Step => self.step_order(line.operands),
+            Command::Over => Ok(run_order(Goal::Out(0), USUAL_STEPS)),
+            Command::Moves(moves) => self.move_order(moves, line.operands),
+            Command::List => self.list_order(line.operands),
+            Command::Break => self.break_order(line.operands),
+            Command::Clear => self.clear_order(line.operands),
+            Command::Receive => self.receive_order(line.operands),
+            Command::Line => self.line_order(line.operands),
+            Command::Save => self.save_order(line.operands),
+            Command::Monitor => self.monitor_order(line.operands),
+            Command::Why => Ok(Order::Explain),
+            Command::Help => self.help_order(line.operands),
+            Command::Quit => Ok(Order::Quit),
+            Command::Again => Ok(self.again_order()),
+            Command::Unknown => Ok(Order::Answered(Answer::NoCommand(self.copied(line.word)?))),
+            Command::TooLong => Ok(Order::Answered(Answer::TooLong)),
+            command => Ok(Order::Answered(self.look_answer(command, line.operands)?)),
+        }
+    }
+}

@@ -1,0 +1,184 @@
+//! Single steps and traces.
+ghost use Rattle.std.specs.Prelude.{◌≡◌, ◌++◌, ◌∷◌, [], None, IfOk, OnErr, OnOk};
+ghost use Rattle.rv_lab.specs.Commands.{Traces, begun, with_console};
+ghost use Rattle.rv_lab.specs.Refusals.{StopsShort};
+ghost use Rattle.rv_lab.specs.Runs as spec;
+ghost use Rattle.rv_lab.specs.Runs.{next_step, next_steps, step_answer, trace_answer};
+ghost use Rattle.rv_lab.specs.declared.lab.Next.TheVariants as after;
+ghost use Rattle.rv_lab.specs.State.{board, registers_of, setup, timed};
+ghost use Rattle.rv_lab.specs.Support.Short.{IsOnWay, Traced, stepped};
+
+use crate::lab::{Done, Lab};
+use crate::registers::registers_of;
+use rv_answers::{
+    Answer, Ending, Many, Place, RegisterValue, Registers, Step, Stepped, Trace, Trap, push,
+};
+use rv_base::NoMemory;
+use rv_board::TrapRecord;
+use rv_hart::Outcome;
+use rv_isa::Reg;
+use std::alloc::Global;
+
+/// Returns the registers whose values differ, with their values now.
+#[tactic(auto, using(crate::proofs::Changed::none_yet, crate::proofs::Changed::next_changed, crate::proofs::Changed::next_same, crate::proofs::Changed::all_changed))]
+pub(crate) fn changes(
+    alloc: Global,
+    before: &Registers,
+    now: &Registers,
+) -> Result<Many<RegisterValue>, NoMemory>
+    ensures { IfOk result (λ c. c ≡ spec.changes before.now now.now) }
+{
+    let mut changed = Vec::new(alloc);
+    for number in 0..32u8 {
+        let value = now[number as usize];
+        if value != before[number as usize] {
+            let register = Reg::of(number);
+            push(&mut changed, RegisterValue { register, value })?;
+        }
+    }
+    Ok(Many::of(changed))
+}
+
+/// Appends a step.
+fn push_step(steps: &mut Vec<Step>, step: Step) -> Result<(), NoMemory>
+    ensures { OnOk result (steps.new.items ≡ steps.old.items ++ step ∷ []) }
+{
+    match steps.push(step) {
+        Ok(()) => Ok(()),
+        Err(_) => Err(NoMemory),
+    }
+}
+
+impl Lab {
+    /// Returns the trap of a step that did that, if it took one.
+    #[tactic(auto, unfolding(crate::specs::Runs::trap_in))]
+    fn trap_in(&self, outcome: Outcome) -> Option<Trap>
+        ensures { result ≡ spec.trap_in self.now outcome }
+    {
+        match outcome {
+            Outcome::Trapped { cause, epc, tval } => {
+                let trap = TrapRecord { cause, epc, tval };
+                Some(self.trap_of(trap, 1))
+            }
+            _ => None,
+        }
+    }
+
+    /// Returns what a step did that began at a place, with some registers.
+    fn step_value(
+        &self,
+        place: Place,
+        before: &Registers,
+        outcome: Outcome,
+    ) -> Result<Step, NoMemory>
+        ensures { IfOk result (λ s. s ≡ record {
+          number = (timed self.now).taken;
+          place = place;
+          trap = spec.trap_in self.now outcome;
+          changed = spec.changes before.now (registers_of (board self.now));
+        }) }
+    {
+        let changed = changes(self.alloc, before, &registers_of(self.board()))?;
+        Ok(Step {
+            number: self.steps(),
+            place,
+            trap: self.trap_in(outcome),
+            changed,
+        })
+    }
+
+    /// Takes a step, and returns what it did, if there is one to be taken.
+    fn take_step(&mut self) -> Result<Option<Step>, NoMemory>
+        ensures setup { setup self.new ≡ setup self.old }
+        ensures step { OnOk result (self.new ≡ record self.old { recording = stepped self.old.recording }) }
+        ensures value { IfOk result (λ s. s ≡ next_step self.old) }
+        ensures err { OnErr result
+            (IsOnWay self.old.recording self.new.recording (stepped self.old.recording)) }
+        ensures others { self.new ≡ record self.old { recording = self.new.recording } }
+    {
+        // It tells that the steps of the inputs never fall.
+        let _inputs = self.recording.inputs();
+        let before = registers_of(self.board());
+        let place = self.place_of(self.board().pc());
+        let Some(outcome) = self.recording.take_step()? else {
+            return Ok(None);
+        };
+        Ok(Some(self.step_value(place, &before, outcome)?))
+    }
+
+    /// Takes a single step, and answers what it did.
+    #[tactic(auto, using(crate::proofs::Told::did_step, crate::proofs::Told::no_step))]
+    pub(crate) fn step_once(&mut self) -> Result<Answer, NoMemory>
+        ensures setup { setup self.new ≡ setup self.old }
+        ensures step { OnOk result
+            (self.new ≡ with_console (record (begun self.old) { recording = stepped self.old.recording })) }
+        ensures answers { IfOk result (λ a. a ≡ step_answer self.old self.new) }
+        ensures err { OnErr result
+            (IsOnWay self.old.recording self.new.recording (stepped self.old.recording)) }
+        ensures others { OnErr result (self.new ≡ record (begun self.old) { recording = self.new.recording }) }
+    {
+        self.begin();
+        let step = self.take_step()?;
+        self.tell_console();
+        let standing = self.standing();
+        match step {
+            Some(step) => Ok(Answer::Stepped(Stepped { step, standing })),
+            None => Ok(Answer::Stuck(standing)),
+        }
+    }
+
+    /// Takes steps, at most `count`, and appends what each did.
+    #[tactic(auto, using(crate::proofs::Runs::traced_none, crate::proofs::Told::trace_ends, crate::proofs::Told::no_steps, crate::proofs::Told::last_steps))]
+    fn trace_steps(&mut self, count: u64, steps: &mut Vec<Step>) -> Result<(), NoMemory>
+        requires { self.old.plan ≡ None }
+        ensures setup { setup self.new ≡ setup self.old }
+        ensures traced { OnOk result (Traced count self.old self.new) }
+        ensures steps { OnOk result (steps.new.items ≡ steps.old.items ++ next_steps count self.old) }
+        ensures err { OnErr result (StopsShort (Traced count) self.old self.new) }
+    {
+        if count == 0 {
+            return Ok(());
+        }
+        let Some(step) = self.take_step()? else {
+            return Ok(());
+        };
+        push_step(steps, step)?;
+        self.trace_steps(count - 1, steps)
+    }
+
+    /// Returns why there are no more steps of a trace.
+    fn trace_ending(&self) -> Ending
+        ensures { result ≡ spec.trace_ending self.now }
+    {
+        if self.board().halted().is_some() {
+            Ending::Halted
+        } else if self.steps() < self.recording.session().limit() {
+            Ending::Limit
+        } else {
+            Ending::Stuck
+        }
+    }
+
+    /// Takes some steps, and answers what each did.
+    pub(crate) fn trace(&mut self, count: u64) -> Result<Done, NoMemory>
+        requires { self.old.plan ≡ None }
+        ensures setup { setup self.new ≡ setup self.old }
+        ensures leaves { OnOk result (Traces count self.old self.new) }
+        ensures next { IfOk result (λ d. d.next ≡ after.More) }
+        ensures answers { IfOk result (λ d. d.answer ≡ trace_answer count self.old self.new) }
+        ensures err { OnErr result (StopsShort (Traces count) self.old self.new) }
+    {
+        // It tells that the board is the run of the recorded events.
+        let _board = self.board();
+        self.begin();
+        let mut steps = Vec::new(self.alloc);
+        self.trace_steps(count, &mut steps)?;
+        self.tell_console();
+        let trace = Trace {
+            steps: Many::of(steps),
+            ending: self.trace_ending(),
+            standing: self.standing(),
+        };
+        Ok(Done::more(Answer::Traced(trace)))
+    }
+}
