@@ -1,12 +1,9 @@
 //! The talk with a program: each command line gets a line of JSON (docs/JSON.md).
-use crate::save::save;
+use crate::save::saved;
 use crate::talk::{TalkFault, print, read_line, tell_progress};
-use rv_answers::{Many, Printer};
 use rv_base::NoMemory;
-use rv_diagnosis::{Diagnosis, Explanation, diagnose, explain};
-use rv_json::{Fault, faults_json, reply_json};
-use rv_lab::{Answer, Lab, Next, Reply};
-use std::alloc::Global;
+use rv_json::reply_json;
+use rv_lab::{Lab, Next, Reply};
 use std::io::StdinLock;
 
 /// The line for a command for which memory ran out.
@@ -22,51 +19,35 @@ fn word_of(next: Next) -> &'static str {
     }
 }
 
-/// Goes on with a run to its end, and returns the text of all that was answered.
-fn finish_run(rt: &HostRuntime, lab: &mut Lab, first: &Answer) -> Result<Reply, NoMemory> {
-    let mut text = Printer::new(rt.alloc());
-    lab.append_answer(first, &mut text);
-    let mut next = Next::Running;
+/// Goes on with a run to its end, and returns its reply, with all that the console got.
+fn finish_run(rt: &HostRuntime, lab: &mut Lab, first: Reply) -> Result<Reply, NoMemory> {
+    let from = first.from;
+    let mut last = first;
     for _ in 0..u64::MAX {
-        if !matches!(next, Next::Running) {
+        if !matches!(last.next, Next::Running) {
             break;
         }
         let before = lab.steps();
-        next = lab.go_on(&mut text)?;
+        last = lab.go_on()?;
         tell_progress(rt, lab, before);
     }
-    let answer = Answer::Text(text.whole()?);
-    Ok(Reply { next, answer })
+    last.from = from;
+    Ok(last)
 }
 
-/// Saves what was done under the name that a command line has, and returns what is said of it.
-fn saved(rt: &HostRuntime, lab: &Lab, line: &[u8], first: &Answer) -> Result<Reply, NoMemory> {
-    let mut text = Printer::new(rt.alloc());
-    lab.append_answer(first, &mut text);
-    save(rt, lab, line, &mut text);
-    let answer = Answer::Text(text.whole()?);
-    let next = Next::Save;
-    Ok(Reply { next, answer })
-}
-
-/// Executes a command to its end, and returns its answer.
+/// Executes a command to its end, and returns its reply.
 fn whole_reply(rt: &HostRuntime, lab: &mut Lab, line: &[u8]) -> Result<Reply, NoMemory> {
-    let reply = lab.answer(line)?;
-    match reply.next {
-        Next::Running => finish_run(rt, lab, &reply.answer),
-        Next::Save => saved(rt, lab, line, &reply.answer),
-        Next::More | Next::Quit => Ok(reply),
-    }
+    let first = lab.answer(line)?;
+    let reply = finish_run(rt, lab, first)?;
+    Ok(saved(rt, reply))
 }
 
 /// Executes a command to its end, and returns its line and whether another command follows.
 fn execute(rt: &HostRuntime, lab: &mut Lab, line: &[u8]) -> Result<(String, bool), NoMemory> {
-    let told = lab.board().console().len();
     let reply = whole_reply(rt, lab, line)?;
-    let console = lab.board().console();
-    let since = &console[told.min(console.len())..];
+    let console = lab.console_of(&reply);
     let word = word_of(reply.next);
-    let text = reply_json(rt.alloc(), lab.listing(), &reply.answer, word, since)?;
+    let text = reply_json(rt.alloc(), lab.listing(), &reply.answer, word, console)?;
     Ok((text, !matches!(reply.next, Next::Quit)))
 }
 
@@ -105,30 +86,4 @@ pub fn talk_json(rt: &HostRuntime, lab: &mut Lab) -> Result<(), TalkFault> {
         }
     }
     Ok(())
-}
-
-/// Returns a diagnosis with its sentence.
-fn fault_of(alloc: Global, source: &[u8], diagnosis: &Diagnosis) -> Result<Fault, NoMemory> {
-    let Explanation { sentence, advice } = explain(alloc, source, diagnosis)?;
-    Ok(Fault {
-        line: diagnosis.line,
-        column: diagnosis.column,
-        length: diagnosis.length,
-        kind: diagnosis.kind,
-        message: Many::of(sentence),
-        advice: Many::of(advice),
-    })
-}
-
-/// Returns the line that says what is wrong with a source.
-pub fn faults_line(alloc: Global, source: &[u8]) -> Result<String, NoMemory> {
-    let all = diagnose(alloc, source)?;
-    let mut faults = Vec::new(alloc);
-    for diagnosis in &all {
-        let fault = fault_of(alloc, source, diagnosis)?;
-        if faults.push(fault).is_err() {
-            return Err(NoMemory);
-        }
-    }
-    faults_json(alloc, &Many::of(faults))
 }

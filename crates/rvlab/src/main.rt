@@ -10,11 +10,12 @@ mod save;
 mod talk;
 mod words;
 
-use crate::json::{faults_line, talk_json};
+use crate::json::talk_json;
 use crate::talk::{TalkFault, print, print_answer, talk};
 use crate::words::{Words, read_words};
 use clap::error::ErrorKind;
 use rv_base::TEXT_LIMIT;
+use rv_json::source_json;
 use rv_lab::{Lab, LabFault, Printer, append_diagnosis};
 use rv_options::refusal_status;
 use std::alloc::AllocError;
@@ -45,7 +46,7 @@ fn read_file(rt: &HostRuntime, path: &str) -> Option<Vec<u8>> {
 
 /// Writes the line of JSON that says what is wrong with a source, and returns the exit status.
 fn refuse_by_line(rt: &HostRuntime, source: &[u8]) -> u8 {
-    let Ok(line) = faults_line(rt.alloc(), source) else {
+    let Ok(line) = source_json(rt.alloc(), source) else {
         return fail(rt, b"out of memory\n");
     };
     let printed = print(rt, line.as_bytes());

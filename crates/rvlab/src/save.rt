@@ -1,5 +1,6 @@
 //! What was done, as files for rvboard.
-use rv_lab::{Lab, Printer, saved_name};
+use rv_answers::{Answer, Command, Many, Refusal, Saved, Why};
+use rv_lab::Reply;
 use std::alloc::AllocError;
 use std::{fs, str};
 
@@ -11,31 +12,48 @@ fn path(rt: &HostRuntime, name: &str, ending: &str) -> Result<String, AllocError
 }
 
 /// Writes a file, and returns whether that succeeded.
-fn write_file(rt: &HostRuntime, name: &str, ending: &str, text: &Printer) -> bool {
-    if text.is_cut() {
-        return false;
-    }
+fn write_file(rt: &HostRuntime, name: &str, ending: &str, text: &Many<u8>) -> bool {
     match path(rt, name, ending) {
-        Ok(path) => fs::write(rt, path.as_str(), text.bytes()).is_ok(),
+        Ok(path) => fs::write(rt, path.as_str(), text.items()).is_ok(),
         Err(AllocError) => false,
     }
 }
 
 /// Writes the timed list and the commands under a name, and returns whether that succeeded.
-fn write_files(rt: &HostRuntime, lab: &Lab, name: &str) -> bool {
-    let mut text = Printer::new(rt.alloc());
-    lab.append_saved_inputs(&mut text);
-    let has_inputs = write_file(rt, name, ".input", &text);
-    text.clear();
-    lab.append_saved_commands(&mut text);
-    has_inputs && write_file(rt, name, ".commands", &text)
+fn write_files(rt: &HostRuntime, name: &Many<u8>, saved: &Saved) -> bool {
+    match str::from_utf8(name.items()) {
+        Ok(name) => write_file(rt, name, ".input", &saved.list)
+            && write_file(rt, name, ".commands", &saved.commands),
+        Err(_) => false,
+    }
 }
 
-/// Saves what was done under the name that a command line has, and answers how it is repeated.
-pub fn save(rt: &HostRuntime, lab: &Lab, line: &[u8], answer: &mut Printer) {
-    let name = saved_name(line).unwrap_or(b"lab");
-    match str::from_utf8(name) {
-        Ok(name) if write_files(rt, lab, name) => lab.append_saved(name, answer),
-        _ => lab.append_unsaved(answer),
+/// Writes what was done under the name that an answer has, if it has one. Returns false where that can't be done.
+fn is_written(rt: &HostRuntime, answer: &Answer) -> bool {
+    match answer {
+        Answer::Saved(saved) => match &saved.name {
+            Some(name) => write_files(rt, name, saved),
+            None => true,
+        },
+        _ => true,
+    }
+}
+
+/// Writes what was done where a reply has a name for it. Returns the reply, or one that says that the files can't be
+/// written.
+pub fn saved(rt: &HostRuntime, reply: Reply) -> Reply {
+    if is_written(rt, &reply.answer) {
+        return reply;
+    }
+    let refusal = Refusal {
+        command: Command::Save,
+        text: Many::of(Vec::new(rt.alloc())),
+        why: Why::NotWritten,
+    };
+    Reply {
+        next: reply.next,
+        answer: Answer::Refused(refusal),
+        from: reply.from,
+        to: reply.to,
     }
 }

@@ -1,7 +1,7 @@
 //! The talk with a lab: reads commands and writes their answers.
-use crate::save::save;
+use crate::save::saved;
 use rv_base::NoMemory;
-use rv_lab::{Lab, Next, Printer};
+use rv_lab::{Lab, Next, Printer, Reply};
 use std::io::{BufRead, IsTerminal, StdinLock, Write};
 
 /// How many steps of a long run lie between two lines of progress.
@@ -53,20 +53,30 @@ pub fn tell_progress(rt: &HostRuntime, lab: &Lab, before: u64) {
     }
 }
 
-/// Writes an answer, and that memory ran out where it did. Returns what follows.
+/// Writes that memory ran out. Another command follows.
+fn tell_no_memory(rt: &HostRuntime) -> Result<Next, TalkFault> {
+    print(rt, b"out of memory\n")?;
+    Ok(Next::More)
+}
+
+/// Writes a reply, saves what was done where it asks for that, and returns what follows.
 fn finish(
     rt: &HostRuntime,
-    next: Result<Next, NoMemory>,
-    answer: &mut Printer,
+    lab: &Lab,
+    reply: Result<Reply, NoMemory>,
+    text: &mut Printer,
 ) -> Result<Next, TalkFault> {
-    print_answer(rt, answer)?;
-    match next {
-        Ok(next) => Ok(next),
-        Err(NoMemory) => {
-            print(rt, b"out of memory\n")?;
-            Ok(Next::More)
-        }
+    let Ok(reply) = reply else {
+        return tell_no_memory(rt);
+    };
+    let reply = saved(rt, reply);
+    lab.append_reply(&reply, text);
+    let is_cut = text.is_cut();
+    print_answer(rt, text)?;
+    if is_cut {
+        return tell_no_memory(rt);
     }
+    Ok(reply.next)
 }
 
 /// Executes a command, and writes its answers as they come. Returns what follows once no run goes on.
@@ -74,36 +84,20 @@ fn execute(
     rt: &HostRuntime,
     lab: &mut Lab,
     line: &[u8],
-    answer: &mut Printer,
+    text: &mut Printer,
 ) -> Result<Next, TalkFault> {
-    let mut next = finish(rt, lab.command(line, answer), answer)?;
+    let reply = lab.answer(line);
+    let mut next = finish(rt, lab, reply, text)?;
     for _ in 0..u64::MAX {
         if !matches!(next, Next::Running) {
             break;
         }
         let before = lab.steps();
-        next = finish(rt, lab.go_on(answer), answer)?;
+        let reply = lab.go_on();
+        next = finish(rt, lab, reply, text)?;
         tell_progress(rt, lab, before);
     }
     Ok(next)
-}
-
-/// Executes a command, and saves what was done where it asks for that. Returns whether another follows.
-fn obey(
-    rt: &HostRuntime,
-    lab: &mut Lab,
-    line: &[u8],
-    answer: &mut Printer,
-) -> Result<bool, TalkFault> {
-    match execute(rt, lab, line, answer)? {
-        Next::Quit => Ok(false),
-        Next::Save => {
-            save(rt, lab, line, answer);
-            print_answer(rt, answer)?;
-            Ok(true)
-        }
-        Next::More | Next::Running => Ok(true),
-    }
 }
 
 /// Writes a command that was read from no terminal, so that a transcript shows it.
@@ -129,7 +123,8 @@ fn talk_once(
         return Ok(false);
     }
     echo(rt, line)?;
-    obey(rt, lab, line, answer)
+    let next = execute(rt, lab, line, answer)?;
+    Ok(!matches!(next, Next::Quit))
 }
 
 /// Reads commands from the standard input up to one that ends the talk, or to the end, and writes their
