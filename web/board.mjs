@@ -9,6 +9,12 @@ const PIECE = 100000; // the most steps of the first call
 
 export const decode = (/** @type {Uint8Array} */ bytes) => new TextDecoder().decode(bytes);
 
+/**
+ * The bytes of a string that has a character for each.
+ * @param {string} text
+ */
+const asBytes = (text) => Uint8Array.from(text, (it) => it.charCodeAt(0));
+
 /** @typedef {(handle: bigint, from: bigint, room: bigint, count: bigint) => bigint} Reader */
 
 export class Board {
@@ -62,9 +68,17 @@ export class Board {
         return joinBytes(pieces);
     }
 
-    /** The text of the last answer. */
+    /** The text of the last answer, for people. */
     text() {
         return this.read(this.exports.page_text);
+    }
+
+    /**
+     * The last answer as a value, if it has one.
+     * @returns {any}
+     */
+    value() {
+        return JSON.parse(decode(this.read(this.exports.page_json)) || "null");
     }
 
     /** What the console got from a place on. */
@@ -77,7 +91,7 @@ export class Board {
     }
 
     /**
-     * Opens a lab; returns why there is none, or nothing.
+     * Opens a lab; returns why there is none, as a text and where the source is refused as a value, or nothing.
      * @param {Uint8Array} source
      * @param {Uint8Array} inputs
      */
@@ -85,14 +99,26 @@ export class Board {
         const load = (/** @type {bigint[]} */ ...texts) => this.exports.page_load(this.handle, ...texts, pages, slots);
         const code = this.withTexts([source, inputs], load);
         if (code === NO_MEMORY) throw new Error("out of memory");
-        return code === REFUSED ? this.text() : null;
+        return code === REFUSED ? { text: decode(this.text()), value: this.value() } : null;
     }
 
-    /** @param {number} code */
-    answer(code) {
+    /**
+     * The code of a call, which has an answer.
+     * @param {number} code
+     */
+    answered(code) {
         if (code === NO_MEMORY) throw new Error("out of memory");
         if (code === NO_LAB) throw new Error("no program is assembled");
-        return { next: code, text: this.text() };
+        return code;
+    }
+
+    /**
+     * What follows a command, its answer as text for people and as a value, and the bytes that the program has sent.
+     * @param {number} code
+     */
+    reply(code) {
+        const next = this.answered(code), { answer, console } = this.value();
+        return { next, answer, sent: asBytes(console), text: decode(this.text()) };
     }
 
     /**
@@ -102,7 +128,7 @@ export class Board {
     command(line) {
         const { page_command } = this.exports, piece = BigInt(this.piece);
         const execute = (/** @type {bigint[]} */ ...text) => page_command(this.handle, ...text, piece);
-        return this.answer(this.withTexts([line], execute));
+        return this.reply(this.withTexts([line], execute));
     }
 
     /**
@@ -113,13 +139,13 @@ export class Board {
     look(lines) {
         const { page_look } = this.exports;
         const look = (/** @type {bigint[]} */ ...text) => page_look(this.handle, ...text);
-        const { text } = this.answer(this.withTexts([encode(lines.map((line) => `${line}\n`).join(""))], look));
-        return decode(text).split("\n").slice(0, lines.length).map((line) => JSON.parse(line));
+        this.answered(this.withTexts([encode(lines.map((line) => `${line}\n`).join(""))], look));
+        return decode(this.text()).split("\n").slice(0, lines.length).map((line) => JSON.parse(line));
     }
 
     /** Goes on with a run whose answer said RUNNING. */
     goOn() {
-        return this.answer(this.exports.page_go_on(this.handle, BigInt(this.piece)));
+        return this.reply(this.exports.page_go_on(this.handle, BigInt(this.piece)));
     }
 
     /**
@@ -127,6 +153,6 @@ export class Board {
      * @param {string} line
      */
     ask(line) {
-        return decode(this.command(encode(line)).text);
+        return this.command(encode(line)).text;
     }
 }

@@ -8,8 +8,8 @@ import { decodeAll, encode } from "./lines.mjs";
  * @param {Fault} fault
  */
 export function cutAt(line, { before, length }) {
-    const text = decodeAll(encode(line).slice(0, before));
-    return [text, [...line.slice(text.length)].slice(0, length).join("")];
+    const bytes = encode(line);
+    return [decodeAll(bytes.slice(0, before)), decodeAll(bytes.slice(before, before + length))];
 }
 
 /**

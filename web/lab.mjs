@@ -2,8 +2,21 @@
 // the lab writes them.
 import { call } from "./client.mjs";
 import { countLines } from "./lines.mjs";
-import { isUnexplained, readFaults, readLevels, readSaved, readTold } from "./texts.mjs";
-import { breakLinesOf, controlOf, devicesOf, memoryOf, registersOf, rowsOf, trapsOf } from "./values.mjs";
+import {
+    breakLinesOf,
+    controlOf,
+    devicesOf,
+    faultsOf,
+    isLost,
+    levelsOf,
+    mayGoOn,
+    memoryOf,
+    registersOf,
+    rowsOf,
+    savedOf,
+    toldOf,
+    trapsOf,
+} from "./values.mjs";
 
 const LISTED = 1000; // lines that are listed at once
 const SHOWN = 4096; // bytes of memory that are shown at once
@@ -35,7 +48,7 @@ const lookAt = async (...lines) => (await call("look", lines)).answers;
  * @param {number} pages
  * @returns {Promise<Fault[]>}
  */
-export const checkProgram = async (source, inputs, pages) => readFaults(await call("check", source, inputs, pages));
+export const checkProgram = async (source, inputs, pages) => faultsOf(await call("check", source, inputs, pages));
 
 /**
  * Puts a source on the board, or returns why it is refused.
@@ -44,9 +57,9 @@ export const checkProgram = async (source, inputs, pages) => readFaults(await ca
  * @param {number} pages
  */
 export async function loadProgram(source, inputs, pages) {
-    /** @type {string | null} */
-    const text = await call("load", source, inputs, pages);
-    return { faults: readFaults(text), text: text?.trimEnd() ?? "" };
+    /** @type {Refused | null} */
+    const refused = await call("load", source, inputs, pages);
+    return { faults: faultsOf(refused), text: refused?.text.trimEnd() ?? "" };
 }
 
 /**
@@ -70,7 +83,7 @@ export async function examine({ source, inputs, pages }, names, places) {
     const lines = ["w", "r", "t", ...[...names, ...places].map((it) => `i ${it}`)];
     const { fault, answers, console, steps } = await call("examine", source, inputs, pages, LESSON_STEPS, lines);
     const values = new Map(), words = new Map();
-    if (fault) return { faults: readFaults(fault), run: null, names: values, words };
+    if (fault) return { faults: faultsOf(fault), run: null, names: values, words };
     const [{ halted }, registers, traps, ...found] = /** @type {any[]} */ (answers), there = found.map(({ place }) => place);
     names.forEach((name, i) => there[i] && values.set(name, there[i].address));
     places.forEach((place, i) => words.set(place, there[names.length + i]?.word ?? undefined));
@@ -87,9 +100,9 @@ export async function examine({ source, inputs, pages }, names, places) {
  * @returns {Promise<Told>}
  */
 export async function tell(line) {
-    const { text, isPaused } = await call("command", line);
-    const [why] = isUnexplained(text) ? await ask("why") : [""];
-    return readTold(text + why, isPaused);
+    const { answer, text, sent, isPaused } = await call("command", line);
+    const [why] = !isPaused && isLost(answer) ? await ask("why") : [""];
+    return toldOf(text + why, isPaused || mayGoOn(answer), sent);
 }
 
 /** @param {number[]} lines */
@@ -123,11 +136,11 @@ export async function goBack(from, to) {
     await call("command", `u ${from}`);
     await call("command", `s ${to}`);
     const [, where] = await ask("s 0", "w"), isThere = (await call("steps")) === to;
-    return readTold(`${isThere ? `back at step ${to}` : "paused"}\n${where}`, !isThere);
+    return toldOf(`${isThere ? `back at step ${to}` : "paused"}\n${where}`, !isThere);
 }
 
 /** @returns {Told} */
-export const paused = () => readTold("paused", true);
+export const paused = () => toldOf("paused", true);
 
 // ---- Looks
 
@@ -162,10 +175,10 @@ async function readMarks(source, listing, lines) {
  * @returns {Promise<Look>}
  */
 export async function look(source) {
-    const { steps, console, save, answers } = await call("look", ["r", "b", listCommand(source)]);
-    const [registers, breakpoints, list] = answers, saved = readSaved(save), levels = readLevels(saved.inputs, steps);
+    const { steps, console, saved, answers } = await call("look", ["r", "b", listCommand(source)]);
+    const [registers, breakpoints, list] = answers, levels = levelsOf(saved.list, steps);
     const listing = rowsOf(list, source.split("\n")), marks = await readMarks(source, listing, breakLinesOf(breakpoints));
-    return { steps, ...registersOf(registers), listing, marks, saved, levels, console };
+    return { steps, ...registersOf(registers), listing, marks, saved: savedOf(saved), levels, console };
 }
 
 /**

@@ -111,6 +111,15 @@ export function countLines(text) {
 }
 
 /**
+ * A text of which each line stands behind a bar. A backslash at its end says that its last line isn't ended.
+ * @param {string} text
+ */
+export function barred(text) {
+    const lines = `| ${text.replaceAll("\n", "\n| ")}`;
+    return text && (text.endsWith("\n") ? lines.slice(0, -2) : `${lines}\\\n`);
+}
+
+/**
  * How many characters at the beginning of two texts are the same.
  * @param {string} before
  * @param {string} now

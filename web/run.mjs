@@ -15,22 +15,11 @@ export function cutLines(bytes) {
     return lines;
 }
 
-// A text of the lab up to the console's lines in it.
-function beforeConsole(text) {
-    const all = Buffer.from(text).toString("latin1");
-    const end = all.startsWith("| ") ? 0 : all.indexOf("\n| ") + 1 || all.length;
-    return Buffer.from(all.slice(0, end), "latin1");
-}
-
-// The monitor's answer to a line: that of the lab, in as many pieces as it takes.
+// The monitor's answer to a line, in as many pieces as it takes.
 export function monitor(board, line) {
-    let { text, next } = board.command(Buffer.concat([encode("monitor "), line]));
-    const pieces = [beforeConsole(text)];
-    while (next === RUNNING) {
-        ({ text, next } = board.goOn());
-        pieces.push(beforeConsole(text));
-    }
-    return { text: Buffer.concat(pieces), next };
+    let { answer, next } = board.command(Buffer.concat([encode("monitor "), line]));
+    while (next === RUNNING) ({ answer, next } = board.goOn());
+    return { text: Buffer.from(answer.text, "latin1"), next };
 }
 
 // How the board stands, as rvboard's last line says it.
@@ -63,7 +52,7 @@ function main(words) {
     const { pages = 256, piece = 1000000 } = options;
     const { board, fault } = open(fs.readFileSync(words[0]), input, Number(pages), Number(piece));
     if (fault) {
-        process.stderr.write(fault);
+        process.stderr.write(fault.text);
         process.exitCode = 3;
         return;
     }

@@ -2,7 +2,7 @@
 
 // ---- What the lab answers (lab.mjs)
 
-/** A fault of a source: its line, or 0; how many bytes of that precede it, and how many characters it has. */
+/** A fault of a source: its line, or 0; how many bytes of that precede it, and how many it has. */
 interface Fault { line: number; before: number; length: number; sentence: string; advice: string }
 
 /** An address in the lab's answers: the label at it or before it, how far before, and the line that has a byte there. */
@@ -19,7 +19,13 @@ interface Register { name: string; value: number; isChanged: boolean }
 /** A line of the source with what the image has of it. A line without bytes has no address. */
 interface Row { number: number; text: string; address?: number; word?: number; isHere: boolean; isMarked: boolean }
 
-/** What is done and sent so far, in the forms of files that repeat it. */
+/** Why there is no lab: as text, and where the source is refused as a value. */
+interface Refused { text: string; value: { faults: any[] } | null }
+
+/** Why a run is over or goes on: what the lab has answered to a command, where the page reads it. */
+interface Answer { kind: string; ending?: string; aim?: string; standing?: { halted: number | null; here: Place } }
+
+/** What is done so far, in the forms of files that repeat it, and with which options. */
 interface Saved { inputs: string; commands: string; options: string }
 
 /** All that a click may change. */

@@ -1,4 +1,5 @@
-// What the lab answers as JSON (docs/JSON.md), as the page's values. `lab.mjs` alone imports this.
+// What the lab answers (docs/JSON.md), as the page's values. `lab.mjs` alone imports this.
+import { barred } from "./lines.mjs";
 
 const REGISTERS = "zero ra sp gp tp t0 t1 t2 s0 s1 a0 a1 a2 a3 a4 a5 a6 a7 s2 s3 s4 s5 s6 s7 s8 s9 s10 s11 t3 t4 t5 t6".split(" ");
 
@@ -114,3 +115,71 @@ export const devicesOf = (answer) => ({ sources: sourcesOf(answer), regions: reg
  * @returns {Trap[]}
  */
 export const trapsOf = ({ traps }) => traps.map(({ cause, value }) => ({ cause, tval: value }));
+
+// ---- Sources
+
+/**
+ * The faults of a refused source; or one at no line where a timed list or a size is refused.
+ * @param {Refused | null} refused
+ * @returns {Fault[]}
+ */
+export function faultsOf(refused) {
+    if (!refused) return [];
+    const { text, value } = refused;
+    if (!value) return [{ line: 0, before: 0, length: 0, sentence: text.trim(), advice: "" }];
+    return value.faults.map(({ line, column, length, name, message, advice }) => {
+        return { line, before: column - 1, length, sentence: `${name}: ${message}`, advice };
+    });
+}
+
+// ---- Commands
+
+/**
+ * What is told of a command: what the program has sent, and the lab's own words.
+ * @param {string} text
+ * @param {boolean} goesOn
+ * @returns {Told}
+ */
+export function toldOf(text, goesOn, sent = "") {
+    const parts = [{ text: barred(sent), isSent: true }, { text: text.trimEnd(), isSent: false }];
+    return { parts: parts.filter((part) => part.text), goesOn };
+}
+
+/**
+ * Whether an answer leaves a run that may go on: one that took as many steps as it may, and that a breakpoint ends.
+ * @param {Answer} answer
+ */
+export const mayGoOn = ({ kind, ending, aim }) => kind === "ended" && ending === "limit" && aim === "breakpoint";
+
+/**
+ * Whether a step or a run leaves the board where no memory is: a trap met no handler.
+ * @param {Answer} answer
+ */
+export function isLost({ kind, standing }) {
+    if (!standing || (kind !== "stepped" && kind !== "ended")) return false;
+    return standing.halted === null && standing.here.word === null;
+}
+
+// ---- Inputs
+
+/**
+ * What `save` answers. rvboard takes a number of steps at most.
+ * @param {{ list: string, commands: string, steps: number, limit: number, pages: number }} answer
+ * @returns {Saved}
+ */
+export function savedOf({ list, commands, steps, limit, pages }) {
+    const left = steps > limit ? ` # without the last ${steps - limit} steps` : "";
+    return { inputs: list, commands, options: `--steps ${limit} --pages ${pages}${left}` };
+}
+
+/**
+ * The level of each interrupt line after some steps: that of its last input in a timed list up to there.
+ * @param {string} list
+ * @param {number} steps
+ * @returns {Record<number, boolean>}
+ */
+export function levelsOf(list, steps) {
+    const inputs = list.split("\n").map((line) => line.split(" ")).filter(([, kind]) => kind === "line");
+    const past = inputs.filter(([step]) => Number(step) <= steps);
+    return Object.fromEntries(past.map(([, , number, level]) => [Number(number), level === "1"]));
+}

@@ -1,7 +1,7 @@
 // The page's worker: one lab that is run and asked, and one that only assembles what is typed. A long run
 // goes in pieces, between which the pause and the page's questions come through.
 import { Board, RUNNING, decode } from "./board.mjs";
-import { encode } from "./lines.mjs";
+import { encode, joinBytes } from "./lines.mjs";
 
 const PROGRESS = 100; // milliseconds between two reports of a long run
 const TURN = 12; // milliseconds that a piece of a run shall take
@@ -64,20 +64,14 @@ const acts = {
      * @param {string} inputs
      * @param {number} pages
      */
-    check(source, inputs, pages) {
-        const fault = checker.load(encode(source), encode(inputs), pages);
-        return fault && decode(fault);
-    },
+    check: (source, inputs, pages) => checker.load(encode(source), encode(inputs), pages),
 
     /**
      * @param {string} source
      * @param {string} inputs
      * @param {number} pages
      */
-    load(source, inputs, pages) {
-        const fault = lab.load(encode(source), encode(inputs), pages);
-        return fault && decode(fault);
-    },
+    load: (source, inputs, pages) => lab.load(encode(source), encode(inputs), pages),
 
     /**
      * Executes a command line to its end, or up to a pause.
@@ -86,19 +80,19 @@ const acts = {
     async command(line) {
         paused = false;
         decoder = new TextDecoder();
-        let { next, text } = lab.command(encode(line));
-        let answer = decode(text), reported = performance.now();
-        while (next === RUNNING && !paused) {
+        let reply = lab.command(encode(line)), reported = performance.now();
+        const sent = [reply.sent];
+        while (reply.next === RUNNING && !paused) {
             if (performance.now() - reported > PROGRESS) {
                 report();
                 reported = performance.now();
             }
             await breathe();
-            ({ next, text } = goOn());
-            answer += decode(text);
+            reply = goOn();
+            sent.push(reply.sent);
         }
-        const isPaused = next === RUNNING;
-        return { text: isPaused ? `${answer}paused\n${lab.ask("w")}` : answer, isPaused };
+        const isPaused = reply.next === RUNNING, text = isPaused ? `paused\n${lab.ask("w")}` : reply.text;
+        return { answer: reply.answer, text, sent: decode(joinBytes(sent)), isPaused };
     },
 
     /**
@@ -111,7 +105,7 @@ const acts = {
      */
     async examine(source, inputs, pages, steps, lines) {
         const own = new Board(module), fault = own.load(encode(source), encode(inputs), pages);
-        if (fault) return { fault: decode(fault) };
+        if (fault) return { fault };
         let { next } = own.command(encode(`s ${steps}`));
         while (next === RUNNING) {
             await breathe();
@@ -122,12 +116,12 @@ const acts = {
 
     // The steps, what was sent and is saved so far, and what commands that only look answer, as values.
     look(/** @type {string[]} */ lines) {
-        const bytes = lab.console();
+        const bytes = lab.console(), { answer } = lab.command(encode("save"));
         told = bytes.length;
-        return { steps: lab.steps(), console: decode(bytes), save: lab.ask("save"), answers: lab.look(lines) };
+        return { steps: lab.steps(), console: decode(bytes), saved: answer, answers: lab.look(lines) };
     },
 
-    // The answers of commands that only look.
+    // The answers of commands that take no step, as text for people.
     ask: (/** @type {string[]} */ lines) => lines.map((line) => lab.ask(line)),
 
     steps: () => lab.steps(),

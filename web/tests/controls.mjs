@@ -137,6 +137,7 @@ const markAt = (line) => page.run(`(async () => {
 async function longSource() {
     const lines = Array.from({ length: 2990 }, (_, i) => `        addi t0,t0,${i % 100}`);
     await open([...lines, "1:      j 1b", "        .byte 1", "        .byte 2"].join("\n"));
+    await idle();
     for (const line of [1400, 2993]) {
         await markAt(line);
         await page.click(`#gutter li[value="${line}"]`);

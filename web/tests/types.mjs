@@ -1,5 +1,5 @@
-// node web/tests/types.mjs: the scripts of the page have types, by tsc in its strict mode; none is long; and the texts of
-// the lab are known to one module.
+// node web/tests/types.mjs: the scripts of the page have types, by tsc in its strict mode; none is long; and the values
+// of the lab are read by one module.
 import { spawnSync } from "node:child_process";
 import fs from "node:fs";
 import os from "node:os";
@@ -35,7 +35,7 @@ check("and a state of another type", /runs\.mjs.*TS2322/.test(faultsOf("runs.mjs
 const long = files.filter((it) => read(it).split("\n").length - 1 > LONGEST);
 same(`no file has more than ${LONGEST} lines`, long.join(), "");
 const importers = (module) => scripts.filter((it) => new RegExp(`from "\\./${module}\\.mjs"`).test(read(it)));
-same("the texts of the lab are read by one module", importers("texts").join(), "lab.mjs");
+same("the values of the lab are read by one module", importers("values").join(), "lab.mjs");
 const callers = scripts.filter((it) => /\bcall\("/.test(read(it)));
 same("which alone asks the worker", callers.filter((it) => it !== "client.mjs").join(), "lab.mjs");
 finish();

@@ -4,23 +4,31 @@ use Rattle.std.specs.Prelude.{◌≡◌, ◌≢◌, ℕ, false, None, IfSome, Ok
 use Rattle.std.specs.Option.{option_map_or}
 use Rattle.rv_asm.specs.Lines.{listed}
 use Rattle.serde_json.specs.Written.{compact_text}
-use Rattle.rv_json.specs.Json.{answer_data}
-use Rattle.rv_operands.specs.Operands.{operand_text}
-use Rattle.rv_lab.specs.Answers.{answer_of}
+use Rattle.rv_json.specs.Json.{TellsFaults, answer_data, reply_data}
 use Rattle.rv_lab.specs.Opening.{OpensLab}
 use Rattle.rv_lab.specs.State.{LabState, listing}
-use Rattle.rv_lab.specs.Words.{line_command}
 use Rattle.rv_lab.specs.declared.fault.LabFault.{LabFault}
 use Rattle.rv_lab.specs.declared.lab.Next.{Next}
 use Rattle.rv_lab.specs.declared.lab.Next.TheVariants as next
-use Rattle.rv_lab.specs.declared.fault.LabFault.TheVariants.{OutOfMemory}
+use Rattle.rv_lab.specs.declared.fault.LabFault.TheVariants.{OutOfMemory, Source}
+use Rattle.rv_lab.specs.declared.lab.Reply.{Reply}
+use Rattle.rv_answers.specs.Printer.{Written}
+use Rattle.rv_answers.specs.declared.answer.Answer.TheVariants.{Nothing}
+use Rattle.rv_lab.specs.Commands.{next_of}
+use Rattle.rv_lab.specs.Orders.{next_after, order_of}
+use Rattle.rv_lab.specs.Runs.{answer_to, look_by, run_answer}
+use Rattle.rv_lab.specs.State as lab
 use Rattle.rv_page.specs.declared.state.State.{State}
 
 -- ---- the lab
 
--- a state without a lab and with an empty text
+-- an empty text
+abbrev pub blank : Written
+blank = record { bytes = []; is_cut = false }
+
+-- a state without a lab and with empty texts
 abbrev pub empty : State
-empty = record { lab = None; answer = record { bytes = []; is_cut = false } }
+empty = record { lab = None; answer = blank; json = blank }
 
 -- the lab before a call and the one after it, where there is one, are in a relation
 abbrev pub OfLabs : State → State → (LabState → LabState → Type 0) → Type 0
@@ -47,10 +55,15 @@ pub record IsOpened (source inputs : List ℕ) (pages slots : ℕ) (l : LabState
   pub listing : listed source ≡ Ok (listing l)
   pub plan : l.plan ≡ None
 
--- there is no such lab, for a fault of the source, the timed list or the board
-abbrev pub IsRefused : List ℕ → List ℕ → (pages slots : ℕ) → Type 0
-IsRefused source inputs pages slots =
-    (fault : LabFault) × OpensLab source inputs pages slots (Err fault) × (fault ≢ OutOfMemory)
+-- the JSON of a fault: of a source that is rejected that of all its faults, and else none
+abbrev pub TellsFault : List ℕ → LabFault → List ℕ → Type 0
+TellsFault source (Source why) text = TellsFaults source text
+TellsFault source _ text = text ≡ []
+
+-- there is no such lab, for a fault of the source, the timed list or the board, which has this JSON
+abbrev pub IsRefused : List ℕ → List ℕ → (pages slots : ℕ) → List ℕ → Type 0
+IsRefused source inputs pages slots text = (fault : LabFault)
+    × OpensLab source inputs pages slots (Err fault) × (fault ≢ OutOfMemory) × TellsFault source fault text
 
 -- ---- texts
 
@@ -60,10 +73,10 @@ copied text from room = take room (drop from text)
 
 -- ---- looks
 
--- the JSON of what a command line answers, if its command is one that only looks
+-- the JSON of what a command line answers, if it asks for nothing but an answer
 unfoldable pub look_text : LabState → List ℕ → Option (List ℕ)
 look_text l line = option_map (λ answer. compact_text (answer_data (listing l).labels answer))
-    (answer_of (line_command line) (operand_text line) l)
+    (look_by (order_of line l) l)
 
 -- as a line, which is null for any other
 abbrev pub look_line : LabState → List ℕ → List ℕ
@@ -82,3 +95,35 @@ code_of next.More = 0
 code_of next.Running = 1
 code_of next.Save = 2
 code_of next.Quit = 3
+
+-- its word in JSON
+abbrev pub word_of : Next → List ℕ
+word_of next.More = codes "more"
+word_of next.Running = codes "running"
+word_of next.Save = codes "save"
+word_of next.Quit = codes "quit"
+
+-- ---- replies
+
+-- the JSON of a lab's reply
+unfoldable pub reply_text : LabState → Reply → List ℕ
+reply_text l r = compact_text (reply_data (listing l).labels r.answer (word_of r.next)
+    (drop r.from (take r.to (lab.board l).machine.bus.serial.sent)))
+
+-- what a lab replies to a line, by the lab before it and after it
+abbrev pub reply_to : List ℕ → (old new : LabState) → Reply
+reply_to line old new = record {
+  next = next_after line old new;
+  answer = answer_to line old new;
+  from = lab.sent old;
+  to = max (lab.sent old) new.told;
+}
+
+-- and where it goes on
+abbrev pub reply_on : (old new : LabState) → Reply
+reply_on old new = record {
+  next = next_of new;
+  answer = option_map_or (λ p. run_answer p old new) old.plan Nothing;
+  from = old.told;
+  to = max old.told new.told;
+}

@@ -6,14 +6,15 @@
 
 ghost use Rattle.std.specs.Prelude.{◌≡◌, ◌≤◌, ◌==◌, ◌⊎◌, ◌++◌, true, false, not, drop, length, max, [], Some, None, IfSome, is_some};
 ghost use Rattle.rv_lab.specs.State.{setup};
-ghost use Rattle.rv_lab.specs.Commands.{GoesOn, IsWithin, Obeys, With, call_limit, next_after, next_of};
-ghost use Rattle.rv_lab.specs.Words.{line_command};
+ghost use Rattle.rv_lab.specs.Commands.{GoesOn, IsWithin, With, call_limit, next_of};
+ghost use Rattle.rv_lab.specs.Orders.{Obeys, next_after, ordered};
 ghost use Rattle.rv_base.specs.Lines.{lines};
-ghost use Rattle.rv_page.specs.Pages.{IsOpened, IsRefused, OfLabs, code_of, copied, empty, in_pieces, looks, sent, taken};
+ghost use Rattle.rv_page.specs.Pages.{IsOpened, IsRefused, OfLabs, code_of, copied, empty, in_pieces, looks, reply_on, reply_text, reply_to, sent, taken};
 
 mod copying;
 mod handle;
 mod looks;
+mod replies;
 mod state;
 
 use crate::copying::copy_from;
@@ -38,7 +39,8 @@ pub extern "C" fn page_new(alloc: Global, out: &mut NewHandle) -> bool
 
 /// Opens a lab of a source with a timed list, on a board with `pages` pages and `slots` slots. The code is 0
 /// if it is open, before its first step, and the text is empty; 1 if the source, the list or the board is
-/// refused, and the text says why; 4 if memory ran out. There is no lab but by 0.
+/// refused, and the text says why, as does the JSON where it is the source; 4 if memory ran out. There is no lab but by
+/// 0.
 #[unsafe(no_mangle)]
 pub extern "C" fn page_load(
     alloc: Global,
@@ -51,7 +53,7 @@ pub extern "C" fn page_load(
     ensures code { (result ≡ 0) ⊎ (result ≡ 1) ⊎ (result ≡ 4) }
     ensures lab { is_some handle.new.value.lab ≡ (result == 0) }
     ensures opened { result ≡ 0 → IfSome handle.new.value.lab (IsOpened source.now inputs.now pages slots) }
-    ensures refused { result ≡ 1 → IsRefused source.now inputs.now pages slots }
+    ensures refused { result ≡ 1 → IsRefused source.now inputs.now pages slots handle.new.value.json.bytes }
     ensures quiet { result ≡ 0 → handle.new.value.answer.bytes ≡ [] }
 {
     handle
@@ -59,7 +61,8 @@ pub extern "C" fn page_load(
         .load(alloc, source, inputs, Sizes { pages, slots })
 }
 
-/// Executes a command line of the lab, and the text is its answer. It takes at most `most` steps, or one, and
+/// Executes a command line of the lab: the JSON is its answer with what the console got, and the text is the answer for
+/// people. It takes at most `most` steps, or one, and
 /// for `trace` at most 1,000: a longer run goes on by `page_go_on`. The code is 0 if another command follows,
 /// 1 if the run goes on, 2 if what was done is to be saved under the line's name, 3 if no command follows, 4 if
 /// memory ran out, and 5 if there is no lab.
@@ -72,14 +75,16 @@ pub extern "C" fn page_command(handle: &mut Handle, line: &[u8], most: u64) -> u
     ensures obeys { result ≤ 3 → OfLabs handle.old.value handle.new.value
         (λ l. Obeys line.now (in_pieces most l)) }
     ensures follows { result ≤ 3 → OfLabs handle.old.value handle.new.value (λ l m. result
-        ≡ code_of (next_after line.now l.recording.session m)) }
-    ensures bound { OfLabs handle.old.value handle.new.value (IsWithin (call_limit (line_command line.now) most)) }
+        ≡ code_of (next_after line.now (in_pieces most l) m)) }
+    ensures json { result ≤ 3 → OfLabs handle.old.value handle.new.value
+        (λ l m. handle.new.value.json.bytes ≡ reply_text m (reply_to line.now (in_pieces most l) m)) }
+    ensures bound { OfLabs handle.old.value handle.new.value (λ l. IsWithin (call_limit (ordered line.now (in_pieces most l)) (max most 1)) l) }
 {
     handle.state().command(line, most)
 }
 
 /// Answers command lines, of which each ends with a line feed: the text has a line of JSON for each, which is its answer
-/// if its command is one that only looks, and `null` for any other (docs/JSON.md). The lab stays as it is. The code is
+/// if it asks for nothing else, and `null` for any other (docs/JSON.md). The lab stays as it is. The code is
 /// 0, 4 if memory ran out, and 5 if there is no lab.
 #[unsafe(no_mangle)]
 pub extern "C" fn page_look(handle: &mut Handle, text: &[u8]) -> u32
@@ -92,7 +97,7 @@ pub extern "C" fn page_look(handle: &mut Handle, text: &[u8]) -> u32
     handle.state().look(text)
 }
 
-/// Goes on with the run that isn't over, if there is one, by at most `most` steps. The text and the code are
+/// Goes on with the run that isn't over, if there is one, by at most `most` steps. The JSON, the text and the code are
 /// those of `page_command`.
 #[unsafe(no_mangle)]
 pub extern "C" fn page_go_on(handle: &mut Handle, most: u64) -> u32
@@ -105,6 +110,8 @@ pub extern "C" fn page_go_on(handle: &mut Handle, most: u64) -> u32
     ensures follows { result ≤ 3 → OfLabs handle.old.value handle.new.value (λ l m. result ≡ code_of (next_of m)) }
     ensures quiet { result ≤ 3 → IfSome handle.old.value.lab
         (λ l. l.plan ≡ None → handle.new.value.answer.bytes ≡ []) }
+    ensures json { result ≤ 3 → OfLabs handle.old.value handle.new.value
+        (λ l m. handle.new.value.json.bytes ≡ reply_text m (reply_on (in_pieces most l) m)) }
     ensures bound { OfLabs handle.old.value handle.new.value (IsWithin (max most 1)) }
 {
     handle.state().go_on(most)
@@ -128,6 +135,16 @@ pub extern "C" fn page_text(handle: &mut Handle, from: usize, out: &mut [u8]) ->
         ++ drop result out.old }
 {
     copy_from(handle.state().answer.bytes(), from, out)
+}
+
+/// Copies the JSON of the last answer from a place on, and returns how many bytes were copied.
+#[unsafe(no_mangle)]
+pub extern "C" fn page_json(handle: &mut Handle, from: usize, out: &mut [u8]) -> usize
+    ensures kept { handle.new.value ≡ handle.old.value }
+    ensures count { result ≡ length (copied handle.old.value.json.bytes from (length out.old)) }
+    ensures bytes { out.new ≡ copied handle.old.value.json.bytes from (length out.old) ++ drop result out.old }
+{
+    copy_from(handle.state().json.bytes(), from, out)
 }
 
 /// Copies the console from a place on, and returns how many bytes were copied.

@@ -1,4 +1,4 @@
-//! What command lines that only look answer, as JSON.
+//! What command lines answer that ask for nothing else, as JSON.
 ghost use Rattle.std.specs.Prelude.{◌≡◌, ◌++◌, false, IfOk, OnOk, option_map, string_bytes};
 ghost use Rattle.rv_base.specs.Lines.{lines};
 ghost use Rattle.rv_page.specs.Pages.{look_line, look_text, looks};
@@ -8,7 +8,7 @@ use rv_json::answer_json;
 use rv_lab::{Lab, Printer};
 use std::alloc::Global;
 
-/// Returns the JSON of what a command line answers, if its command is one that only looks.
+/// Returns the JSON of what a command line answers, if it asks for nothing else.
 #[tactic(auto, unfolding(crate::specs::Pages::look_text))]
 fn look_json(lab: &Lab, line: &[u8], alloc: Global) -> Result<Option<String>, NoMemory>
     ensures { IfOk result (λ json. option_map string_bytes json ≡ look_text lab.now line.now) }
@@ -19,7 +19,7 @@ fn look_json(lab: &Lab, line: &[u8], alloc: Global) -> Result<Option<String>, No
     }
 }
 
-/// Appends what a command line answers, as a line of JSON, or `null` where it isn't one that only looks.
+/// Appends what a command line answers, as a line of JSON, or `null` where it asks for more.
 fn append_look(lab: &Lab, line: &[u8], answer: &mut Printer) -> Result<(), NoMemory>
     requires { answer.old.is_cut ≡ false }
     ensures { OnOk result (answer.new ≡ record { bytes = answer.old.bytes ++ look_line lab.now line.now; is_cut = false }) }

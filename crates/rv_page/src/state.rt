@@ -1,21 +1,24 @@
 //! What the page keeps between two calls.
-ghost use Rattle.std.specs.Prelude.{◌≡◌, ◌≤◌, ◌==◌, ◌⊎◌, not, max, [], None, IfErr, IfOk, IfSome, is_some};
+ghost use Rattle.std.specs.Prelude.{◌≡◌, ◌≤◌, ◌==◌, ◌⊎◌, not, max, [], None, IfErr, IfOk, IfSome, OnOk, is_some};
 ghost use Rattle.rv_lab.specs.State.{setup};
-ghost use Rattle.rv_lab.specs.Commands.{GoesOn, IsWithin, Obeys, With, call_limit, next_after, next_of};
-ghost use Rattle.rv_lab.specs.Words.{line_command};
+ghost use Rattle.rv_lab.specs.Commands.{GoesOn, IsWithin, With, call_limit, next_of};
+ghost use Rattle.rv_lab.specs.Orders.{Obeys, next_after, ordered};
 ghost use Rattle.rv_base.specs.Lines.{lines};
-ghost use Rattle.rv_page.specs.Pages.{IsOpened, IsRefused, OfLabs, code_of, empty, in_pieces, looks, sent, taken};
+ghost use Rattle.rv_page.specs.Pages.{IsOpened, IsRefused, OfLabs, TellsFault, blank, code_of, empty, in_pieces, looks, reply_on, reply_text, reply_to, sent, taken};
 
 use crate::looks::append_looks;
+use crate::replies::{fill, show};
 use rv_base::NoMemory;
+use rv_json::source_json;
 use rv_lab::{Lab, LabFault, Next, Printer, Sizes, append_diagnosis};
 use std::alloc::Global;
 
-/// A lab or none, and the text of the last answer.
+/// A lab or none, the text of the last answer for people, and its JSON.
 #[derive(Drop)]
 pub struct State {
     pub lab: Option<Lab>,
     pub answer: Printer,
+    pub json: Printer,
 }
 
 /// The codes of a load, beside `NO_MEMORY`.
@@ -51,15 +54,38 @@ fn code_of(next: Result<Next, NoMemory>) -> u32
     }
 }
 
+/// Writes the JSON of a fault, which a rejected source has.
+fn write_fault(source: &[u8], fault: LabFault, json: &mut Printer) -> Result<(), NoMemory>
+    requires { json.old ≡ blank }
+    ensures { OnOk result (TellsFault source.now fault json.new.bytes) }
+{
+    match fault {
+        LabFault::Source(_) => {
+            let text = source_json(json.alloc(), source)?;
+            fill(&text, json)
+        }
+        _ => Ok(()),
+    }
+}
+
 impl State {
-    /// Returns a state without a lab and with an empty text.
+    /// Returns a state without a lab and with empty texts.
     pub(crate) fn new(alloc: Global) -> State
         ensures { result ≡ empty }
     {
         State {
             lab: None,
             answer: Printer::new(alloc),
+            json: Printer::new(alloc),
         }
+    }
+
+    /// Makes both texts empty.
+    fn clear(&mut self)
+        ensures { self.new ≡ record self.old { answer = blank; json = blank } }
+    {
+        self.answer.clear();
+        self.json.clear();
     }
 
     /// Opens a lab, or says in the text why there is none.
@@ -68,11 +94,11 @@ impl State {
         ensures lab { is_some self.new.lab ≡ (result == 0) }
         ensures opened { result ≡ 0 → IfSome self.new.lab
             (IsOpened source.now inputs.now sizes.pages sizes.slots) }
-        ensures refused { result ≡ 1 → IsRefused source.now inputs.now sizes.pages sizes.slots }
+        ensures refused { result ≡ 1 → IsRefused source.now inputs.now sizes.pages sizes.slots self.new.json.bytes }
         ensures quiet { result ≡ 0 → self.new.answer.bytes ≡ [] }
     {
         self.lab = None;
-        self.answer.clear();
+        self.clear();
         match Lab::open(alloc, source, inputs, sizes) {
             Ok(lab) => {
                 self.lab = Some(lab);
@@ -81,13 +107,16 @@ impl State {
             Err(LabFault::OutOfMemory) => NO_MEMORY,
             Err(fault) => {
                 append_diagnosis("source", source, fault, &mut self.answer);
-                REFUSED
+                match write_fault(source, fault, &mut self.json) {
+                    Ok(()) => REFUSED,
+                    Err(NoMemory) => NO_MEMORY,
+                }
             }
         }
     }
 
     /// Executes a command line, in at most `most` steps.
-    #[tactic(auto, using(crate::proofs::Bounds::command_within))]
+    #[tactic(auto, using(crate::proofs::Replying::told_reply))]
     pub(crate) fn command(&mut self, line: &[u8], most: u64) -> u32
         ensures code { result ≤ 5 }
         ensures none { is_some self.old.lab ≡ not (result == 5) }
@@ -95,27 +124,32 @@ impl State {
         ensures setup { OfLabs self.old self.new (λ l m. setup m ≡ setup (in_pieces most l)) }
         ensures obeys { result ≤ 3 → OfLabs self.old self.new (λ l. Obeys line.now (in_pieces most l)) }
         ensures follows { result ≤ 3 → OfLabs self.old self.new (λ l m. result
-            ≡ code_of (next_after line.now l.recording.session m)) }
-        ensures bound { OfLabs self.old self.new (IsWithin (call_limit (line_command line.now) most)) }
+            ≡ code_of (next_after line.now (in_pieces most l) m)) }
+        ensures json { result ≤ 3 → OfLabs self.old self.new
+            (λ l m. self.new.json.bytes ≡ reply_text m (reply_to line.now (in_pieces most l) m)) }
+        ensures bound { OfLabs self.old self.new (λ l. IsWithin (call_limit (ordered line.now (in_pieces most l)) (max most 1)) l) }
     {
-        self.answer.clear();
+        self.clear();
         match &mut self.lab {
             Some(lab) => {
                 lab.set_piece(most);
-                code_of(lab.command(line, &mut self.answer))
+                let Ok(reply) = lab.answer(line) else {
+                    return NO_MEMORY;
+                };
+                code_of(show(lab, reply, &mut self.json, &mut self.answer))
             }
             None => NO_LAB,
         }
     }
 
-    /// Answers command lines that only look.
+    /// Answers command lines that ask for nothing but an answer.
     pub(crate) fn look(&mut self, text: &[u8]) -> u32
         ensures code { (result ≡ 0) ⊎ (result ≡ 4) ⊎ (result ≡ 5) }
         ensures none { is_some self.old.lab ≡ not (result == 5) }
         ensures lab { self.new.lab ≡ self.old.lab }
         ensures looks { result ≡ 0 → IfSome self.old.lab (λ l. self.new.answer.bytes ≡ looks l (lines text.now)) }
     {
-        self.answer.clear();
+        self.clear();
         match &self.lab {
             Some(lab) => match append_looks(lab, text, &mut self.answer) {
                 Ok(()) => MORE,
@@ -126,7 +160,7 @@ impl State {
     }
 
     /// Goes on with a run, by at most `most` steps.
-    #[tactic(auto, using(crate::proofs::Bounds::piece_within))]
+    #[tactic(auto, using(crate::proofs::Bounds::piece_within, crate::proofs::Replying::told_reply))]
     pub(crate) fn go_on(&mut self, most: u64) -> u32
         ensures code { result ≤ 5 }
         ensures none { is_some self.old.lab ≡ not (result == 5) }
@@ -136,13 +170,18 @@ impl State {
             (λ l. With l.plan GoesOn (in_pieces most l)) }
         ensures follows { result ≤ 3 → OfLabs self.old self.new (λ l m. result ≡ code_of (next_of m)) }
         ensures quiet { result ≤ 3 → IfSome self.old.lab (λ l. l.plan ≡ None → self.new.answer.bytes ≡ []) }
+        ensures json { result ≤ 3 → OfLabs self.old self.new
+            (λ l m. self.new.json.bytes ≡ reply_text m (reply_on (in_pieces most l) m)) }
         ensures bound { OfLabs self.old self.new (IsWithin (max most 1)) }
     {
-        self.answer.clear();
+        self.clear();
         match &mut self.lab {
             Some(lab) => {
                 lab.set_piece(most);
-                code_of(lab.go_on(&mut self.answer))
+                let Ok(reply) = lab.go_on() else {
+                    return NO_MEMORY;
+                };
+                code_of(show(lab, reply, &mut self.json, &mut self.answer))
             }
             None => NO_LAB,
         }
