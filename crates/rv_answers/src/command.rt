@@ -62,15 +62,15 @@ pub enum Command {
 
 /// A command with its help.
 #[derive(Clone, Copy)]
-pub struct CommandRow {
+pub(crate) struct CommandRow {
     /// The command.
-    pub command: Command,
+    pub(crate) command: Command,
     /// The command with its operands.
-    pub form: &'static str,
+    pub(crate) form: &'static str,
     /// What it does.
-    pub does: &'static str,
+    pub(crate) does: &'static str,
     /// An example.
-    pub example: &'static str,
+    pub(crate) example: &'static str,
 }
 
 /// The commands by their words, in the order of the help: the first word is that of the help, and the others
@@ -305,7 +305,7 @@ static COMMANDS: [(&str, CommandRow); 25] = [
 
 /// Returns the commands by their words. A long table is read in one place, since each costs its whole proof.
 #[tactic(auto, unfolding(crate::specs::Commands::commands))]
-pub fn commands() -> &'static [(&'static str, CommandRow)]
+pub(crate) fn commands() -> &'static [(&'static str, CommandRow)]
     ensures { named result.now ≡ commands }
 {
     &COMMANDS
@@ -335,7 +335,7 @@ fn row_in(table: &'static [(&'static str, CommandRow)], word: &[u8]) -> Option<C
 }
 
 /// Returns the row of a command by its word.
-pub fn command_row(word: &[u8]) -> Option<CommandRow>
+pub(crate) fn command_row(word: &[u8]) -> Option<CommandRow>
     ensures { option_map (λ r. r.command) result ≡ command_named word.now }
 {
     row_in(commands(), word)

@@ -34,7 +34,7 @@ mod values;
 mod why_text;
 
 pub use answer::{Answer, Refusal, Why};
-pub use command::{Command, CommandRow, Move, command_named, command_row, command_word, commands};
+pub use command::{Command, Move, command_named, command_word};
 pub use devices::threshold;
 pub use explained::{
     Area, Barrier, Before, Explained, Explanation, Handler, Reason, Sum, Unfetched,
@@ -42,17 +42,11 @@ pub use explained::{
 pub use extent::{Extent, Format, read_extent};
 pub use lines::Lines;
 pub use many::{Many, push};
-pub use memory::{append_escaped, escapes};
+pub use memory::escapes;
 pub use moves::{Aim, Cleared, Ending, Given, Run, Saved, Step, Stepped, Target, Trace, Watch};
-pub use places::append_instruction;
 pub use printer::Printer;
-pub use protection::append_region;
-pub use registers::{append_changes, append_register, append_value, register_name};
-pub use render::append_answer;
 pub use rows::Row;
-pub use standing::append_halted;
 pub use states::{bits_of, clock_of, has_bit, port_of, region_of, regions_of, sources_of};
-pub use traps::append_cause;
 pub use values::{
     Bits, Cells, Clock, ControlValue, Devices, Dump, Edges, Interrupts, Place, Port, Range, Region,
     RegisterFile, RegisterValue, Registers, Rights, SourceState, Standing, Trap,

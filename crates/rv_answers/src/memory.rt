@@ -106,7 +106,7 @@ fn append_plain(byte: u8, answer: &mut Printer) {
 }
 
 /// Appends a byte as it stands in a string of the language.
-pub fn append_escaped(byte: u8, answer: &mut Printer) {
+pub(crate) fn append_escaped(byte: u8, answer: &mut Printer) {
     match escape_in(escapes(), byte) {
         Some(escape) => {
             answer.say("\\");

@@ -31,7 +31,7 @@ pub(crate) fn append_label(name: &[u8], distance: u32, answer: &mut Printer) {
 }
 
 /// Appends a word of memory and its instruction, or that no memory is there.
-pub fn append_instruction(word: Option<u32>, answer: &mut Printer) {
+pub(crate) fn append_instruction(word: Option<u32>, answer: &mut Printer) {
     let Some(word) = word else {
         return answer.say("no memory is here");
     };

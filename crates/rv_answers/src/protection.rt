@@ -11,7 +11,7 @@ fn append_rights(rights: Rights, text: &mut Printer) {
 }
 
 /// Appends an entry of protection: its bytes, and what each mode may do there.
-pub fn append_region(region: Region, text: &mut Printer) {
+pub(crate) fn append_region(region: Region, text: &mut Printer) {
     let number = region.entry as u64;
     let Some(range) = region.range else {
         return text.fill("entry %d, no byte", &[number]);

@@ -1,4 +1,4 @@
-//! The registers by their names, and which of them changed.
+//! The registers by their names.
 ghost use Rattle.std.specs.Prelude.{◌≡◌, length};
 
 use crate::Printer;
@@ -12,9 +12,6 @@ static NAMES: [&str; 32] = [
     "t5", "t6",
 ];
 
-/// The most changed registers that are told in a line.
-const MOST_TOLD: u32 = 8;
-
 /// Returns the names of the registers by number.
 fn names() -> &'static [&'static str]
     ensures { length result.now ≡ 32 }
@@ -23,12 +20,12 @@ fn names() -> &'static [&'static str]
 }
 
 /// Returns the name of a register in the calling convention.
-pub fn register_name(register: Reg) -> &'static str {
+pub(crate) fn register_name(register: Reg) -> &'static str {
     names()[register.index()]
 }
 
 /// Appends a word, and in decimal too where it is a small number.
-pub fn append_value(word: u32, answer: &mut Printer) {
+pub(crate) fn append_value(word: u32, answer: &mut Printer) {
     answer.word(word);
     if word < 1_000_000 || word >= 0xffff_f000 {
         answer.say(" (");
@@ -38,32 +35,10 @@ pub fn append_value(word: u32, answer: &mut Printer) {
 }
 
 /// Appends a register's name and value.
-pub fn append_register(register: Reg, word: u32, answer: &mut Printer) {
+pub(crate) fn append_register(register: Reg, word: u32, answer: &mut Printer) {
     answer.say(register_name(register));
     answer.say(" = ");
     append_value(word, answer);
-}
-
-/// Appends the registers that changed, each after two blanks or a comma, and returns their number.
-pub fn append_changes(before: &Registers, now: &Registers, answer: &mut Printer) -> u32 {
-    let mut told: u32 = 0;
-    for number in 0..32u8 {
-        let register = Reg::of(number);
-        let word = now[register.index()];
-        if word != before[register.index()] {
-            if told < MOST_TOLD {
-                answer.say(if told == 0 { "  " } else { ", " });
-                append_register(register, word, answer);
-            }
-            told = told.wrapping_add(1);
-        }
-    }
-    if told > MOST_TOLD {
-        answer.say(", and ");
-        answer.number(u64::from(told - MOST_TOLD));
-        answer.say(" more");
-    }
-    told
 }
 
 /// Appends a register's cell in the list of all: a star where it changed.

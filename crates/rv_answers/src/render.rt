@@ -86,8 +86,3 @@ impl Lines<'_> {
         }
     }
 }
-
-/// Appends the text of an answer, without what the console got.
-pub fn append_answer(answer: &Answer, lines: Lines, text: &mut Printer) {
-    lines.append_reply(answer, b"", text);
-}

@@ -24,7 +24,7 @@ pub(crate) fn append_step(steps: u64, mode: Mode, answer: &mut Printer) {
 }
 
 /// Appends that a board has halted.
-pub fn append_halted(code: u16, steps: u64, answer: &mut Printer) {
+pub(crate) fn append_halted(code: u16, steps: u64, answer: &mut Printer) {
     let values = [u64::from(code), steps, steps];
     answer.fill("halted with code %d after %d step%{s||s}\n", &values);
 }

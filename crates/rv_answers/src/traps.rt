@@ -23,7 +23,7 @@ pub(crate) fn cause_name(cause: u32) -> &'static str {
 }
 
 /// Appends the number of a cause, of an interrupt in hexadecimal, and its name.
-pub fn append_cause(cause: u32, answer: &mut Printer) {
+pub(crate) fn append_cause(cause: u32, answer: &mut Printer) {
     if cause < 0x8000_0000 {
         answer.number(u64::from(cause));
     } else {

@@ -5,8 +5,9 @@ use crate::explained::{
 use crate::places::append_instruction;
 use crate::protection::append_region;
 use crate::registers::register_name;
+use crate::traps::append_cause;
 use crate::values::Place;
-use crate::{Lines, Printer, append_cause};
+use crate::{Lines, Printer};
 use rv_isa::decode;
 use rv_pmp::Mode;
 
