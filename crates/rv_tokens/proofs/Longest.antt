@@ -102,3 +102,5 @@ unfolding longest
 longest_same f g zero h = refl
 longest_same f g (suc k) h =
     rw (h (suc k) (omega arith), longest_same f g k (λ m p. h m (omega arith))) refl
+
+pub ruleset longest_steps = (longest_zero, longest_at, longest_less)

@@ -1,9 +1,9 @@
 //! Numbers, characters and strings.
-ghost use Rattle.std.specs.Prelude.{◌≡◌, ◌<◌, ◌≤◌, IfSome, [], ◌∷◌, length, option_and_then};
+ghost use Rattle.std.specs.Prelude.{◌≡◌, ◌<◌, ◌≤◌, IfSome, [], ◌∷◌, length, take, option_and_then};
 ghost use Rattle.rv_base.specs.Numbers.{number_in};
 ghost use Rattle.rv_base.specs.Tables.{lookup};
 ghost use Rattle.std.specs.Option.{option_map};
-ghost use Rattle.rv_tokens.specs.Literals.{has_leading_zero, number, short_decimal, letters, escape, spelled, between};
+ghost use Rattle.rv_tokens.specs.Literals.{has_leading_zero, number, short_decimal, letters, escape, spelled, between, longest};
 ghost use Rattle.rv_tokens.specs.Support.Partial.{first_byte, has_prefix, is_plain};
 
 use rv_base::{hex_byte, number_in};
@@ -132,6 +132,23 @@ pub fn character(text: &[u8]) -> Option<u8>
     byte_between(b'\'', between(b'\'', b'\'', text)?)
 }
 
+/// Returns the byte of a string that the longest prefix of at most `most` bytes spells, and its length.
+#[tactic(auto, using(crate::proofs::Longest::longest_steps))]
+fn longest_byte(text: &[u8], most: usize) -> Option<(u8, usize)>
+    requires { most ≤ length text.now }
+    ensures longest { result ≡ longest (λ n. spelled 34 (take n text.now)) most }
+    ensures moves { IfSome result (λ found. 0 < found.1) }
+    ensures within { IfSome result (λ found. found.1 ≤ most) }
+{
+    if most == 0 {
+        return None;
+    }
+    match byte_between(b'"', &text[..most]) {
+        Some(b) => Some((b, most)),
+        None => longest_byte(text, most - 1),
+    }
+}
+
 /// Returns the first byte of a string, given the text from there to its closing quote, and the length of the
 /// byte's text.
 pub fn first_byte(text: &[u8]) -> Option<(u8, usize)>
@@ -139,12 +156,5 @@ pub fn first_byte(text: &[u8]) -> Option<(u8, usize)>
     ensures moves { IfSome result (λ found. 0 < found.1) }
     ensures within { IfSome result (λ found. found.1 ≤ length text.now) }
 {
-    let mut n = text.len().min(4);
-    while n > 0 {
-        if let Some(b) = byte_between(b'"', &text[..n]) {
-            return Some((b, n));
-        }
-        n -= 1;
-    }
-    None
+    longest_byte(text, text.len().min(4))
 }

@@ -7,7 +7,8 @@ ghost use Rattle.rv_tokens.specs.declared.fault.LineFault.{LineFault};
 ghost use Rattle.rv_tokens.specs.declared.token.Token.{Token};
 ghost use Rattle.rv_base.specs.Tables.{lookup};
 ghost use Rattle.rv_tokens.specs.Support.Cuts.{front, tokens, tokens_after};
-ghost use Rattle.rv_tokens.specs.Tokens.{is_name_start, is_name_byte, local, word, signs, is_comment, fault_at};
+ghost use Rattle.rv_tokens.specs.Literals.{longest};
+ghost use Rattle.rv_tokens.specs.Tokens.{is_name_start, is_name_byte, local, word, signs, is_comment, fault_at, token_in};
 
 use crate::literal::{character, first_byte, number, short_decimal};
 use crate::token::{Text, Token};
@@ -133,20 +134,31 @@ fn word_front<'a>(line: &'a [u8]) -> Option<(Token<'a>, usize)>
     Some((token, n))
 }
 
+/// Returns the longest token of at most `most` bytes at the front of a line that begins with `'`, and its
+/// length.
+#[tactic(auto, using(crate::proofs::Longest::longest_steps, crate::proofs::Front::character_in))]
+fn longest_character<'a>(line: &'a [u8], most: usize) -> Option<(Token<'a>, usize)>
+    requires within { most ≤ length line.now }
+    requires first { slice_index line.now 0 ≡ 39 }
+    ensures { result ≡ longest (token_in line.now) most }
+{
+    if most == 0 {
+        return None;
+    }
+    match character(&line[..most]) {
+        Some(b) => Some((Token::Character(b), most)),
+        None => longest_character(line, most - 1),
+    }
+}
+
 /// Returns the longest token at the front of a line that begins with `'`, and its length.
+#[tactic(auto, using(crate::proofs::Front::character_within))]
 fn character_front<'a>(line: &'a [u8]) -> Option<(Token<'a>, usize)>
     requires some { 0 < length line.now }
     requires first { slice_index line.now 0 ≡ 39 }
     ensures { result ≡ front line.now }
 {
-    let mut n = line.len().min(6);
-    while n > 0 {
-        if let Some(b) = character(&line[..n]) {
-            return Some((Token::Character(b), n));
-        }
-        n -= 1;
-    }
-    None
+    longest_character(line, line.len().min(6))
 }
 
 /// Returns the longest token at the front of a line that begins with `"`, and its length.
