@@ -7,7 +7,6 @@ use Rattle.std.specs.List.{flat_map}
 use Rattle.std.proofs.lemmas.List.{length-set, get_or-set_same, get_or-set_other}
 use Rattle.std.proofs.lemmas.Bool.Decides.{nat_tests}
 use Rattle.rv_base.specs.Lines.{lines}
-use Rattle.rv_base.specs.Limits.{ram_base, image_limit}
 use Rattle.rv_source.specs.Reading.{Parsed}
 use Rattle.rv_program.specs.Program.{Assembly}
 use Rattle.rv_program.specs.declared.fault.FaultKind.{FaultKind}
@@ -16,11 +15,11 @@ use Rattle.rv_asm.specs.Layout.{line_at, phase_two_fault, definitions}
 use Rattle.rv_asm.specs.Lines.{Located}
 use Rattle.rv_asm.specs.Assembly.{all_parsed, assembled}
 use Rattle.rv_asm.specs.AllFaults.{kept, faults_of}
-use Rattle.rv_asm.specs.Support.Counted.{address, blank, fault_on, faults_at, all_faults, phase_one_fault, phase_three_fault, located}
-use Rattle.rv_asm.specs.Support.Steps.{Known, Item, start, known_before, labelled, with_line, item_faults, item_listed, Written, Writes, new_among, cleared, known_after, judged, Takes, LaidOut, IsExamined}
+use Rattle.rv_asm.specs.Support.Counted.{blank, fault_on, faults_at, all_faults, phase_one_fault, phase_three_fault, located}
+use Rattle.rv_asm.specs.Support.Steps.{Known, Item, start, known_before, labelled, with_line, item_faults, item_listed, Written, Writes, cleared, known_after, judged, Takes, LaidOut, IsExamined}
 use Rattle.rv_asm.proofs.Counting.{answer, first_found, found_by, image_by, faults_none, faults_more, first_append, first_same, found_one, found_two, found_three, assembled_is, none_appended, none_last, none_before}
 use Rattle.rv_asm.proofs.Laying.{IsUpTo, phase_two_is, not_stated, up_to_before, writes_none, writes_more}
-use Rattle.rv_asm.proofs.Lined.{within_line, noted_begun, noted_more}
+use Rattle.rv_asm.proofs.Lined.{noted_begun, noted_more}
 use Rattle.rv_asm.proofs.Reading.{LeftOf, length-parsed, is_before, read_line_at}
 
 -- ---- the lines that are kept
@@ -70,24 +69,9 @@ later_line ls (suc n) k h =
     other_by (kept ls n) n k (cleared (kept ls n) n) (is_some (judged ls n)) (omega (arith, h))
     ∙ later_line ls n k (omega (arith, h))
 
--- the address of line n isn't past the largest image
-abbrev IsWithin : List Parsed → ℕ → Type 0
-IsWithin xs n = address xs n ≤ ram_base + image_limit
-
-after_faulty : (n : ℕ) (s : Known) (line : Parsed) → is_some (fault_on n s line) ≡ true →
-    known_after n s line ≡ labelled n s (new_among s line.labels)
-unfolding known_after
-after_faulty n s line e = rw e refl
-
-after_right : (n : ℕ) (s : Known) (line : Parsed) → is_some (fault_on n s line) ≡ false →
-    known_after n s line ≡ with_line n s line
-unfolding known_after
-after_right n s line e = rw e refl
-
-known_by : (xs : List Parsed) (n : ℕ) (b : Bool) → IsWithin xs n → n < length xs → is_some (phase_two_fault xs n) ≡ b →
-    known_before (cond b (set xs n (cleared xs n)) xs) (suc n)
-    ≡ known_after n (known_before xs n) (line_at xs n)
-known_by xs n true within h e =
+known_by : (xs : List Parsed) (n : ℕ) (b : Bool) → n < length xs →
+    known_before (cond b (set xs n (cleared xs n)) xs) (suc n) ≡ known_after b n (known_before xs n) (line_at xs n)
+known_by xs n true h =
     let line : Parsed = cleared xs n in
     let s : Known = known_before xs n in
     let here : line_at (set xs n line) n ≡ line = get_or-set_same xs n line blank h in
@@ -95,41 +79,20 @@ known_by xs n true within h e =
     ∙ with_same n (known_before (set xs n line) n) s (line_at (set xs n line) n) line
     (known_other xs n line n (omega arith)) here
     ∙ not_stated n (labelled n s line.labels)
-    ∙ sym (after_faulty n s (line_at xs n) (sym (ap is_some (phase_two_is xs n within)) ∙ e))
-known_by xs n false within h e =
-    one_more xs n ∙ sym (after_right n (known_before xs n) (line_at xs n) (sym (ap is_some (phase_two_is xs n within)) ∙ e))
+known_by xs n false h = one_more xs n
 
-unfaulty : (o : Option FaultKind) → is_some o ≡ false → o ≡ None
-unfaulty None h = refl
-unfaulty (Some kind) h = absurd cc
-
-within_by : (xs : List Parsed) (n : ℕ) (b : Bool) → IsWithin xs n → n < length xs → is_some (phase_two_fault xs n) ≡ b →
-    IsWithin (cond b (set xs n (cleared xs n)) xs) (suc n)
-within_by xs n true within h e =
-    let s : Known = known_before xs n in
-    let is = known_by xs n true within h e ∙ after_faulty n s (line_at xs n) (sym (ap is_some (phase_two_is xs n within)) ∙ e) in
-    let at = ap (λ (k : Known). k.address) is in
-    rw at within
-within_by xs n false within h e = within_line xs n (unfaulty (phase_two_fault xs n) e)
-
-within_kept : (ls : List Parsed) (n : ℕ) → n ≤ length ls → IsWithin (kept ls n) n
-unfolding kept known_before
-within_kept ls zero h = omega arith
-within_kept ls (suc n) h =
-    within_by (kept ls n) n (is_some (judged ls n)) (within_kept ls n (omega (arith, h))) (rw (length_kept ls n) h) refl
-
-pub judged_is : (ls : List Parsed) (n : ℕ) → n < length ls →
+pub judged_is : (ls : List Parsed) (n : ℕ) →
     judged ls n ≡ fault_on n (known_before (kept ls n) n) (line_at ls n)
-judged_is ls n h =
-    phase_two_is (kept ls n) n (within_kept ls n (omega (arith, h)))
+judged_is ls n =
+    phase_two_is (kept ls n) n
     ∙ ap (fault_on n (known_before (kept ls n) n)) (later_line ls n n (omega arith))
 
 pub known_kept : (ls : List Parsed) (n : ℕ) → n < length ls →
-    known_before (kept ls (suc n)) (suc n) ≡ known_after n (known_before (kept ls n) n) (line_at ls n)
+    known_before (kept ls (suc n)) (suc n) ≡ known_after (is_some (judged ls n)) n (known_before (kept ls n) n) (line_at ls n)
 unfolding kept
 known_kept ls n h =
-    known_by (kept ls n) n (is_some (judged ls n)) (within_kept ls n (omega (arith, h))) (rw (length_kept ls n) h) refl
-    ∙ ap (known_after n (known_before (kept ls n) n)) (later_line ls n n (omega arith))
+    known_by (kept ls n) n (is_some (judged ls n)) (rw (length_kept ls n) h)
+    ∙ ap (known_after (is_some (judged ls n)) n (known_before (kept ls n) n)) (later_line ls n n (omega arith))
 
 -- where no line is faulty all are kept
 kept_all : (ls : List Parsed) (n : ℕ) → all_faults (judged ls) n ≡ [] → kept ls n ≡ ls
@@ -168,11 +131,11 @@ module _ (texts rest : List (List ℕ)) (n : ℕ) (so : LeftOf texts rest n) (te
   before : n < length ls
   before = is_before texts rest n so text after cut
 
-  known_more : t ≡ known_before (kept ls (suc n)) (suc n)
-  known_more = takes.lays.known_is ∙ rw (laid.known_is, ← at) (sym (known_kept ls n before))
-
   fault_here : takes.fault ≡ judged ls n
-  fault_here = takes.lays.fault_is ∙ rw (laid.known_is, ← at) (sym (judged_is ls n before))
+  fault_here = takes.lays.fault_is ∙ rw (laid.known_is, ← at) (sym (judged_is ls n))
+
+  known_more : t ≡ known_before (kept ls (suc n)) (suc n)
+  known_more = takes.lays.known_is ∙ rw (fault_here, laid.known_is, ← at) (sym (known_kept ls n before))
 
   found_more : found ≡ all_faults (judged ls) (suc n)
   found_more = takes.finds ∙ rw (laid.faults_are, fault_here) (sym (faults_more (judged ls) n))

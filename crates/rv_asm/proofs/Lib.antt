@@ -1,6 +1,7 @@
 pub mod Sums
 pub mod DataBytes
-pub mod Sizes
+pub mod Rows
+pub mod Keeping
 pub mod Counting
 pub mod Laying
 pub mod Reading

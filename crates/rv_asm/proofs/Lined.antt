@@ -16,7 +16,7 @@ use Rattle.rv_asm.specs.Layout.{line_at, row_at, phase_two_fault, definitions, l
 use Rattle.rv_asm.specs.Support.Counted.{address, known_on, joined, all_faults, phase_one_fault, phase_three_fault, up_to, labels, LabelsRise, LieInOrder, AreLinesOf, located, with_line}
 use Rattle.rv_asm.specs.Support.Steps.{Known, values_of, stated, known_before, stated_bytes, bytes_by, listed as listed_of}
 use Rattle.rv_asm.proofs.Counting.{joined_none, joined_more, none_last, none_before, answer, first_found, image_by, assembled_is, joined_before, joined_same, up_to_more}
-use Rattle.rv_asm.proofs.Sizes.{statement_size}
+use Rattle.rv_asm.proofs.Rows.{statement_size}
 use Rattle.std.specs.List.Sorted.{IsNonDecreasing, IsNonDecreasingBy}
 use Rattle.std.proofs.Math.Seq.{drop-append_seam, take-append_seam}
 use Rattle.std.proofs.lemmas.List.FromFn.{length-map-range_with_len, get_or-map-range_with_len}

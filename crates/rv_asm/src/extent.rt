@@ -1,12 +1,10 @@
 //! The extent of a statement, and its faults in phase two.
-ghost use Rattle.std.specs.Prelude.{◌≡◌, ◌==◌, ◌&&◌, ◌%◌, ◌≤◌, ◌<◌, ◌+◌, ◌*◌, ℕ, List, ℤ, min, not, is_some, true, false, Some, IfOk, IfSome};
-ghost use Rattle.std.specs.Option.{option_map_or};
+ghost use Rattle.std.specs.Prelude.{◌≡◌, ◌≤◌, ◌<◌, ◌+◌, ◌*◌, ℕ, min, is_some, true, false, IfOk, IfSome};
 ghost use Rattle.std.specs.Result.{result_err};
 ghost use Rattle.rv_isa.specs.Width.{bytes_of};
-ghost use Rattle.rv_source.specs.declared.statement.Statement.{Statement};
-ghost use Rattle.rv_asm.specs.Support.Counted.{fault_stated_by, renames};
-ghost use Rattle.rv_asm.specs.Support.Statements.{values_in, asked, IsKnown, IsTaken, is_unknown, is_instruction, size_of};
-ghost use Rattle.rv_asm.specs.Support.Steps.{image_end};
+ghost use Rattle.rv_asm.specs.Layout.{redefines};
+ghost use Rattle.rv_asm.specs.Listing.{row};
+ghost use Rattle.rv_asm.specs.Support.Statements.{Valuation, IsKnown, values_in, row_by, fault_by, image_end};
 
 use crate::FaultKind;
 use crate::instructions::loading;
@@ -26,8 +24,9 @@ pub struct Extent {
 }
 
 /// Returns whether a value is in the range of the constant of a statement.
+#[tactic(auto, unfolding(crate::specs::Listing::row))]
 fn is_taken(statement: &Statement, value: i64) -> bool
-    ensures { result ≡ option_map_or (λ a. a.1 value) (asked statement.now) true }
+    ensures { (here : ℕ) → result ≡ (row_by value here statement.now).is_known }
 {
     match statement {
         Statement::Space { .. } => is_between(0, IMAGE_LIMIT as i64, value),
@@ -41,10 +40,11 @@ fn is_taken(statement: &Statement, value: i64) -> bool
 /// Returns the constant of a statement: the value that must be known on its line, because its size or a name
 /// depends on it. Other statements have the constant 0. None if the value isn't known there, or isn't in the
 /// range of the statement.
-#[tactic(auto, unfolding(crate::specs::Support::Statements::IsKnown))]
+#[tactic(auto, unfolding(crate::specs::Listing::row, crate::specs::Support::Statements::IsKnown))]
 fn constant(scope: Scope, statement: &Statement) -> Option<i64>
-    ensures unknown { is_unknown (values_in scope.entry) statement.now ≡ not (is_some result) }
+    ensures some { (row (values_in scope.entry) scope.entry.here statement.now).is_known ≡ is_some result }
     ensures known { IfSome result (λ c. IsKnown (values_in scope.entry) c statement.now) }
+    ensures taken { IfSome result (λ c. (here : ℕ) → (row_by c here statement.now).is_known ≡ true) }
 {
     let operand = match statement {
         Statement::Li { value, .. } | Statement::Constant { value, .. } => value.operand(),
@@ -66,10 +66,10 @@ fn data_size(width: Width, count: usize) -> u32
 }
 
 /// Returns the size in bytes of a statement at the address `here`, saturated at 2^32 - 1.
-#[tactic(auto, using(crate::proofs::Sizes::length_bytes, crate::proofs::Sizes::padded, crate::proofs::Sizes::space_size), unfolding(crate::specs::Values::loading, crate::specs::Support::Statements::IsTaken, crate::specs::Listing::row))]
+#[tactic(auto, using(crate::proofs::Rows::length_bytes, crate::proofs::Rows::padded, crate::proofs::Rows::space_size), unfolding(crate::specs::Values::loading, crate::specs::Listing::row))]
 fn size_of(here: u32, constant: i64, statement: &Statement) -> u32
-    requires { IsTaken constant statement.now }
-    ensures { result ≡ min (size_of constant here statement.now) 0xffffffff }
+    requires { (row_by constant here statement.now).is_known ≡ true }
+    ensures { result ≡ min (row_by constant here statement.now).size 0xffffffff }
 {
     match statement {
         Statement::Instruction(_) | Statement::WithValue { .. } => 4,
@@ -84,23 +84,25 @@ fn size_of(here: u32, constant: i64, statement: &Statement) -> u32
     }
 }
 
-/// Returns whether a statement is assembled to instructions, but its address isn't a multiple of 4.
-fn is_misplaced(here: u32, statement: &Statement) -> bool
-    ensures { result ≡ (is_instruction statement.now && not (here % 4 == 0)) }
+/// Returns of what the address of a statement has to be a multiple: 4 if it is assembled to instructions.
+#[tactic(auto, using(crate::proofs::Rows::row_steps), unfolding(crate::specs::Listing::row))]
+fn alignment(statement: &Statement) -> u32
+    ensures value { (early : Valuation) → (here : ℕ) → result ≡ (row early here statement.now).alignment }
+    ensures some { 0 < result }
 {
-    let is_instruction = matches!(
-        statement,
+    match statement {
         Statement::Instruction(_)
-            | Statement::WithValue { .. }
-            | Statement::Far { .. }
-            | Statement::Li { .. }
-    );
-    is_instruction && here % 4 != 0
+        | Statement::WithValue { .. }
+        | Statement::Far { .. }
+        | Statement::Li { .. } => 4,
+        _ => 1,
+    }
 }
 
 /// Returns whether a statement is `.equ` of a name that is already defined.
+#[tactic(auto, using(crate::proofs::Rows::row_steps), unfolding(crate::specs::Listing::row))]
 fn renames(symbols: &Symbols, statement: &Statement) -> bool
-    ensures { result ≡ renames symbols.now.names statement.now }
+    ensures { (early : Valuation) → (here : ℕ) → result ≡ redefines symbols.now.names (row early here statement.now).defines }
 {
     match statement {
         Statement::Constant { name, .. } => symbols.names.value(name.bytes()).is_some(),
@@ -109,19 +111,20 @@ fn renames(symbols: &Symbols, statement: &Statement) -> bool
 }
 
 /// Returns the extent of a statement, or its fault in phase two.
-#[tactic(auto, using(crate::proofs::Sizes::taken, crate::proofs::Sizes::past, crate::proofs::Sizes::within))]
+#[tactic(auto, using(crate::proofs::Rows::row_is, crate::proofs::Rows::past, crate::proofs::Rows::within))]
 pub fn extent_of(scope: Scope, statement: &Statement) -> Result<Extent, FaultKind>
-    ensures fault { result_err result ≡ fault_stated_by scope.entry.symbols.now.names (values_in scope.entry) scope.entry.here statement.now }
-    ensures known { IfOk result (λ e. IsKnown (values_in scope.entry) e.constant statement.now) }
-    ensures end { IfOk result (λ e. e.end ≡ scope.entry.here + size_of e.constant scope.entry.here statement.now) }
+    ensures fault { result_err result ≡ fault_by scope.entry.symbols.now.names scope.entry.here (row (values_in scope.entry) scope.entry.here statement.now) }
+    ensures row { IfOk result (λ e. row (values_in scope.entry) scope.entry.here statement.now ≡ row_by e.constant scope.entry.here statement.now) }
+    ensures known { IfOk result (λ e. (here : ℕ) → (row_by e.constant here statement.now).is_known ≡ true) }
+    ensures new { IfOk result (λ e. (here : ℕ) → redefines scope.entry.symbols.now.names (row_by e.constant here statement.now).defines ≡ false) }
+    ensures end { IfOk result (λ e. e.end ≡ scope.entry.here + (row_by e.constant scope.entry.here statement.now).size) }
     ensures within { IfOk result (λ e. e.end ≤ image_end) }
-    ensures renames { IfOk result (λ _. renames scope.entry.symbols.now.names statement.now ≡ false) }
 {
     if renames(scope.symbols, statement) {
         return Err(FaultKind::DuplicateSymbol);
     }
     let constant = constant(scope, statement).ok_or(FaultKind::NotConstant)?;
-    if is_misplaced(scope.here, statement) {
+    if scope.here % alignment(statement) != 0 {
         return Err(FaultKind::Misplaced);
     }
     let size = size_of(scope.here, constant, statement);

@@ -1,20 +1,20 @@
 //! What is kept of a statement until all symbols are known.
-ghost use Rattle.std.specs.Prelude.{◌≡◌, ℕ, map, Ok, IfOk, IfSome};
+ghost use Rattle.std.specs.Prelude.{◌≡◌, ◌∷◌, [], ℕ, map, true, Ok, IfOk, IfSome};
 ghost use Rattle.rv_source.specs.Operands.{terms_of};
 ghost use Rattle.rv_asm.specs.Symbols.{Definitions, operand_value};
-ghost use Rattle.rv_asm.specs.Listing.{bytes_in, padding, placed, space};
-ghost use Rattle.rv_asm.specs.Support.Statements.{IsTaken, statement_bytes};
-ghost use Rattle.rv_asm.specs.Support.Steps.{IsNumber, IsSum, expression_of, kept_bytes, waiting_bytes};
+ghost use Rattle.rv_asm.specs.Listing.{padding, placed, space};
+ghost use Rattle.rv_asm.specs.Support.Statements.{row_by, with_value};
+ghost use Rattle.rv_asm.specs.Support.Steps.{IsNumber, IsSum, expression_of, kept_bytes};
 
 use crate::data::{fill, pad};
 use crate::fixup::Waiting;
 use crate::instructions::{Instructions, loading};
 use crate::symbols::{Scope, added};
 use crate::values::{bits, gap};
-use rv_isa::Width;
 use rv_source::{Atom, Expression, Form, Operand, Statement, Value};
 use std::alloc::{AllocError, Global};
 use std::marker::Model;
+use std::slice::from_ref;
 
 /// Bytes that wait for nothing. The view is the list of them.
 #[derive(Drop)]
@@ -159,39 +159,26 @@ fn symbol_of<'a>(operand: &Operand<'a>) -> Option<Single<'a>>
     }
 }
 
-/// Returns what is kept of what waits for the value of an operand.
-#[tactic(auto, using(crate::proofs::Laying::one_kept, crate::proofs::Laying::waiting_kept))]
+/// Returns what is kept of what waits for the values of operands.
+#[tactic(auto, using(crate::proofs::Keeping::many_kept, crate::proofs::Keeping::one_kept))]
 fn waiting_for<'a>(
     alloc: Global,
     waiting: Waiting,
-    operand: &Operand<'a>,
+    operands: &[Operand<'a>],
 ) -> Result<Kept<'a>, AllocError>
-    ensures { IfOk result (λ k. (ds : Definitions) → (line here : ℕ) → kept_bytes ds line here k ≡ waiting_bytes here waiting (operand_value ds line here operand.now)) }
+    ensures { IfOk result (λ k. (ds : Definitions) → (line here : ℕ) → kept_bytes ds line here k ≡ placed (with_value here waiting) operands.now (operand_value ds line here)) }
 {
-    if let Some(value) = symbol_of(operand) {
-        return Ok(Kept::One { waiting, value });
-    }
-    let mut sums = Vec::with_capacity(alloc, 1)?;
-    sums.push(sum_of(alloc, operand)?)?;
-    let values = Sums(sums);
-    Ok(Kept::Many { waiting, values })
-}
-
-/// Returns what is kept of values of a width.
-#[tactic(auto, using(crate::proofs::Laying::data_kept, crate::proofs::Laying::many_kept))]
-fn data<'a>(alloc: Global, width: Width, operands: &[Operand<'a>]) -> Result<Kept<'a>, AllocError>
-    ensures { IfOk result (λ k. (ds : Definitions) → (line here : ℕ) → kept_bytes ds line here k ≡ placed (bytes_in width) operands.now (operand_value ds line here)) }
-{
-    let waiting = Waiting::Data { width };
     if let [only] = operands {
-        return waiting_for(alloc, waiting, only);
+        if let Some(value) = symbol_of(only) {
+            return Ok(Kept::One { waiting, value });
+        }
     }
     let values = sums_of(alloc, operands)?;
     Ok(Kept::Many { waiting, values })
 }
 
 /// Returns what is kept of a space of so many bytes.
-#[tactic(auto, using(crate::proofs::Laying::space_kept), unfolding(crate::specs::Support::Steps::kept_bytes))]
+#[tactic(auto, unfolding(crate::specs::Support::Steps::kept_bytes))]
 fn space<'a>(
     alloc: Global,
     count: u32,
@@ -200,7 +187,7 @@ fn space<'a>(
     ensures { IfOk result (λ k. (ds : Definitions) → (line here : ℕ) → kept_bytes ds line here k ≡ (space count byte.now).contents (operand_value ds line here)) }
 {
     if let Some(byte) = byte {
-        return waiting_for(alloc, Waiting::Fill { count }, byte.operand());
+        return waiting_for(alloc, Waiting::Fill { count }, from_ref(byte.operand()));
     }
     let mut zeros = Vec::new(alloc);
     fill(count, 0, &mut zeros)?;
@@ -218,22 +205,22 @@ fn padding<'a>(alloc: Global, count: u32) -> Result<Kept<'a>, AllocError>
 }
 
 /// Returns what is kept of a statement at an address, with its constant.
-#[tactic(auto, unfolding(crate::specs::Support::Statements::statement_bytes, crate::specs::Support::Statements::IsTaken, crate::specs::Support::Steps::kept_bytes))]
+#[tactic(auto, using(crate::proofs::Keeping::near_kept), unfolding(crate::specs::Listing::row, crate::specs::Support::Steps::kept_bytes))]
 pub fn keep<'a>(
     alloc: Global,
     here: u32,
     constant: i64,
     statement: &Statement<'_, 'a>,
 ) -> Result<Kept<'a>, AllocError>
-    requires { IsTaken constant statement.now }
-    ensures { IfOk result (λ k. (ds : Definitions) → (line : ℕ) → kept_bytes ds line here k ≡ statement_bytes constant (operand_value ds line here) here statement.now) }
+    requires { (row_by constant here statement.now).is_known ≡ true }
+    ensures { IfOk result (λ k. (ds : Definitions) → (line : ℕ) → kept_bytes ds line here k ≡ (row_by constant here statement.now).contents (operand_value ds line here)) }
 {
     match statement {
         Statement::Instruction(instr) => Ok(Kept::Instructions(Instructions::One(*instr))),
         Statement::Li { rd, .. } => Ok(Kept::Instructions(loading(*rd, bits(constant)))),
         Statement::WithValue { instr, value } => {
             let waiting = Waiting::near(*instr, value.operand());
-            waiting_for(alloc, waiting, value.operand())
+            waiting_for(alloc, waiting, from_ref(value.operand()))
         }
         Statement::Far {
             scratch,
@@ -241,9 +228,13 @@ pub fn keep<'a>(
             target,
         } => {
             let (scratch, instr) = (*scratch, *instr);
-            waiting_for(alloc, Waiting::Far { scratch, instr }, target.operand())
+            let waiting = Waiting::Far { scratch, instr };
+            waiting_for(alloc, waiting, from_ref(target.operand()))
         }
-        Statement::Data { width, values } => data(alloc, *width, values.as_slice()),
+        Statement::Data { width, values } => {
+            let waiting = Waiting::Data { width: *width };
+            waiting_for(alloc, waiting, values.as_slice())
+        }
         Statement::Bytes(strings) => {
             let mut bytes = Vec::new(alloc);
             strings.append_to(&mut bytes)?;

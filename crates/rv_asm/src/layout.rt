@@ -17,17 +17,22 @@ pub struct Known {
 }
 
 impl Model for Known {
-    ghost use Rattle.rv_asm.specs.Support.Steps.{Known};
+    ghost use Rattle.std.specs.Prelude.{◌≤◌};
+    ghost use Rattle.rv_asm.specs.Layout.{Known};
+    ghost use Rattle.rv_asm.specs.Support.Statements.{image_end};
 
     ghost Value = { Known };
 
     ghost view = { λ k. record { address = k.address; definitions = k.symbols } };
+
+    ghost invariant = { λ k. k.address ≤ image_end };
 }
 
 impl Known {
     ghost use Rattle.std.specs.Prelude.{◌≡◌, ◌≤◌, ◌<◌, ◌∷◌, [], OnOk, IfOk};
     ghost use Rattle.std.specs.List.{All};
     ghost use Rattle.rv_asm.specs.Support.Counted.{relabels};
+    ghost use Rattle.rv_asm.specs.Support.Statements.{image_end};
     ghost use Rattle.rv_asm.specs.Support.Steps.{start, labelled, LaysOut, new_among};
 
     pub fn new(alloc: Global) -> Self
@@ -98,6 +103,7 @@ impl Known {
         ensures symbols { result.symbols.now ≡ self.now.definitions }
         ensures line { result.line ≡ line }
         ensures here { result.here ≡ self.now.address }
+        ensures within { self.now.address ≤ image_end }
     {
         Scope {
             symbols: self.symbols(),
@@ -109,7 +115,7 @@ impl Known {
     /// Lays out one more line: defines its labels and places its statement. Returns its fault in phase two, if
     /// it has one: then its statement is left out, and so are labels that define a name a second time. `number`
     /// counts from 0.
-    #[tactic(auto, using(crate::proofs::Laying::not_some, crate::proofs::Sizes::taken))]
+    #[tactic(auto, using(crate::proofs::Laying::not_some))]
     pub fn add<'a>(
         &mut self,
         alloc: Global,
@@ -125,10 +131,11 @@ impl Known {
         if self.new_labels(alloc, number, labels)? {
             return Ok(Some(FaultKind::DuplicateSymbol));
         }
+        let scope = self.scope(number);
         let Some(statement) = statement else {
             return Ok(None);
         };
-        let extent = match extent_of(self.scope(number), statement) {
+        let extent = match extent_of(scope, statement) {
             Ok(extent) => extent,
             Err(kind) => return Ok(Some(kind)),
         };

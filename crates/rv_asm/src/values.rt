@@ -94,7 +94,7 @@ fn even_between(low: i64, high: i64, offset: i64) -> Option<i32>
 }
 
 /// Returns the distance from `jal` to its target, if it is even and in range.
-#[tactic(auto, using(crate::proofs::Sizes::jump_within))]
+#[tactic(auto, using(crate::proofs::Rows::jump_within))]
 pub fn jump_distance(here: u32, target: i64) -> Option<i32>
     ensures value { result ≡ distance (2 ^ 20) here target }
     ensures within { IfSome result (IsDistance (2 ^ 20)) }
@@ -104,7 +104,7 @@ pub fn jump_distance(here: u32, target: i64) -> Option<i32>
 }
 
 /// Returns the distance from a branch to its target, if it is even and in range.
-#[tactic(auto, using(crate::proofs::Sizes::branch_within))]
+#[tactic(auto, using(crate::proofs::Rows::branch_within))]
 pub fn branch_distance(here: u32, target: i64) -> Option<i32>
     ensures value { result ≡ distance (2 ^ 12) here target }
     ensures within { IfSome result (IsDistance (2 ^ 12)) }

@@ -1,24 +1,19 @@
 -- What is said of all lines by their numbers, and the lines of a listing.
 -- The language is this project's own: docs/ASSEMBLER.md.
 -- Not to audit: private contracts alone cite this.
-use Rattle.std.specs.Prelude.{ℕ, suc, ◌+◌, ◌%◌, Bool, false, not, ◌&&◌, ◌==◌, nat_lt, ℤ, is_some, option_and_then, List, [], ◌∷◌, ◌++◌, map, length, get_or, Option, Some, None, if◌then◌else◌, Ok, ◌≡◌, ◌<◌}
+use Rattle.std.specs.Prelude.{ℕ, suc, Bool, ℤ, List, [], ◌∷◌, ◌++◌, map, length, get_or, Option, Some, None, if◌then◌else◌, Ok, ◌≡◌, ◌<◌}
 use Rattle.std.specs.List.{flat_map, range_with_len}
 use Rattle.std.specs.Option.{option_map}
 use Rattle.std.specs.Result.{result_err}
 use Rattle.rv_base.specs.Lines.{lines}
 use Rattle.rv_source.specs.Reading.{Parsed, parsed as parsed_of}
-use Rattle.rv_base.specs.Limits.{ram_base, image_limit}
+use Rattle.rv_base.specs.Limits.{ram_base}
 use Rattle.rv_source.specs.declared.line.Label.{Label}
-use Rattle.rv_source.specs.declared.statement.Statement.{Statement}
-use Rattle.rv_source.specs.declared.statement.Statement.TheVariants as s
-use Rattle.rv_program.specs.declared.fault.FaultKind.TheVariants.{DuplicateSymbol, NotConstant, Misplaced, TooLarge}
-use Rattle.rv_base.specs.Tables.{lookup}
-use Rattle.rv_asm.specs.Symbols.{operand_value}
-use Rattle.rv_asm.specs.Listing.{row}
-use Rattle.rv_asm.specs.Support.Statements.{Valuation, is_unknown, is_instruction}
+use Rattle.rv_program.specs.declared.fault.FaultKind.TheVariants.{DuplicateSymbol}
+use Rattle.rv_asm.specs.Support.Statements.{fault_by}
 use Rattle.rv_program.specs.declared.fault.FaultKind.{FaultKind}
 use Rattle.rv_program.specs.declared.fault.AsmFault.{AsmFault}
-use Rattle.rv_asm.specs.Layout.{Known, line_at, known_before, labelled, labels_in, names_in, redefines}
+use Rattle.rv_asm.specs.Layout.{Known, line_at, row_at, known_before, labelled, labels_in, names_in, redefines}
 pub use Rattle.rv_asm.specs.Layout.{address}
 use Rattle.rv_program.specs.Faults.{kind_of}
 use Rattle.rv_asm.specs.Assembly.{all_parsed, line_bytes, faults_in}
@@ -75,31 +70,12 @@ labels parsed n = joined (λ k. labels_in (address parsed k) (line_at parsed k).
 abbrev pub relabels : Known → List Label → Bool
 relabels known ls = redefines known.definitions.names (names_in known.address ls)
 
--- whether `.equ` defines a name that is already defined
-abbrev pub renames : List (List ℕ × ℤ) → Statement → Bool
-renames known (s.Constant name x) = is_some (lookup name known)
-renames known statement = false
-
--- `row_fault` of Layout, by `renames` and the value that must be known
-abbrev pub fault_stated_by : List (List ℕ × ℤ) → Valuation → ℕ → Statement → Option FaultKind
-fault_stated_by known early here statement =
-    if renames known statement then Some DuplicateSymbol
-    else (if is_unknown early statement then Some NotConstant
-    else (if is_instruction statement && not (here % 4 == 0) then Some Misplaced
-    else (if nat_lt (ram_base + image_limit) (here + (row early here statement).size) then Some TooLarge
-    else None)))
-
--- the fault in phase two of a statement of line k, by what is known at it
-abbrev pub fault_stated : ℕ → Known → Option Statement → Option FaultKind
-fault_stated k known statement = option_and_then
-    (fault_stated_by known.definitions.names (operand_value known.definitions k known.address) known.address)
-    statement
-
 -- `phase_two_fault`, by what is known before the line
 unfoldable pub fault_on : ℕ → Known → Parsed → Option FaultKind
 fault_on k known line =
+    let on = labelled k known line.labels in
     if relabels known line.labels then Some DuplicateSymbol
-    else fault_stated k (labelled k known line.labels) line.statement
+    else fault_by on.definitions.names known.address (row_at k on line.statement)
 
 -- the fault of line k, if it has one
 abbrev pub faults_at : ℕ → Option FaultKind → List AsmFault

@@ -2,21 +2,21 @@
 -- all symbols are known; results whose faults have no line yet; and lists of local labels.
 -- The language is this project's own: docs/ASSEMBLER.md.
 -- Not to audit: private contracts alone cite this.
-use Rattle.std.specs.Prelude.{◌≡◌, ℕ, ◌^◌, Bool, true, false, not, List, [], ◌∷◌, replicate, ℤ, pos, Option, Some, None, Result, Ok, Err, zero, suc, filter, ◌++◌, negsuc, ◌+ℤ◌, ◌-ℤ◌, ◌≤ℤ◌, ◌==◌, if◌then◌else◌, get_or, slice_get, option_and_then, is_none}
-use Rattle.std.specs.Option.{unwrap_or, option_map, option_map_or, ok_or}
-use Rattle.rv_base.specs.Limits.{image_limit}
+use Rattle.std.specs.Prelude.{◌≡◌, ℕ, ◌+◌, ◌%◌, ◌^◌, nat_lt, Bool, not, List, [], ◌∷◌, replicate, ℤ, pos, Option, Some, None, Result, Ok, Err, zero, suc, filter, ◌++◌, negsuc, ◌+ℤ◌, ◌-ℤ◌, ◌≤ℤ◌, ◌==◌, if◌then◌else◌, get_or, slice_get, option_and_then, is_none}
+use Rattle.std.specs.Option.{unwrap_or, option_map, ok_or}
+use Rattle.rv_base.specs.Limits.{ram_base, image_limit}
 use Rattle.rv_isa.specs.Number.{modulo}
-use Rattle.rv_source.specs.Support.Partial.{part_of}
 use Rattle.rv_source.specs.declared.operand.Operand.{Operand}
 use Rattle.rv_source.specs.declared.statement.Statement.{Statement}
 use Rattle.rv_source.specs.declared.statement.Statement.TheVariants as s
 use Rattle.rv_program.specs.declared.fault.FaultKind.{FaultKind}
-use Rattle.rv_asm.specs.Values.{is_between, is_word, loading, gap, field, far, hi, lo}
-use Rattle.rv_asm.specs.Listing.{◌>>=◌, bytes, bytes_in, placed, is_multiple, padding, row, code, space}
+use Rattle.rv_asm.specs.Values.{is_word, field, far, hi, lo}
+use Rattle.rv_asm.specs.Listing.{◌>>=◌, Row, bytes_in, row, code}
+use Rattle.rv_asm.specs.Layout.{redefines}
 use Rattle.std.specs.List.{list_any, flat_map}
 use Rattle.rv_source.specs.declared.expression.Term.{Term}
 use Rattle.rv_source.specs.declared.operand.Part.{Part}
-use Rattle.rv_program.specs.declared.fault.FaultKind.TheVariants.{OutOfMemory, Undefined, OutOfRange}
+use Rattle.rv_program.specs.declared.fault.FaultKind.TheVariants.{OutOfMemory, Undefined, OutOfRange, DuplicateSymbol, NotConstant, Misplaced, TooLarge}
 use Rattle.rv_asm.specs.declared.locals.LocalLabel.{LocalLabel}
 use Rattle.rv_isa.specs.declared.kind.Kind.{Kind}
 use Rattle.rv_isa.specs.declared.kind.Kind.TheVariants.{OpImm, Auipc}
@@ -118,65 +118,36 @@ pub record IsNear (n : ℕ) (v : ℤ) : Type 0 where
   pub low : pos 0 ≤ℤ (v +ℤ pos n)
   pub high : v ≤ℤ pos n
 
--- ---- the rows of statements, by their constants
+-- ---- rows by the value that must be known
 
--- the operand whose value must be known on the line of the statement, and the test that it has to pass
-abbrev pub asked : Statement → Option (Operand × (ℤ → Bool))
-asked (s.Li rd x) = Some (x, is_word)
-asked (s.Space size fill) = Some (size, is_between (pos 0) (pos image_limit))
-asked (s.Align power) = Some (power, is_between (pos 0) (pos 12))
-asked (s.Balign multiple) = Some (multiple, is_multiple)
-asked (s.Constant name x) = Some (x, is_word)
+-- the address following the largest image
+abbrev pub image_end : ℕ
+image_end = ram_base + image_limit
+
+-- the operand whose value must be known on the line of the statement
+abbrev pub asked : Statement → Option Operand
+asked (s.Li rd x) = Some x
+asked (s.Space size fill) = Some size
+asked (s.Align power) = Some power
+asked (s.Balign multiple) = Some multiple
+asked (s.Constant name x) = Some x
 asked statement = None
 
--- whether that value isn't known, or fails its test
-abbrev pub is_unknown : Valuation → Statement → Bool
-is_unknown early statement =
-    option_map_or (λ a. not (option_map_or a.1 (early a.0) false)) (asked statement) false
-
--- whether a statement is assembled to instructions
-abbrev pub is_instruction : Statement → Bool
-is_instruction (s.Instruction kind) = true
-is_instruction (s.WithValue kind x) = true
-is_instruction (s.Far scratch kind x) = true
-is_instruction (s.Li rd x) = true
-is_instruction statement = false
-
--- the number of bytes of a statement at an address: that of its row
-abbrev pub size_of : ℤ → ℕ → Statement → ℕ
-size_of c here statement = (row (λ x. Some c) here statement).size
-
--- the name that `.equ` defines, with its value
-abbrev pub constant_in : ℤ → Statement → List (List ℕ × ℤ)
-constant_in c (s.Constant name x) = (name, c) ∷ []
-constant_in c statement = []
-
--- its bytes, or its fault in phase three
-unfoldable pub statement_bytes : ℤ → Valuation → ℕ → Statement → Result (List ℕ) FaultKind
-statement_bytes c late here (s.Instruction kind) = Ok (bytes (kind ∷ []))
-statement_bytes c late here (s.WithValue kind x) = wanted (near here kind (part_of x)) (late x)
-statement_bytes c late here (s.Far scratch kind x) = wanted (pair here scratch kind) (late x)
-statement_bytes c late here (s.Li rd x) = Ok (bytes (loading rd (modulo c (2 ^ 32))))
-statement_bytes c late here (s.Data width xs) = placed (bytes_in width) xs late
-statement_bytes c late here (s.Bytes bs) = Ok bs
-statement_bytes c late here (s.Space size fill) = (space (modulo c (2 ^ 32)) fill).contents late
-statement_bytes c late here (s.Align power) = Ok (padding (gap here (2 ^ modulo c (2 ^ 32))))
-statement_bytes c late here (s.Balign multiple) = Ok (padding (gap here (modulo c (2 ^ 32))))
-statement_bytes c late here (s.Constant name x) = Ok []
-statement_bytes c late here s.Marker = Ok []
-
--- ---- constants
-
--- c is the value that must be known, and passes its test; 0 if there is none
+-- c is that value; 0 if there is none
 unfoldable pub IsKnown : Valuation → ℤ → Statement → Type 0
-IsKnown early c statement = elim (asked statement) as (λ _. Type 0) [
-  | None ↦ c ≡ pos 0
-  | Some a ↦ (early a.0 ≡ Some c) × (a.1 c ≡ true)
-]
+IsKnown early c statement = elim (asked statement) as (λ _. Type 0) [ None ↦ c ≡ pos 0 | Some x ↦ early x ≡ Some c ]
 
--- c passes its test
-unfoldable pub IsTaken : ℤ → Statement → Type 0
-IsTaken c statement = elim (asked statement) as (λ _. Type 0) [ None ↦ c ≡ pos 0 | Some a ↦ a.1 c ≡ true ]
+-- the row of a statement by it
+abbrev pub row_by : ℤ → ℕ → Statement → Row
+row_by c here statement = row (λ x. Some c) here statement
+
+-- the fault in phase two of what has a row, at an address, by the names that are defined before it
+abbrev pub fault_by : List (List ℕ × ℤ) → ℕ → Row → Option FaultKind
+fault_by known here r =
+    if redefines known r.defines then Some DuplicateSymbol
+    else (if not r.is_known then Some NotConstant
+    else (if not (here % r.alignment == 0) then Some Misplaced
+    else (if nat_lt image_end (here + r.size) then Some TooLarge else None)))
 
 -- ---- lists of local labels
 

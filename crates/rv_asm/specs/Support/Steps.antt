@@ -1,10 +1,10 @@
 -- The states of the assembler from line to line. proofs/ proves that they add up to Assembly.antt.
 -- Not to audit: private contracts alone cite this.
-use Rattle.std.specs.Prelude.{◌≡◌, ℕ, ◌+◌, false, List, [], ◌∷◌, ◌++◌, ℤ, pos, Option, Some, Result, Ok, Err, length, None, is_some, if◌then◌else◌}
+use Rattle.std.specs.Prelude.{◌≡◌, ℕ, Bool, false, List, [], ◌∷◌, ◌++◌, ℤ, pos, Option, Some, Result, Ok, Err, length, None, is_some, if◌then◌else◌}
 use Rattle.std.specs.List.{flat_map}
 use Rattle.std.specs.Option.{option_map}
 use Rattle.std.specs.Result.{result_err, result_unwrap_or}
-use Rattle.rv_base.specs.Limits.{ram_base, image_limit}
+use Rattle.rv_base.specs.Limits.{ram_base}
 use Rattle.rv_source.specs.Reading.{Parsed, parsed}
 use Rattle.rv_source.specs.declared.expression.Atom.{Atom}
 use Rattle.rv_source.specs.declared.expression.Atom.TheVariants.{Number}
@@ -30,10 +30,6 @@ use Rattle.rv_source.specs.declared.line.Label.{Label}
 use Rattle.rv_asm.specs.Lines.{Located}
 use Rattle.rv_asm.specs.Assembly.{all_parsed, assembled}
 use Rattle.rv_asm.specs.AllFaults.{new_labels, kept, faults_of}
-
--- the address following the largest image
-abbrev pub image_end : ℕ
-image_end = ram_base + image_limit
 
 -- ---- what is kept of a statement
 
@@ -151,10 +147,9 @@ abbrev pub new_among : Known → List Label → List Label
 new_among known ls = new_labels known.address known.definitions.names ls
 
 -- what is known after line k, which is cleared if it is faulty
-unfoldable pub known_after : ℕ → Known → Parsed → Known
-known_after k known line =
-    if is_some (fault_on k known line) then labelled k known (new_among known line.labels)
-    else with_line k known line
+abbrev pub known_after : Bool → ℕ → Known → Parsed → Known
+known_after faulty k known line =
+    if faulty then labelled k known (new_among known line.labels) else with_line k known line
 
 -- the fault of line k in phase two, judged by the lines that are kept before it
 abbrev pub judged : List Parsed → ℕ → Option FaultKind
@@ -164,7 +159,7 @@ judged lines k = phase_two_fault (kept lines k) k
 pub record LaysOut (k : ℕ) (known : Known) (line : Parsed) (fault : Option FaultKind) (after : Known)
     (old new : List Item) : Type 0 where
   pub fault_is : fault ≡ fault_on k known line
-  pub known_is : after ≡ known_after k known line
+  pub known_is : after ≡ known_after (is_some fault) k known line
   pub adds : fault ≡ None → AddsLine k known line old new
 
 -- line k is read and laid out, its fault is appended, and it is noted
