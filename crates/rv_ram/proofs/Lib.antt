@@ -1,4 +1,5 @@
 pub mod Blank
+pub mod Blocks
 pub mod Put
 pub mod Table
 pub mod Value

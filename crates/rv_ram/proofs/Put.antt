@@ -1,36 +1,42 @@
 -- Writes of values to lists of bytes.
-use Rattle.std.proofs.Common.{◌≡◌, ℕ, zero, suc, ◌+◌, ◌-◌, ◌/◌, ◌%◌, ◌^◌, ◌≤◌, List, ◌++◌, true, length, slice_set, arith, refl, ap, ◌∙◌}
+use Rattle.std.proofs.Common.{◌≡◌, ℕ, zero, suc, ◌+◌, ◌-◌, ◌/◌, ◌%◌, ◌^◌, ◌≤◌, List, ◌++◌, true, length, slice_index, slice_set, ◌<◌, sym, arith, refl, ap, ◌∙◌}
 use Rattle.std.proofs.Math.ListN.{set}
 use Rattle.std.proofs.lemmas.Bool.{eqb-true}
-use Rattle.std.proofs.lemmas.List.{set-append_left, set-append_right, length-set}
+use Rattle.std.proofs.lemmas.List.{set-append_left, set-append_right, set-get_or, length-set}
 use Rattle.rv_isa.specs.declared.op.Width.{Width}
 use Rattle.rv_isa.specs.declared.op.Width.TheVariants.{One, Two, Four}
 use Rattle.rv_isa.specs.Width.{bytes_of}
-use Rattle.rv_ram.specs.Bytes.{zeros, put}
+use Rattle.rv_ram.specs.Bytes.{put}
 use Rattle.rv_ram.specs.Support.Pages.{is_zero}
-use Rattle.rv_ram.proofs.Zeros.{set_zero}
 
 -- ---- a write of zeros changes nothing among zeros
 
-one_more : (n i k v : ℕ) → v / 256 ^ k % 256 ≡ 0 → put (zeros n) i k v ≡ zeros n
-    → put (zeros n) i (suc k) v ≡ zeros n
+one_more : (bs : List ℕ) (i k v : ℕ) → v / 256 ^ k % 256 ≡ 0 → slice_index bs (i + k) ≡ 0 → put bs i k v ≡ bs
+    → put bs i (suc k) v ≡ bs
 unfolding put
-one_more n i k v z e = ap (λ xs. slice_set xs (i + k) (v / 256 ^ k % 256)) e ∙ set_zero n (i + k) _ z
+one_more bs i k v z h e =
+    ap (λ xs. slice_set xs (i + k) (v / 256 ^ k % 256)) e
+    ∙ (ap (slice_set bs (i + k)) (z ∙ sym h) ∙ set-get_or bs (i + k) 0)
 
-none : (n i v : ℕ) → put (zeros n) i 0 v ≡ zeros n
+none : (bs : List ℕ) (i v : ℕ) → put bs i 0 v ≡ bs
 unfolding put
-none n i v = refl
+none bs i v = refl
 
-pub put_zeros : (n i v : ℕ) (w : Width) → is_zero w v ≡ true → put (zeros n) i (bytes_of w) v ≡ zeros n
-put_zeros n i v One z =
-    let e : v % 256 ≡ 0 = eqb-true (v % 256) 0 z in one_more n i 0 v (omega arith) (none n i v)
-put_zeros n i v Two z =
+pub put_zeros : (bs : List ℕ) (i v : ℕ) (w : Width)
+    → ((k : ℕ) → k < bytes_of w → slice_index bs (i + k) ≡ 0) → is_zero w v ≡ true
+    → put bs i (bytes_of w) v ≡ bs
+put_zeros bs i v One h z =
+    let e : v % 256 ≡ 0 = eqb-true (v % 256) 0 z in
+    one_more bs i 0 v (omega arith) (h 0 (omega arith)) (none bs i v)
+put_zeros bs i v Two h z =
     let e : v % 65536 ≡ 0 = eqb-true (v % 65536) 0 z in
-    one_more n i 1 v (omega arith) (one_more n i 0 v (omega arith) (none n i v))
-put_zeros n i v Four z =
+    one_more bs i 1 v (omega arith) (h 1 (omega arith))
+    (one_more bs i 0 v (omega arith) (h 0 (omega arith)) (none bs i v))
+put_zeros bs i v Four h z =
     let e : v ≡ 0 = eqb-true v 0 z in
-    one_more n i 3 v (omega arith) (one_more n i 2 v (omega arith)
-    (one_more n i 1 v (omega arith) (one_more n i 0 v (omega arith) (none n i v))))
+    one_more bs i 3 v (omega arith) (h 3 (omega arith)) (one_more bs i 2 v (omega arith) (h 2 (omega arith))
+    (one_more bs i 1 v (omega arith) (h 1 (omega arith))
+    (one_more bs i 0 v (omega arith) (h 0 (omega arith)) (none bs i v))))
 
 -- ---- writes by their bytes
 

@@ -1,58 +1,14 @@
 -- A memory as the table of its pages.
-use Rattle.std.proofs.Common.{◌≡◌, ℕ, zero, suc, ◌+◌, ◌-◌, ◌*◌, ◌/◌, ◌%◌, ◌<◌, ◌≤◌, List, [], ◌∷◌, ◌++◌, true, false, length, get_or, slice_index, slice_index_or, replicate, arith, refl, sym, ap, ◌∙◌, length-append}
+use Rattle.std.proofs.Common.{◌≡◌, ℕ, zero, suc, ◌+◌, ◌-◌, ◌*◌, ◌/◌, ◌%◌, ◌<◌, ◌≤◌, List, [], ◌∷◌, ◌++◌, false, length, get_or, slice_index_or, arith, refl, sym, ap, ◌∙◌, length-append}
 use Rattle.std.proofs.Math.ListN.{set}
-use Rattle.std.proofs.lemmas.Grind.{replicate_next}
-use Rattle.std.proofs.lemmas.List.{get_or_append_left, get_or-append_right, length-replicate, length-set}
+use Rattle.std.proofs.lemmas.List.{get_or_append_left, get_or-append_right}
 use Rattle.rv_isa.specs.declared.op.Width.{Width}
 use Rattle.rv_isa.specs.declared.op.Width.TheVariants.{One, Two, Four}
 use Rattle.rv_isa.specs.Width.{bytes_of}
-use Rattle.rv_ram.specs.Bytes.{zeros, put, value_at}
-use Rattle.rv_ram.specs.Support.Pages.{is_zero, none_made}
-use Rattle.rv_ram.specs.Support.Table.{PageState, new_page, page_of, all_bytes, made_of, HasWholePages, IsTable, new_table}
-use Rattle.rv_ram.proofs.Zeros.{length_zeros, append_zeros, no_zeros, get_zeros}
-use Rattle.rv_ram.proofs.Put.{put_zeros, put_left, put_right}
-use Rattle.rv_ram.proofs.Value.{no_value, same_value, zero_value}
-
--- a byte that is kept of a page is that of the page
-pub byte_of : (xs : List ℕ) (at : ℕ) → slice_index xs at ≡ slice_index (page_of xs).bytes at
-byte_of [] at = sym (get_zeros 4096 at)
-byte_of (x ∷ xs) at = refl
-
--- a word that is kept of a page is that of the page
-pub word_of_page : (xs : List ℕ) (at : ℕ) → value_at xs at 4 ≡ value_at (page_of xs).bytes at 4
-word_of_page [] at = no_value at 4 ∙ sym (zero_value 4096 at 4)
-word_of_page (x ∷ xs) at = refl
-
--- ---- a page that does not exist, of which no byte is kept
-pub no_byte : (xs : List ℕ) (at : ℕ) → length xs ≡ 0 → 0 ≡ slice_index (page_of xs).bytes at
-no_byte [] at l = sym (get_zeros 4096 at)
-no_byte (x ∷ xs) at l = absurd (omega arith)
-
-pub no_word : (xs : List ℕ) (at : ℕ) → length xs ≡ 0 → 0 ≡ value_at (page_of xs).bytes at 4
-no_word [] at l = sym (zero_value 4096 at 4)
-no_word (x ∷ xs) at l = absurd (omega arith)
-
-pub put_unmade : (xs : List ℕ) (i v : ℕ) (w : Width) → length xs ≡ 0 → is_zero w v ≡ true
-    → (page_of xs).bytes ≡ put (page_of xs).bytes i (bytes_of w) v
-put_unmade [] i v w l z = sym (put_zeros 4096 i v w z)
-put_unmade (x ∷ xs) i v w l z = absurd (omega arith)
-
-pub unmade_bytes : (xs : List ℕ) → length xs ≡ 0 → (page_of xs).bytes ≡ zeros 4096
-unmade_bytes [] l = refl
-unmade_bytes (x ∷ xs) l = absurd (omega arith)
-
-pub unmade : (xs : List ℕ) → length xs ≡ 0 → (page_of xs).made ≡ false
-unmade [] l = refl
-unmade (x ∷ xs) l = absurd (omega arith)
-
--- ---- a page that exists, of which its bytes are kept
-pub made_bytes : (xs : List ℕ) → 0 < length xs → (page_of xs).bytes ≡ xs
-made_bytes [] l = absurd (omega arith)
-made_bytes (x ∷ xs) l = refl
-
-pub is_made_page : (xs : List ℕ) → 0 < length xs → (page_of xs).made ≡ true
-is_made_page [] l = absurd (omega arith)
-is_made_page (x ∷ xs) l = refl
+use Rattle.rv_ram.specs.Bytes.{put, value_at}
+use Rattle.rv_ram.specs.Support.Table.{PageState, all_bytes, made_of, HasWholePages}
+use Rattle.rv_ram.proofs.Put.{put_left, put_right}
+use Rattle.rv_ram.proofs.Value.{same_value}
 
 pub length_all_bytes : (ps : List PageState) → HasWholePages ps → length (all_bytes ps) ≡ 4096 * length ps
 length_all_bytes [] w = refl
@@ -141,14 +97,6 @@ whole_pages_set [] i q h l = h
 whole_pages_set (p ∷ ps) zero q h l = (l, h.1)
 whole_pages_set (p ∷ ps) (suc i) q h l = (h.0, whole_pages_set ps i q h.1 l)
 
-pub is_table_set : (ps : List PageState) (i : ℕ) (q : PageState) → IsTable ps → length q.bytes ≡ 4096
-    → IsTable (set ps i q)
-is_table_set ps i q t l = record {
-  some = omega (arith, length-set ps i q, t.some);
-  most = omega (arith, length-set ps i q, t.most);
-  whole = whole_pages_set ps i q t.whole l;
-}
-
 pub made_of_set : (ps : List PageState) (i : ℕ) (q : PageState)
     → made_of (set ps i q) ≡ set (made_of ps) i q.made
 made_of_set [] i q = refl
@@ -164,40 +112,3 @@ made_of_get (p ∷ ps) (suc i) d l = made_of_get ps i d (omega arith)
 pub index_in : (ps : List PageState) (off n : ℕ) → HasWholePages ps → 0 < n
     → off + n ≤ length (all_bytes ps) → off / 4096 < length ps
 index_in ps off n w z l = omega (arith, length_all_bytes ps w)
-
--- ---- a table of new pages
-whole_pages_new : (n : ℕ) → HasWholePages (new_table n)
-unfolding new_table
-whole_pages_new zero = tt
-whole_pages_new (suc n) = (length_zeros 4096, whole_pages_new n)
-
-pub length_new : (n : ℕ) → length (new_table n) ≡ n
-unfolding new_table
-length_new n = length-replicate n new_page
-
-pub is_table_new : (n : ℕ) → 1 ≤ n → n ≤ 4096 → IsTable (new_table n)
-is_table_new n s m = record {
-  some = omega (arith, length_new n);
-  most = omega (arith, length_new n);
-  whole = whole_pages_new n;
-}
-
-pub new_zero : new_table 0 ≡ []
-unfolding new_table
-new_zero = refl
-
-pub new_more : (n : ℕ) → new_table (n + 1) ≡ new_table n ++ new_page ∷ []
-unfolding new_table
-new_more n = replicate_next n new_page
-
-pub all_bytes_new : (n : ℕ) → all_bytes (new_table n) ≡ zeros (4096 * n)
-unfolding new_table
-all_bytes_new zero = sym no_zeros
-all_bytes_new (suc n) =
-    let e : 4096 + 4096 * n ≡ 4096 * suc n = omega arith in
-    ap (λ bs. zeros 4096 ++ bs) (all_bytes_new n) ∙ (append_zeros 4096 (4096 * n) ∙ ap zeros e)
-
-pub made_new : (n : ℕ) → made_of (new_table n) ≡ none_made n
-unfolding new_table none_made
-made_new zero = refl
-made_new (suc n) = ap (λ ms. false ∷ ms) (made_new n)

@@ -1,5 +1,5 @@
 -- Lists of zeros.
-use Rattle.std.proofs.Common.{◌≡◌, ℕ, zero, suc, ◌+◌, ◌-◌, [], ◌∷◌, ◌++◌, length, drop, slice_index, slice_set, refl, ap, ◌∙◌}
+use Rattle.std.proofs.Common.{◌≡◌, ℕ, zero, suc, ◌+◌, ◌-◌, [], ◌++◌, length, drop, slice_index, refl}
 use Rattle.std.proofs.lemmas.List.{length-replicate, drop-replicate, replicate-append-replicate}
 use Rattle.rv_ram.specs.Bytes.{zeros}
 
@@ -24,13 +24,3 @@ unfolding zeros
 get_zeros zero i = refl
 get_zeros (suc n) zero = refl
 get_zeros (suc n) (suc i) = get_zeros n i
-
-set_zeros : (n i : ℕ) → slice_set (zeros n) i 0 ≡ zeros n
-unfolding zeros
-set_zeros zero i = refl
-set_zeros (suc n) zero = refl
-set_zeros (suc n) (suc i) = ap (λ xs. 0 ∷ xs) (set_zeros n i)
-
--- a zero written among zeros changes nothing
-pub set_zero : (n i x : ℕ) → x ≡ 0 → slice_set (zeros n) i x ≡ zeros n
-set_zero n i x e = ap (λ y. slice_set (zeros n) i y) e ∙ set_zeros n i

@@ -5,7 +5,6 @@
 #![tactic(auto)]
 
 mod flat;
-mod page;
 mod paged;
 mod values;
 

@@ -1,10 +1,18 @@
 //! Values in a slice of bytes, low byte first.
-ghost use Rattle.std.specs.Prelude.{◌≡◌, ◌+◌, ◌*◌, ◌≤◌, length};
+ghost use Rattle.std.specs.Prelude.{◌≡◌, ◌+◌, ◌*◌, ◌<◌, ◌≤◌, length, slice_index};
 ghost use Rattle.rv_isa.specs.Width.{bytes_of};
 ghost use Rattle.rv_ram.specs.Bytes.{value_at, put};
 ghost use Rattle.rv_ram.specs.Support.Pages.{is_zero};
 
 use rv_isa::Width;
+
+/// Returns the byte at an index.
+pub fn byte_of(bytes: &[u8], at: usize) -> u8
+    requires { at < length bytes.now }
+    ensures { result ≡ slice_index bytes.now at }
+{
+    bytes[at]
+}
 
 /// Returns the word at an index: four neighbouring bytes, which the compiler reads at once.
 #[tactic(auto, using(crate::proofs::Value::word_value))]
