@@ -1,0 +1,2 @@
+pub mod Elf
+pub mod Support
