@@ -1,0 +1,181 @@
+-- The rows that are read back from a line table.
+use Rattle.std.proofs.Common.{◌≡◌, ◌∙◌, ℕ, zero, suc, ◌+◌, ◌-◌, ◌*◌, ◌/◌, ◌%◌, ◌^◌, ◌<◌, ◌≤◌, Bool, true, false, List, [], ◌∷◌, ◌++◌, take, drop, length, map, ℤ, pos, negsuc, Some, refl, sym, ap, ap₂, arith, append_assoc, length-append, ⊎_elim}
+use Rattle.std.specs.Prelude.{◌+ℤ◌}
+use Rattle.std.proofs.lemmas.Bool.{cases_lt}
+use Rattle.std.proofs.lemmas.Bool.Decides.{nat_tests}
+use Rattle.std.proofs.lemmas.Nat.{from_le_bytes-to_le_bytes_4}
+use Rattle.std.proofs.lemmas.List.{drop-drop}
+use Rattle.std.proofs.Math.Seq.{drop-append_seam, take-length}
+use Rattle.rv_elf.specs.Elf.{word_at}
+use Rattle.rv_elf.specs.LineNumbers.{Leb, leb, signed, Registers, initial, Row, row, end_row, Header, header, program, effect, run, rows, Rises, row_of, rows_after}
+use Rattle.rv_elf.specs.declared.lines.PlacedLine.{PlacedLine}
+use Rattle.rv_elf.specs.Support.Written.{word}
+use Rattle.rv_elf.specs.Support.LineBytes.{leb_bytes, line_step, set_address, row_bytes, rows_bytes, end_bytes, program_bytes, header_bytes, table_bytes, AreSmall}
+use Rattle.rv_elf.proofs.Leb.{top, last, next}
+
+-- ---- numbers
+
+leb_last : (b : ℕ) (bs : List ℕ) → b < 128 → leb (b ∷ bs) ≡ record { value = b; half = 64; rest = bs }
+unfolding leb
+leb_last b bs below = grind (arith, nat_tests)
+
+leb_next : (b : ℕ) (bs : List ℕ) → 128 ≤ b →
+    leb (b ∷ bs) ≡ record { value = b % 128 + 128 * (leb bs).value; half = 128 * (leb bs).half; rest = (leb bs).rest }
+unfolding leb
+leb_next b bs above = grind (arith, nat_tests)
+
+-- a number of at most that many bytes and one more is read back, and isn't negative
+record IsBack (n : ℕ) (after : List ℕ) (l : Leb) : Type 0 where
+  value : l.value ≡ n
+  half : n < l.half
+  rest : l.rest ≡ after
+
+one_back : (n : ℕ) (rest bytes : List ℕ) → n < 64 → bytes ≡ n ∷ [] → IsBack n rest (leb (bytes ++ rest))
+one_back n rest bytes below is = rw (is, leb_last n rest (omega arith)) (record { value = refl; half = below; rest = refl })
+
+more_back : (n : ℕ) (rest bytes more : List ℕ) → bytes ≡ (n % 128 + 128) ∷ more → IsBack (n / 128) rest (leb (more ++ rest))
+    → IsBack n rest (leb (bytes ++ rest))
+more_back n rest bytes more is h = rw (is, leb_next (n % 128 + 128) (more ++ rest) (omega arith)) (record {
+  value = omega (arith, h.value);
+  half = omega (arith, h.half);
+  rest = h.rest;
+})
+
+number_back : (k n : ℕ) (rest : List ℕ) → n < top k 64 → IsBack n rest (leb (leb_bytes k 64 n ++ rest))
+unfolding leb_bytes
+number_back zero n rest below = one_back n rest (n ∷ []) below refl
+number_back (suc k) n rest below = ⊎_elim
+    (λ l. one_back n rest (leb_bytes (suc k) 64 n) l (last k 64 n l))
+    (λ l. more_back n rest (leb_bytes (suc k) 64 n) (leb_bytes k 64 (n / 128)) (next k 64 n l) (number_back k (n / 128) rest (omega arith)))
+    (cases_lt n 64)
+
+signed_back : (n : ℕ) (rest : List ℕ) (l : Leb) → IsBack n rest l → signed l ≡ pos n
+signed_back n rest l h = let v = h.value in let b = h.half in grind (arith, nat_tests)
+
+-- ---- opcodes
+
+abbrev head : Header
+head = record {
+  unit = 1;
+  line_base = negsuc 4;
+  line_range = 14;
+  opcode_base = 13;
+  operands = 0 ∷ 1 ∷ 1 ∷ 1 ∷ 1 ∷ 0 ∷ 0 ∷ 0 ∷ 1 ∷ 0 ∷ 0 ∷ 1 ∷ [];
+}
+
+address_runs : (f a : ℕ) (r : Registers) (rest : List ℕ) → a < 2 ^ 32 →
+    run (suc f) head r (set_address a ++ rest) ≡ run f head (record r { address = a }) rest
+unfolding run effect leb
+address_runs f a r rest small = rw (from_le_bytes-to_le_bytes_4 a small) refl
+
+line_runs : (f n : ℕ) (r : Registers) (rest : List ℕ) → n < 2 ^ 32 →
+    run (suc f) head r (3 ∷ (line_step n ++ rest)) ≡ run f head (record r { line = r.line +ℤ pos n }) rest
+unfolding run effect
+line_runs f n r rest small =
+    let h = number_back 4 n rest (omega arith) in
+    ap₂ (λ (z : ℤ) (x : List ℕ). run f head (record r { line = r.line +ℤ z }) x)
+    (signed_back n rest (leb (line_step n ++ rest)) h) h.rest
+
+copy_runs : (f : ℕ) (r : Registers) (rest : List ℕ) → run (suc f) head r (1 ∷ rest) ≡ row r ∷ run f head r rest
+unfolding run effect
+copy_runs f r rest = refl
+
+none_runs : (f : ℕ) (r : Registers) → run f head r [] ≡ []
+unfolding run
+none_runs zero r = refl
+none_runs (suc f) r = refl
+
+end_runs : (f : ℕ) (r : Registers) → run (suc f) head r (0 ∷ 1 ∷ 1 ∷ []) ≡ end_row r ∷ []
+unfolding run effect leb
+end_runs f r = ap (λ (x : List Row). end_row r ∷ x) (none_runs f initial)
+
+-- ---- rows
+
+abbrev at_line : ℕ → ℕ → Registers
+at_line address line = record { address = address; file = 1; line = pos line }
+
+row_runs : (f a from : ℕ) (l : PlacedLine) (rest : List ℕ) → from ≤ l.line → l.line < 2 ^ 32 → l.address < 2 ^ 32 →
+    run (suc (suc (suc f))) head (at_line a from) (row_bytes from l ++ rest) ≡ row_of l ∷ run f head (at_line l.address l.line) rest
+row_runs f a from l rest rises small low =
+    let step = line_step (l.line - from) in
+    let parts : row_bytes from l ++ rest ≡ set_address l.address ++ (3 ∷ (step ++ 1 ∷ rest)) =
+    ap (λ (x : List ℕ). set_address l.address ++ (3 ∷ x)) (append_assoc step (1 ∷ []) rest) in
+    let line : pos from +ℤ pos (l.line - from) ≡ pos l.line = ap pos (omega arith) in
+    ap (λ (x : List ℕ). run (suc (suc (suc f))) head (at_line a from) x) parts
+    ∙ address_runs (suc (suc f)) l.address (at_line a from) (3 ∷ (step ++ 1 ∷ rest)) low
+    ∙ line_runs (suc f) (l.line - from) (at_line l.address from) (1 ∷ rest) (omega arith)
+    ∙ ap (λ (z : ℤ). run (suc f) head (record { address = l.address; file = 1; line = z }) (1 ∷ rest)) line
+    ∙ copy_runs f (at_line l.address l.line) rest
+
+rows_run : (m a from end : ℕ) (ls : List PlacedLine) → Rises from ls → AreSmall ls → end < 2 ^ 32 →
+    run (3 * length ls + (2 + m)) head (at_line a from) (rows_bytes from ls ++ end_bytes end) ≡ rows_after from ls end
+unfolding rows_after
+rows_run m a from end [] rises small low =
+    let two : 3 * length {A = PlacedLine} [] + (2 + m) ≡ suc (suc m) = omega arith in
+    ap (λ (n : ℕ). run n head (at_line a from) (end_bytes end)) two
+    ∙ address_runs (suc m) end (at_line a from) (0 ∷ 1 ∷ 1 ∷ []) low ∙ end_runs m (at_line end from)
+rows_run m a from end (l ∷ ls) rises small low =
+    let more : 3 * length (l ∷ ls) + (2 + m) ≡ suc (suc (suc (3 * length ls + (2 + m)))) = omega arith in
+    ap₂ (λ (n : ℕ) (x : List ℕ). run n head (at_line a from) x) more
+    (append_assoc (row_bytes from l) (rows_bytes l.line ls) (end_bytes end))
+    ∙ row_runs (3 * length ls + (2 + m)) a from l (rows_bytes l.line ls ++ end_bytes end) rises.0 small.0 small.1
+    ∙ ap (λ (x : List Row). row_of l ∷ x) (rows_run m l.address l.line end ls rises.1 small.2 low)
+
+rows_length : (from : ℕ) (ls : List PlacedLine) → 3 * length ls ≤ length (rows_bytes from ls)
+rows_length from [] = omega arith
+rows_length from (l ∷ ls) = omega (arith, length-append (row_bytes from l) (rows_bytes l.line ls), rows_length l.line ls)
+
+program_runs : (end : ℕ) (ls : List PlacedLine) → Rises 1 ls → AreSmall ls → end < 2 ^ 32 →
+    run (length (program_bytes end ls)) head initial (program_bytes end ls) ≡ rows_after 1 ls end
+program_runs end ls rises small low =
+    let m = length (program_bytes end ls) - (3 * length ls + 2) in
+    let e : length (program_bytes end ls) ≡ 3 * length ls + (2 + m) =
+    omega (arith, length-append (rows_bytes 1 ls) (end_bytes end), rows_length 1 ls) in
+    ap (λ (n : ℕ). run n head initial (program_bytes end ls)) e ∙ rows_run m 0 1 end ls rises small low
+
+-- ---- a whole table
+
+header_back : (name : List ℕ) (end : ℕ) (ls : List PlacedLine) → header (table_bytes name end ls) ≡ head
+unfolding table_bytes
+header_back name end ls = refl
+
+sizes_back : (name : List ℕ) (end : ℕ) (ls : List PlacedLine) → length (table_bytes name end ls) < 4 + 2 ^ 32 →
+    (word_at (table_bytes name end ls) 6 ≡ length (header_bytes name))
+    × (word_at (table_bytes name end ls) 0 ≡ 6 + length (header_bytes name) + length (program_bytes end ls))
+unfolding table_bytes
+sizes_back name end ls low =
+    let e = length-append (header_bytes name) (program_bytes end ls) in (
+      from_le_bytes-to_le_bytes_4 (length (header_bytes name)) (omega arith),
+      from_le_bytes-to_le_bytes_4 (6 + length (header_bytes name) + length (program_bytes end ls)) (omega arith),
+    )
+
+after_sizes : (name : List ℕ) (end : ℕ) (ls : List PlacedLine) →
+    drop 10 (table_bytes name end ls) ≡ header_bytes name ++ program_bytes end ls
+unfolding table_bytes
+after_sizes name end ls = refl
+
+program_back : (name : List ℕ) (end : ℕ) (ls : List PlacedLine) → length (table_bytes name end ls) < 4 + 2 ^ 32 →
+    program (table_bytes name end ls) ≡ program_bytes end ls
+program_back name end ls low =
+    let s = sizes_back name end ls low in
+    let hs = header_bytes name in
+    let t = table_bytes name end ls in
+    let ps = program_bytes end ls in
+    let size : 4 + (6 + length hs + length ps) - (10 + length hs) ≡ length ps = omega arith in
+    let rest : drop (10 + length hs) t ≡ ps = sym (drop-drop (length hs) 10 t)
+    ∙ ap (λ (x : List ℕ). drop (length hs) x) (after_sizes name end ls) ∙ drop-append_seam hs ps in
+    rw (s.0, s.1, size, rest) (take-length ps)
+
+table_back : (name : List ℕ) (end : ℕ) (ls : List PlacedLine) → length (table_bytes name end ls) < 4 + 2 ^ 32 →
+    rows (table_bytes name end ls)
+    ≡ Some (run (length (program (table_bytes name end ls))) (header (table_bytes name end ls)) initial (program (table_bytes name end ls)))
+unfolding rows table_bytes
+table_back name end ls low = refl
+
+pub table_read : (table name : List ℕ) (end : ℕ) (ls : List PlacedLine) → table ≡ table_bytes name end ls →
+    Rises 1 ls → AreSmall ls → end < 2 ^ 32 → length (table_bytes name end ls) < 4 + 2 ^ 32 →
+    rows table ≡ Some (rows_after 1 ls end)
+table_read table name end ls is rises small low within =
+    ap rows is ∙ table_back name end ls within
+    ∙ ap₂ (λ (h : Header) (p : List ℕ). Some (run (length p) h initial p)) (header_back name end ls) (program_back name end ls within)
+    ∙ ap (λ (x : List Row). Some x) (program_runs end ls rises small low)
