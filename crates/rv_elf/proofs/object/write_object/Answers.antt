@@ -1,0 +1,19 @@
+use Rattle.std.proofs.Common.{◌∙◌, ℕ, Some, ap}
+use Rattle.rv_elf.specs.LineNumbers.{rows_after}
+use Rattle.rv_elf.specs.declared.object.Tables.{Tables}
+use Rattle.rv_elf.specs.Support.Sections.{parts, Parts}
+use Rattle.rv_elf.proofs.Found.{symbols_found, lines_found}
+use Rattle.rv_elf.proofs.object.write_object.Goals as goal
+
+pub returns-clause-symbols : goal.returns-clause-symbols
+returns-clause-symbols c =
+    let tables : Tables = record { symbols = c.in_ok-symbols.symbols; info = c.in_ok-info.info; lines = c.in_ok-lines.lines; ranges = c.in_ok-ranges.ranges } in
+    symbols_found c.in_ok-file.file.items (parts c.args.object.now.image.now tables) _ _
+        c.in_ok-file.ensures.sections c.in_ok-file.ensures.names c.in_ok-symbols.ensures.symbols
+
+pub returns-clause-lines : goal.returns-clause-lines
+returns-clause-lines c =
+    let tables : Tables = record { symbols = c.in_ok-symbols.symbols; info = c.in_ok-info.info; lines = c.in_ok-lines.lines; ranges = c.in_ok-ranges.ranges } in
+    lines_found c.in_ok-file.file.items (parts c.args.object.now.image.now tables) _ _
+        c.in_ok-file.ensures.sections c.in_ok-file.ensures.names
+        (c.in_ok-lines.ensures.rows ∙ ap (λ (e : ℕ). Some (rows_after 1 c.args.object.now.lines.now e)) c.in-Some.ensures)

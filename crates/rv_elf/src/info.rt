@@ -1,0 +1,67 @@
+//! What debuggers ask of a file beside its lines: the compilation unit, its range of addresses, and the extensions that
+//! the machine has. No contract says what these bytes mean.
+use crate::bytes::{append_halves, append_words};
+use crate::fault::ElfFault;
+use rv_base::{NoMemory, RAM_BASE};
+use std::alloc::Global;
+
+/// The compilation unit's attributes with their forms: DW_AT_stmt_list, low_pc, high_pc, name, comp_dir, producer and
+/// language (DWARF 4, section 7.5.4).
+pub const ABBREVIATIONS: &[u8] = &[
+    1, 0x11, 0, 0x10, 0x17, 0x11, 0x01, 0x12, 0x06, 0x03, 0x08, 0x1b, 0x08, 0x25, 0x08, 0x13, 0x05,
+    0, 0, 0,
+];
+
+/// The extensions that the board has, for disassemblers (RISC-V ELF psABI, section 9.4).
+pub const ATTRIBUTES: &[u8] =
+    b"A\x34\0\0\0riscv\0\x01\x2a\0\0\0\x05rv32i2p1_m2p0_zicsr2p0_zifencei2p0\0";
+
+/// DW_LANG_Mips_Assembler, which debuggers take for any assembler.
+const ASSEMBLER: u16 = 0x8001;
+
+/// Returns a unit of a section: its size, and its bytes.
+fn unit_of(alloc: Global, bytes: &[u8]) -> Result<Vec<u8>, ElfFault> {
+    let Ok(size) = u32::try_from(bytes.len()) else {
+        return Err(ElfFault::TooLarge);
+    };
+    let mut out = Vec::new(alloc);
+    append_words(&mut out, &[size])?;
+    out.extend_from_slice(bytes)?;
+    Ok(out)
+}
+
+/// Appends a text with its null byte.
+fn append_text(out: &mut Vec<u8>, text: &[u8]) -> Result<(), NoMemory> {
+    out.extend_from_slice(text)?;
+    out.extend_from_slice(&[0])?;
+    Ok(())
+}
+
+/// Returns the compilation unit of a source of this name in a folder, with an image of this size (DWARF 4, section 3.1).
+pub fn write_info(
+    alloc: Global,
+    name: &[u8],
+    folder: &[u8],
+    size: u32,
+) -> Result<Vec<u8>, ElfFault> {
+    let mut out = Vec::new(alloc);
+    append_halves(&mut out, &[4])?;
+    append_words(&mut out, &[0])?;
+    out.extend_from_slice(&[4, 1])?;
+    append_words(&mut out, &[0, RAM_BASE, size])?;
+    append_text(&mut out, name)?;
+    append_text(&mut out, folder)?;
+    append_text(&mut out, b"Solartansy rvas")?;
+    append_halves(&mut out, &[ASSEMBLER])?;
+    unit_of(alloc, &out)
+}
+
+/// Returns the range of addresses of the compilation unit (DWARF 4, section 6.1.2).
+pub fn write_ranges(alloc: Global, size: u32) -> Result<Vec<u8>, ElfFault> {
+    let mut out = Vec::new(alloc);
+    append_halves(&mut out, &[2])?;
+    append_words(&mut out, &[0])?;
+    out.extend_from_slice(&[4, 0, 0, 0, 0, 0])?;
+    append_words(&mut out, &[RAM_BASE, size, 0, 0])?;
+    unit_of(alloc, &out)
+}

@@ -1,0 +1,152 @@
+//! The file of an assembled source: its image, its symbols and its lines.
+ghost use Rattle.std.specs.Prelude.{◌≡◌, ◌+◌, ◌∷◌, IfOk, IfSome, Some, length, map};
+ghost use Rattle.rv_base.specs.Limits.{ram_base};
+ghost use Rattle.rv_elf.specs.Elf.{half_at, image_at};
+ghost use Rattle.rv_elf.specs.Elf as elf;
+ghost use Rattle.rv_elf.specs.LineNumbers.{rows_after, Rises};
+ghost use Rattle.rv_elf.specs.Object.{lines_of, symbols_of};
+ghost use Rattle.rv_elf.specs.Symbols.{named, null_symbol};
+ghost use Rattle.rv_elf.specs.Support.Sections.{parts, sections_of};
+ghost use Rattle.rv_elf.specs.Support.Sections as spec;
+
+use crate::fault::ElfFault;
+use crate::file::{Section, write_file};
+use crate::info::{ABBREVIATIONS, ATTRIBUTES, write_info, write_ranges};
+use crate::lines::{PlacedLine, write_lines};
+use crate::symbols::{Symbol, SymbolTable, write_symbols};
+use rv_base::RAM_BASE;
+use std::alloc::Global;
+
+/// The names of the sections.
+const SECTION_NAMES: &[u8] = b"\0.symtab\0.text\0.strtab\0.riscv.attributes\0.debug_abbrev\0.debug_info\0.debug_line\0.debug_aranges\0.shstrtab\0";
+
+/// The index of the section with the image.
+pub const TEXT: u16 = 2;
+
+/// The index that says that a symbol's value is no address of a section.
+pub const ABSOLUTE: u16 = 0xfff1;
+
+/// An assembled source.
+#[derive(Clone, Copy)]
+pub struct Object<'a> {
+    /// The bytes from 0x80000000 on: at most 16,777,216.
+    pub image: &'a [u8],
+    pub symbols: &'a [Symbol<'a>],
+    /// The lines that have bytes, in order.
+    pub lines: &'a [PlacedLine],
+    /// The name of the source.
+    pub name: &'a [u8],
+    /// The folder that the name is relative to.
+    pub folder: &'a [u8],
+}
+
+/// Returns a section that isn't loaded, by the offset of its name, its kind and its bytes.
+fn plain(name: u32, kind: u32, contents: &[u8]) -> Section<'_>
+    ensures { result ≡ spec.plain name kind contents.now }
+{
+    Section {
+        name,
+        kind,
+        flags: 0,
+        address: 0,
+        link: 0,
+        info: 0,
+        alignment: 1,
+        entry_size: 0,
+        contents,
+    }
+}
+
+/// What the sections of a file have beside its image.
+#[derive(Drop)]
+struct Tables {
+    symbols: SymbolTable,
+    info: Vec<u8>,
+    lines: Vec<u8>,
+    ranges: Vec<u8>,
+}
+
+/// Writes the file of an image and its tables, among them that many symbols.
+fn write_sections(
+    alloc: Global,
+    image: &[u8],
+    tables: &Tables,
+    count: u32,
+) -> Result<Vec<u8>, ElfFault>
+    ensures sections { IfOk result (λ f. elf.sections f.items ≡ sections_of (parts image.now tables.now) count) }
+    ensures names { IfOk result (λ f. half_at f.items 50 ≡ 9) }
+    ensures loaded { IfOk result (λ f. elf.loaded f.items ≡ Some (image_at image.now)) }
+{
+    let mut null = plain(0, 0, &[]);
+    null.alignment = 0;
+    let mut symbols = plain(1, 2, &tables.symbols.table);
+    symbols.link = 3;
+    symbols.info = count;
+    symbols.alignment = 4;
+    symbols.entry_size = 16;
+    let mut text = plain(9, 1, image);
+    text.flags = 7;
+    text.address = RAM_BASE;
+    text.alignment = 4;
+    let sections = [
+        null,
+        symbols,
+        text,
+        plain(15, 3, &tables.symbols.strings),
+        plain(23, 0x7000_0003, ATTRIBUTES),
+        plain(41, 1, ABBREVIATIONS),
+        plain(55, 1, &tables.info),
+        plain(67, 1, &tables.lines),
+        plain(79, 1, &tables.ranges),
+        plain(94, 3, SECTION_NAMES),
+    ];
+    write_file(alloc, &sections, 2)
+}
+
+/// Returns the address following an image, if it has 32 bits.
+fn end_of(image: &[u8]) -> Option<u32>
+    ensures { IfSome result (λ end. end ≡ ram_base + length image.now) }
+{
+    let size = u32::try_from(image.len()).ok()?;
+    RAM_BASE.checked_add(size)
+}
+
+/// Returns the number of entries of a symbol table, if it has 32 bits: the first names nothing.
+fn entries_of(symbols: &[Symbol<'_>]) -> Option<u32> {
+    let count = u32::try_from(symbols.len()).ok()?;
+    count.checked_add(1)
+}
+
+/// Writes the file of an assembled source: its image is loaded at 0x80000000, where it begins.
+///
+/// # Errors
+///
+/// - `TooLarge` if the file, or one of its tables, would have 4 GiB or more.
+/// - `OutOfMemory` if memory runs out.
+pub fn write_object(alloc: Global, object: &Object<'_>) -> Result<Vec<u8>, ElfFault>
+    requires { Rises 1 object.now.lines.now }
+    ensures image { IfOk result (λ f. elf.loaded f.items ≡ Some (image_at object.now.image.now)) }
+    ensures symbols { IfOk result (λ f. symbols_of f.items ≡ Some (null_symbol ∷ map named object.now.symbols.now)) }
+    ensures lines { IfOk result (λ f. lines_of f.items
+        ≡ Some (rows_after 1 object.now.lines.now (ram_base + length object.now.image.now))) }
+{
+    let Some(end) = end_of(object.image) else {
+        return Err(ElfFault::TooLarge);
+    };
+    let Some(count) = entries_of(object.symbols) else {
+        return Err(ElfFault::TooLarge);
+    };
+    let size = end - RAM_BASE;
+    let symbols = write_symbols(alloc, object.symbols)?;
+    let info = write_info(alloc, object.name, object.folder, size)?;
+    let lines = write_lines(alloc, object.name, object.lines, end)?;
+    let ranges = write_ranges(alloc, size)?;
+    let tables = Tables {
+        symbols,
+        info,
+        lines,
+        ranges,
+    };
+    let file = write_sections(alloc, object.image, &tables, count)?;
+    Ok(file)
+}
