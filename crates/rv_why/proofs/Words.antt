@@ -17,7 +17,7 @@ module _ (b : BoardState) where
   unfolding read read_register row_at table number_of csr_names
   mtvec_word = refl
 
-  mstatus_word : csr_of b 768 ≡ Some (status_word b.machine.csrs.mstatus)
+  pub mstatus_word : csr_of b 768 ≡ Some (status_word b.machine.csrs.mstatus)
   unfolding read read_register row_at table number_of csr_names
   mstatus_word = refl
 
@@ -27,11 +27,11 @@ module _ (b : BoardState) where
   pub mstatus_is : (r : ℕ) → r ≡ unwrap_or (csr_of b 768) 0 → r ≡ status_word b.machine.csrs.mstatus
   mstatus_is r e = e ∙ ap (λ (w : Option ℕ). unwrap_or w 0) mstatus_word
 
-most : (b : Bool) → truth b ≤ 1
+pub most : (b : Bool) → truth b ≤ 1
 most true = omega arith
 most false = omega arith
 
-is_one : (b : Bool) → (truth b == 1) ≡ b
+pub is_one : (b : Bool) → (truth b == 1) ≡ b
 is_one true = refl
 is_one false = refl
 

@@ -3,6 +3,7 @@
 -- the board before its step. The inputs of the step change only devices, so they change nothing that is read here.
 use Rattle.std.specs.Prelude.{ℕ, ℤ, zero, suc, ◌+◌, ◌-◌, ◌/◌, ◌%◌, ◌^◌, ◌==◌, ◌&&◌, Bool, true, false, if◌then◌else◌, find, is_some, is_none, min, nat_eq, nat_le, nat_lt, Option, Some, None, Result, Ok, Err}
 use Rattle.std.specs.List.{range_with_len}
+use Rattle.std.specs.Result.{result_err}
 use Rattle.std.specs.Option.{option_and_then, option_eq, option_map, option_map_or}
 use Rattle.rv_base.specs.Limits.{ram_base}
 use Rattle.rv_isa.specs.declared.kind.Kind.{Kind}
@@ -58,22 +59,15 @@ barrier_of pmp mode access addr size =
 
 -- ---- the fetch
 
--- the word that is fetched from pc, and what refuses the fetch. A word lies in the memory whole or not at all
+-- the word that is fetched from pc. A word lies in the memory whole or not at all
 abbrev pub fetched_word : BoardState → Option ℕ
 fetched_word b =
     if grants b.machine.csrs.pmp b.machine.mode Execute b.machine.pc 4 then word_at b b.machine.pc else None
 
-abbrev pub fetch_barrier : BoardState → Barrier
-fetch_barrier b = barrier_of b.machine.csrs.pmp b.machine.mode Execute b.machine.pc 4
-
--- the instruction at pc, or why none is fetched from there
+-- the instruction at pc, or why none is fetched from there: what refuses the fetch, or the word
 unfoldable pub fetched : BoardState → Result Kind Unfetched
 fetched b = option_map_or (λ w. option_map_or Ok (means w) (Err (fetch.NoInstruction w))) (fetched_word b)
-    (Err (fetch.Refused (fetch_barrier b)))
-
-abbrev pub unfetched : Result Kind Unfetched → Option Unfetched
-unfetched (Ok k) = None
-unfetched (Err e) = Some e
+    (Err (fetch.Refused (barrier_of b.machine.csrs.pmp b.machine.mode Execute b.machine.pc 4)))
 
 -- ---- the instruction
 
@@ -126,7 +120,7 @@ abbrev pub outcome_at : TimedState → ℕ → Outcome
 outcome_at s n = (step (with_due (after s n)).board.machine).1
 
 abbrev pub handler_of : BoardState → Handler
-handler_of b = record { address = b.machine.pc; mtvec = b.machine.csrs.mtvec; missing = unfetched (fetched b) }
+handler_of b = record { address = b.machine.pc; mtvec = b.machine.csrs.mtvec; missing = result_err (fetched b) }
 
 -- the register that a jump goes to, with its value and the offset
 abbrev pub jump_sum : BoardState → Kind → Option Sum
@@ -141,11 +135,9 @@ before_of b = record {
 }
 
 -- the instruction before the step that follows n steps, where the word at pc couldn't be fetched (cause 1)
-abbrev pub before_step : TimedState → ℕ → Option Before
-before_step s n = if n == 0 then None else Some (before_of (board_at s (n - 1)))
-
 abbrev pub before_trap : TimedState → (cause n : ℕ) → Option Before
-before_trap s cause n = if cause == 1 then before_step s n else None
+before_trap s cause n =
+    if cause == 1 then (if n == 0 then None else Some (before_of (board_at s (n - 1)))) else None
 
 -- the word at an address on a board, if it is another one on a later board
 abbrev pub overwritten : (first now : BoardState) → ℕ → Option ℕ
@@ -176,7 +168,7 @@ is_trap did = false
 
 -- after the step that follows n steps, no instruction is fetched
 abbrev pub is_unhandled : TimedState → ℕ → Bool
-is_unhandled s n = is_some (unfetched (fetched (board_at s (n + 1))))
+is_unhandled s n = is_some (result_err (fetched (board_at s (n + 1))))
 
 -- of the first n steps, the first trap that met no handler, or else the last trap: how many steps came before it
 unfoldable pub told : TimedState → ℕ → Option ℕ

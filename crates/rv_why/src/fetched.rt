@@ -1,7 +1,8 @@
 //! The fetch of an instruction, and the handler of a trap.
 ghost use Rattle.std.specs.Prelude.{◌≡◌};
 ghost use Rattle.rv_why.specs.Why as spec;
-ghost use Rattle.rv_why.specs.Why.{unfetched};
+ghost use Rattle.std.specs.Result.{result_err};
+ghost use Rattle.rv_pmp.specs.declared.access.Access.TheVariants.{Execute};
 
 use crate::barrier::barrier_of;
 use rv_answers::{Barrier, Handler, Unfetched};
@@ -29,7 +30,7 @@ fn fetched_word(board: &BootedBoard) -> Option<u32>
 
 /// Returns what refuses the fetch from pc.
 fn fetch_barrier(board: &BootedBoard) -> Barrier
-    ensures { result ≡ spec.fetch_barrier board.now }
+    ensures { result ≡ spec.barrier_of board.now.machine.csrs.pmp board.now.machine.mode Execute board.now.machine.pc 4 }
 {
     barrier_of(
         board.pmp(),
@@ -56,7 +57,7 @@ pub(crate) fn fetched(board: &BootedBoard) -> Result<Instr, Unfetched>
 
 /// Returns why no instruction is fetched from pc, if none is.
 fn unfetched(board: &BootedBoard) -> Option<Unfetched>
-    ensures { result ≡ unfetched (spec.fetched board.now) }
+    ensures { result ≡ result_err (spec.fetched board.now) }
 {
     match fetched(board) {
         Ok(_) => None,

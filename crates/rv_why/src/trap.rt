@@ -1,5 +1,5 @@
 //! A trap that is told, with why it came.
-ghost use Rattle.std.specs.Prelude.{◌≡◌, ◌+◌, ◌<◌, ◌≤◌, Some, IfOk};
+ghost use Rattle.std.specs.Prelude.{◌≡◌, ◌==◌, ◌+◌, ◌-◌, ◌<◌, ◌≤◌, if◌then◌else◌, None, Some, IfOk};
 ghost use Rattle.rv_hart.specs.declared.trap.Outcome.TheVariants.{Trapped};
 ghost use Rattle.rv_why.specs.Why as spec;
 ghost use Rattle.rv_why.specs.Why.{board_at, explanation, first_state, handler_of};
@@ -29,7 +29,8 @@ fn at_step(recording: &Recording, steps: u64) -> Result<Session<PagedRam, Decode
 /// Returns the instruction before the step that follows some steps, if there is one.
 fn before_step(recording: &Recording, steps: u64) -> Result<Option<Before>, NoMemory>
     requires { steps ≤ recording.now.session.timed.taken }
-    ensures { IfOk result (λ b. b ≡ spec.before_step (first_state recording.now) steps) }
+    ensures { IfOk result (λ b. b ≡ (if steps == 0 then None
+        else Some (spec.before_of (board_at (first_state recording.now) (steps - 1))))) }
 {
     if steps == 0 {
         return Ok(None);
