@@ -1,11 +1,12 @@
 -- The lines of a source, laid out one by one, and its faults.
-use Rattle.std.proofs.Common.{◌≡◌, ℕ, zero, suc, ◌+◌, ◌<◌, ◌≤◌, Bool, true, false, cond, List, [], ◌∷◌, length, refl, sym, ap, ◌∙◌, arith, add-one}
+use Rattle.std.proofs.Common.{◌≡◌, ℕ, zero, suc, ◌+◌, ◌<◌, ◌≤◌, Bool, true, false, cond, List, [], ◌∷◌, ◌++◌, length, refl, sym, ap, ◌∙◌, arith, add-one}
 use Rattle.std.specs.Prelude.{Option, None, Some, IfSome, is_some, set, slice_get, Result, Ok, Err, ◌==◌}
 use Rattle.std.specs.Option.{option_map, option_or}
 use Rattle.std.specs.Result.{result_err}
 use Rattle.std.specs.List.{flat_map}
 use Rattle.std.proofs.lemmas.List.{length-set, get_or-set_same, get_or-set_other}
 use Rattle.std.proofs.lemmas.Bool.Decides.{nat_tests}
+use Rattle.rv_base.specs.Limits.{ram_base}
 use Rattle.rv_base.specs.Lines.{lines}
 use Rattle.rv_source.specs.Reading.{Parsed}
 use Rattle.rv_program.specs.Program.{Assembly}
@@ -15,12 +16,14 @@ use Rattle.rv_asm.specs.Layout.{line_at, phase_two_fault, definitions}
 use Rattle.rv_asm.specs.Lines.{Located}
 use Rattle.rv_asm.specs.Assembly.{all_parsed, assembled}
 use Rattle.rv_asm.specs.AllFaults.{kept, faults_of}
-use Rattle.rv_asm.specs.Support.Counted.{blank, fault_on, faults_at, all_faults, phase_one_fault, phase_three_fault, located}
-use Rattle.rv_asm.specs.Support.Steps.{Known, Item, start, known_before, labelled, with_line, item_faults, item_listed, Written, Writes, cleared, known_after, judged, Takes, LaidOut, IsExamined}
+use Rattle.rv_asm.specs.Support.Counted.{blank, fault_on, faults_at, all_faults, phase_one_fault, phase_three_fault, unread_kind, located}
+use Rattle.rv_asm.specs.declared.assembler.Laid.{Laid}
+use Rattle.rv_asm.specs.Support.Steps.{Known, start, known_before, labelled, with_line, item_faults, item_listed, Written, Writes, cleared, known_after, judged}
+use Rattle.rv_asm.specs.Support.Phases.{Takes, LaidOut, SoFar, IsExamined}
 use Rattle.rv_asm.proofs.Counting.{answer, first_found, found_by, image_by, faults_none, faults_more, first_append, first_same, found_one, found_two, found_three, assembled_is, none_appended, none_last, none_before}
 use Rattle.rv_asm.proofs.Laying.{IsUpTo, phase_two_is, not_stated, up_to_before, writes_none, writes_more}
-use Rattle.rv_asm.proofs.Lined.{noted_begun, noted_more}
-use Rattle.rv_asm.proofs.Reading.{LeftOf, length-parsed, is_before, read_line_at}
+use Rattle.rv_asm.proofs.Lined.{size_listed, noted_begun, noted_more}
+use Rattle.rv_asm.proofs.Reading.{LeftOf, length-parsed, is_before, unread_more, read_line_at}
 
 -- ---- the lines that are kept
 
@@ -106,22 +109,22 @@ kept_all ls (suc n) h =
 pub kept_up_to : (ls : List Parsed) (n : ℕ) → IsUpTo n (known_before (kept ls n) n)
 kept_up_to ls n = up_to_before (kept ls n) n
 
-pub laid_begun : (ls : List Parsed) (known : Known) (items : List Item) (notes : Option Located)
-    (faults : List AsmFault) → known ≡ start → items ≡ [] → IfSome notes (λ n. n ≡ located [] 0) → faults ≡ [] →
-    LaidOut ls 0 known items notes notes faults
+pub laid_begun : (texts : List (List ℕ)) (l : Laid) → l.known ≡ start → l.items.items ≡ [] →
+    IfSome l.notes (λ n. n ≡ located [] 0) → l.unread.items ≡ [] → l.misplaced.items ≡ [] → SoFar texts 0 l.notes l
 unfolding kept known_before all_faults
-laid_begun ls known items notes faults k i n f = record {
-  known_is = k;
-  faults_are = f;
-  writes = λ _. rw i (writes_none ls);
-  notes_are = λ _. noted_begun ls notes n;
+laid_begun texts l k i n u m = record {
+  unread_are = u;
+  laid = λ _. record {
+    known_is = k;
+    faults_are = m;
+    writes = λ _. rw i (writes_none (all_parsed texts));
+    notes_are = λ _. noted_begun (all_parsed texts) l.notes n;
+  };
 }
 
 module _ (texts rest : List (List ℕ)) (n : ℕ) (so : LeftOf texts rest n) (text : List ℕ)
-    (after : List (List ℕ)) (cut : rest ≡ text ∷ after) (s t : Known) (items more : List Item)
-    (first notes noted : Option Located) (faults found : List AsmFault)
-    (laid : LaidOut (all_parsed texts) n s items first notes faults)
-    (takes : Takes n text s t items more notes noted faults found) where
+    (after : List (List ℕ)) (cut : rest ≡ text ∷ after) (first : Option Located) (old new : Laid)
+    (laid : LaidOut (all_parsed texts) n first old) (takes : Takes n text old new) where
   abbrev ls : List Parsed
   ls = all_parsed texts
 
@@ -134,39 +137,47 @@ module _ (texts rest : List (List ℕ)) (n : ℕ) (so : LeftOf texts rest n) (te
   fault_here : takes.fault ≡ judged ls n
   fault_here = takes.lays.fault_is ∙ rw (laid.known_is, ← at) (sym (judged_is ls n))
 
-  known_more : t ≡ known_before (kept ls (suc n)) (suc n)
+  known_more : new.known ≡ known_before (kept ls (suc n)) (suc n)
   known_more = takes.lays.known_is ∙ rw (fault_here, laid.known_is, ← at) (sym (known_kept ls n before))
 
-  found_more : found ≡ all_faults (judged ls) (suc n)
+  found_more : new.misplaced.items ≡ all_faults (judged ls) (suc n)
   found_more = takes.finds ∙ rw (laid.faults_are, fault_here) (sym (faults_more (judged ls) n))
 
-  module _ (none : found ≡ []) where
-    none_so_far : (faults ≡ []) × (takes.fault ≡ None)
-    none_so_far = none_appended faults found n takes.fault takes.finds none
+  module _ (none : new.misplaced.items ≡ []) where
+    none_so_far : (old.misplaced.items ≡ []) × (takes.fault ≡ None)
+    none_so_far = none_appended old.misplaced.items new.misplaced.items n takes.fault takes.finds none
 
-    all_so_far : kept ls n ≡ ls
-    all_so_far = kept_all ls n (sym laid.faults_are ∙ none_so_far.0)
+    here : old.known ≡ known_before ls n
+    here = laid.known_is
+        ∙ ap (λ xs. known_before xs n) (kept_all ls n (sym laid.faults_are ∙ none_so_far.0))
 
-    here : s ≡ known_before ls n
-    here = laid.known_is ∙ ap (λ xs. known_before xs n) all_so_far
-
-    there : t ≡ known_before ls (suc n)
+    there : new.known ≡ known_before ls (suc n)
     there = known_more ∙ ap (λ xs. known_before xs (suc n)) (kept_all ls (suc n) (sym found_more ∙ none))
 
-    writes_line : Writes ls (suc n) more
-    writes_line = writes_more ls n items more (laid.writes none_so_far.0)
+    writes_line : Writes ls (suc n) new.items.items
+    writes_line = writes_more ls n old.items.items new.items.items (laid.writes none_so_far.0)
         (rw (← here, at) (takes.lays.adds none_so_far.1))
 
-    notes_line : noted ≡ option_map (λ _. located ls (suc n)) first
+    notes_line : new.notes ≡ option_map (λ _. located ls (suc n)) first
     notes_line = takes.notes_line ∙ rw (laid.notes_are none_so_far.0, here, there, ← at) (noted_more ls n first)
 
-  pub laid_more : LaidOut ls (n + 1) t more first noted found
-  laid_more = rw add-one (record {
+  taken : LaidOut ls (n + 1) first new
+  taken = rw add-one (record {
     known_is = known_more;
     faults_are = found_more;
     writes = writes_line;
     notes_are = notes_line;
   })
+
+pub laid_more : (texts rest : List (List ℕ)) (n : ℕ) (so : LeftOf texts rest n) (text : List ℕ)
+    (after : List (List ℕ)) (cut : rest ≡ text ∷ after) (first : Option Located) (old new : Laid)
+    → SoFar texts n first old → new.unread.items ≡ old.unread.items ++ faults_at n (unread_kind text)
+    → (new.unread.items ≡ [] → Takes n text old new) → SoFar texts (n + 1) first new
+laid_more texts rest n so text after cut first old new far unread takes = record {
+  unread_are = unread_more texts rest n so text after cut old.unread.items new.unread.items far.unread_are unread;
+  laid = λ none. taken texts rest n so text after cut first old new
+      (far.laid (none_appended old.unread.items new.unread.items n _ unread none).0) (takes none);
+}
 
 -- ---- the first fault
 
@@ -230,52 +241,56 @@ module _ (source : List ℕ) where
 
   -- ---- the phases together
 
-  module _ (one : List AsmFault) (first_is : one ≡ all_faults (phase_one_fault texts) n) (bytes : List ℕ) (known : Known)
-      (first notes : Option Located) (keeps : is_some notes ≡ is_some first) where
+  module _ (first : Option Located) (l : Laid) (far : SoFar texts n first l) (bytes : List ℕ) where
+    abbrev three : List AsmFault
+    three = all_faults (phase_three_fault parsed) n
+
     refused : (faults : List AsmFault) → found_by (judged parsed) texts ≡ faults → (faults ≡ [] → ⊥) →
-        IsExamined source faults bytes known first notes
+        IsExamined source first faults bytes l.known l.notes
     refused faults e some = record {
       faults_are = sym (all_are texts ∙ e);
-      keeps = keeps;
       accepts = λ h. absurd (some h);
+      reaches = λ h. absurd (some h);
       notes_are = λ h. absurd (some h);
     }
 
-    pub in_one : (one ≡ [] → ⊥) → IsExamined source one bytes known first notes
-    in_one h = refused one
-        (rw (← first_is) (found_one one (all_faults (judged parsed) n) (all_faults (phase_three_fault parsed) n) h)) h
+    pub in_one : (l.unread.items ≡ [] → ⊥) → IsExamined source first l.unread.items bytes l.known l.notes
+    in_one h = refused l.unread.items (rw (← far.unread_are) (found_one l.unread.items (all_faults (judged parsed) n) three h)) h
 
-    module _ (none : one ≡ []) (items : List Item) (two : List AsmFault)
-        (laid : LaidOut parsed n known items first notes two) where
-      later : found_by (judged parsed) texts ≡ first_found one two (all_faults (phase_three_fault parsed) n)
-      later = rw (← first_is, ← laid.faults_are) refl
+    module _ (none : l.unread.items ≡ []) where
+      laid : LaidOut parsed n first l
+      laid = far.laid none
 
-      pub in_two : (two ≡ [] → ⊥) → IsExamined source two bytes known first notes
-      in_two h = refused two (later ∙ found_two one two (all_faults (phase_three_fault parsed) n) none h) h
+      later : found_by (judged parsed) texts ≡ first_found l.unread.items l.misplaced.items three
+      later = rw (← far.unread_are, ← laid.faults_are) refl
 
-      module _ (no_two : two ≡ []) where
-        all_kept : kept parsed n ≡ parsed
-        all_kept = kept_all parsed n (sym laid.faults_are ∙ no_two)
+      pub in_two : (l.misplaced.items ≡ [] → ⊥) → IsExamined source first l.misplaced.items bytes l.known l.notes
+      in_two h = refused l.misplaced.items (later ∙ found_two l.unread.items l.misplaced.items three none h) h
 
-        known_last : known ≡ known_before parsed (length parsed)
-        known_last = laid.known_is ∙ rw (all_kept, length-parsed texts) refl
+      module _ (no_two : l.misplaced.items ≡ []) where
+        known_n : l.known ≡ known_before parsed n
+        known_n = laid.known_is ∙ rw (kept_all parsed n (sym laid.faults_are ∙ no_two)) refl
 
-        symbols_are : known.definitions ≡ definitions parsed
-        symbols_are = ap (λ (s : Known). s.definitions) known_last
+        symbols_are : l.known.definitions ≡ definitions parsed
+        symbols_are = ap (λ (s : Known). s.definitions) known_n
+            ∙ ap (λ m. (known_before parsed m).definitions) (sym (length-parsed texts))
 
-        written : Written parsed n items known.definitions
-        written = laid.writes no_two known.definitions
+        written : Written parsed n l.items.items l.known.definitions
+        written = laid.writes no_two l.known.definitions
 
-        pub in_three : (three : List AsmFault) → three ≡ flat_map (item_faults known.definitions) items →
-            (three ≡ [] → bytes ≡ flat_map (item_listed known.definitions) items) →
-            IsExamined source three bytes known first notes
-        in_three three e b =
-            let late : three ≡ all_faults (phase_three_fault parsed) n = e ∙ written.faults ∙ rw symbols_are refl in
-            let all : found_by (judged parsed) texts ≡ three = later ∙ rw (← late) (found_three one two three none no_two) in
+        pub in_three : (faults : List AsmFault) → faults ≡ flat_map (item_faults l.known.definitions) l.items.items →
+            (faults ≡ [] → bytes ≡ flat_map (item_listed l.known.definitions) l.items.items) →
+            IsExamined source first faults bytes l.known l.notes
+        in_three faults e b =
+            let late : faults ≡ three = e ∙ written.faults ∙ rw symbols_are refl in
+            let all : found_by (judged parsed) texts ≡ faults =
+            later ∙ rw (← late) (found_three l.unread.items l.misplaced.items faults none no_two) in
             record {
               faults_are = sym (all_are texts ∙ all);
-              keeps = keeps;
               accepts = λ h. accepted (all ∙ h) ∙ rw (b h, written.bytes, symbols_are, length-parsed texts) refl;
+              reaches = λ h. ap (λ (s : Known). s.address) known_n
+                  ∙ sym (size_listed parsed l.known.definitions n (sym written.faults ∙ (sym e ∙ h)))
+                  ∙ ap (λ bs. ram_base + length bs) (sym (b h ∙ written.bytes));
               notes_are = λ _. laid.notes_are no_two;
             }
 

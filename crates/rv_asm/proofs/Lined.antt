@@ -31,20 +31,6 @@ use Rattle.rv_asm.specs.Assembly.{all_parsed, line_bytes, assembled}
 use Rattle.rv_asm.specs.Lines.{Listed, Located, listed, bytes_of, end_of}
 use Rattle.rv_asm.proofs.Reading.{length-parsed}
 
--- ---- statements without a fault in phase two
-
-not_past : (renamed unknown misplaced past : Bool) → cond renamed (Some DuplicateSymbol)
-    (cond unknown (Some NotConstant) (cond misplaced (Some Misplaced) (cond past (Some TooLarge) None))) ≡
-    None → past ≡ false
-not_past true unknown misplaced past h = absurd cc
-not_past false true misplaced past h = absurd cc
-not_past false false true past h = absurd cc
-not_past false false false true h = absurd cc
-not_past false false false false h = refl
-
-not_above : (m n : ℕ) → nat_lt m n ≡ false → n ≤ m
-not_above m n h = grind (arith, nat_tests)
-
 -- ---- the size of the image
 
 sized_answer : (r : Result (List ℕ) FaultKind) (n : ℕ) → ((bs : List ℕ) → r ≡ Ok bs → length bs ≡ n) →
@@ -61,16 +47,6 @@ module _ (ds : Definitions) (k : ℕ) (known : Known) where
       (unwrap_or statement Marker)) e))
 
 module _ (lines : List Parsed) where
-  pub within_line : (n : ℕ) → phase_two_fault lines n ≡ None → address lines (suc n) ≤ ram_base + image_limit
-  unfolding known_before phase_two_fault
-  within_line n h = not_above _ _ (not_past _ _ _ _ h)
-
-  pub within_limit : (n : ℕ) → all_faults (phase_two_fault lines) n ≡ [] →
-      address lines n ≤ ram_base + image_limit
-  unfolding known_before
-  within_limit zero h = omega arith
-  within_limit (suc n) h = within_line n (none_last (phase_two_fault lines) n h)
-
   -- the bytes of n lines without a fault reach from the base to the address following these lines
   pub size_listed : (ds : Definitions) (n : ℕ) → all_faults (λ k. result_err (bytes_by ds lines k)) n ≡ []
       → ram_base + length (joined (λ k. listed_of (bytes_by ds lines k)) n) ≡ address lines n
@@ -91,29 +67,23 @@ none_at fault n k h p = none_last fault k (none_before fault (suc k) n h (omega 
 -- ---- an accepted source has no fault
 
 pub record IsAccepted (source : List ℕ) (a : Assembly) : Type 0 where
-  pub two : all_faults (phase_two_fault (all_parsed (lines source))) (length (lines source)) ≡ []
   pub three : all_faults (phase_three_fault (all_parsed (lines source))) (length (lines source)) ≡ []
   pub is : a.bytes ≡ (image_by (lines source)).bytes
 
-record AreNone (two three : List AsmFault) (p a : Assembly) : Type 0 where
-  second : two ≡ []
-  third : three ≡ []
-  same : p ≡ a
-
 answered : (one two three : List AsmFault) (p a : Assembly) →
-    answer (first_found one two three) p ≡ Ok a → AreNone two three p a
+    answer (first_found one two three) p ≡ Ok a → (three ≡ []) × (p ≡ a)
 answered (f ∷ fs) two three p a h = absurd cc
 answered [] (f ∷ fs) three p a h = absurd cc
 answered [] [] (f ∷ fs) p a h = absurd cc
-answered [] [] [] p a h = record { second = refl; third = refl; same = cc }
+answered [] [] [] p a h = (refl, cc)
 
-pub accepted : (source : List ℕ) (a : Assembly) → assembled source ≡ Ok a → IsAccepted source a
+accepted : (source : List ℕ) (a : Assembly) → assembled source ≡ Ok a → IsAccepted source a
 accepted source a h =
     let texts = lines source in
     let n = length texts in
     let r = answered (all_faults (phase_one_fault texts) n) (all_faults (phase_two_fault (all_parsed texts)) n)
     (all_faults (phase_three_fault (all_parsed texts)) n) _ a (sym (assembled_is source) ∙ h) in
-    record { two = r.second; three = r.third; is = sym (ap (λ (x : Assembly). x.bytes) r.same) }
+    record { three = r.0; is = sym (ap (λ (x : Assembly). x.bytes) r.1) }
 
 -- ---- numbers up to one
 
@@ -228,30 +198,23 @@ bytes_between image xs f n k i h t x y =
 
 -- ---- the listing
 
-module _ (source : List ℕ) (a : Assembly) (ok : IsAccepted source a) where
+module _ (source : List ℕ) (a : Assembly) where
   abbrev parsed : List Parsed
   parsed = all_parsed (lines source)
 
   abbrev n : ℕ
   n = length (lines source)
 
-  same_length : length parsed ≡ n
-  same_length = length-parsed (lines source)
-
   abbrev image_of : ℕ → List ℕ
   image_of k = result_unwrap_or (line_bytes parsed k) []
 
-  image_is : a.bytes ≡ joined image_of n
-  image_is = ok.is ∙ ap (joined image_of) same_length
-
-  -- the image reaches from the base to the last address
-  reaches : (k : ℕ) → k ≤ n → ram_base + length (joined image_of k) ≡ address parsed k
-  reaches k h = size_listed parsed (definitions parsed) k (none_before (phase_three_fault parsed) k n ok.three h)
-
-  abbrev pub listing : Listed
+  abbrev listing : Listed
   listing = record { assembly = a; addresses = up_to (address parsed) n; labels = labels parsed n }
 
-  pub listing_is : assembled source ≡ Ok a → listed source ≡ Ok listing
+  same_length : length parsed ≡ n
+  same_length = length-parsed (lines source)
+
+  listing_is : assembled source ≡ Ok a → listed source ≡ Ok listing
   unfolding listed up_to joined
   listing_is h = rw (h, same_length) refl
 
@@ -261,35 +224,41 @@ module _ (source : List ℕ) (a : Assembly) (ok : IsAccepted source a) where
   count_is : length listing.addresses ≡ suc n
   count_is = length_up_to (address parsed) n
 
-  -- the image isn't larger than the largest
-  pub fits : length a.bytes ≤ image_limit
-  fits = omega (arith, ap length image_is, reaches n (omega arith), within_limit parsed n ok.two)
+  module _ (ok : IsAccepted source a) where
+    image_is : a.bytes ≡ joined image_of n
+    image_is = ok.is ∙ ap (joined image_of) same_length
 
-  pub reaches_end : end_of listing ≡ ram_base + length a.bytes
-  reaches_end =
-      let e : length listing.addresses - 1 ≡ n = omega (arith, count_is) in
-      rw (e, image_is) (address_at n (omega arith) ∙ sym (reaches n (omega arith)))
+    -- the image reaches from the base to the last address
+    reaches : (k : ℕ) → k ≤ n → ram_base + length (joined image_of k) ≡ address parsed k
+    reaches k h = size_listed parsed (definitions parsed) k (none_before (phase_three_fault parsed) k n ok.three h)
 
-  is_ok : (r : Result (List ℕ) FaultKind) → result_err r ≡ None → r ≡ Ok (result_unwrap_or r [])
-  is_ok (Ok bs) h = refl
-  is_ok (Err kind) h = absurd cc
+    reaches_end : end_of listing ≡ ram_base + length a.bytes
+    reaches_end =
+        let e : length listing.addresses - 1 ≡ n = omega (arith, count_is) in
+        rw (e, image_is) (address_at n (omega arith) ∙ sym (reaches n (omega arith)))
 
-  line_is : (k : ℕ) → k < n → bytes_of listing (suc k) ≡ image_of k
-  line_is k h =
-      let t : nat_lt (suc k) (length listing.addresses) ≡ true = grind (arith, nat_tests, count_is, h) in
-      let from = address_at k (omega (arith, h)) ∙ sym (reaches k (omega (arith, h))) in
-      let to = address_at (suc k) (omega (arith, h)) ∙ sym (reaches (suc k) (omega (arith, h))) in
-      bytes_between a.bytes listing.addresses image_of n k image_is h t (omega (arith, from)) (omega (arith, to))
+    is_ok : (r : Result (List ℕ) FaultKind) → result_err r ≡ None → r ≡ Ok (result_unwrap_or r [])
+    is_ok (Ok bs) h = refl
+    is_ok (Err kind) h = absurd cc
 
-  all_joined : flat_map (λ k. bytes_of listing (suc k)) (range_with_len 0 n) ≡ joined (λ k. bytes_of listing (suc k)) n
-  unfolding joined
-  all_joined = refl
+    line_is : (k : ℕ) → k < n → bytes_of listing (suc k) ≡ image_of k
+    line_is k h =
+        let t : nat_lt (suc k) (length listing.addresses) ≡ true = grind (arith, nat_tests, count_is, h) in
+        let from = address_at k (omega (arith, h)) ∙ sym (reaches k (omega (arith, h))) in
+        let to = address_at (suc k) (omega (arith, h)) ∙ sym (reaches (suc k) (omega (arith, h))) in
+        bytes_between a.bytes listing.addresses image_of n k image_is h t (omega (arith, from)) (omega (arith, to))
 
-  pub are_lines : AreLinesOf source listing
-  are_lines = record {
-    each = λ k h. is_ok (line_bytes parsed k) (none_at (phase_three_fault parsed) n k ok.three h) ∙
-        ap (λ bs. Ok bs) (sym (line_is k h));
-    all = all_joined ∙ (joined_same (λ k. bytes_of listing (suc k)) image_of n line_is ∙ sym image_is);
+    all_joined : flat_map (λ k. bytes_of listing (suc k)) (range_with_len 0 n) ≡ a.bytes
+    unfolding joined
+    all_joined = joined_same (λ k. bytes_of listing (suc k)) image_of n line_is ∙ sym image_is
+
+  pub are_lines : assembled source ≡ Ok a → AreLinesOf source listing
+  are_lines h = let ok = accepted source a h in record {
+    value = listing_is h;
+    each = λ k p. is_ok ok (line_bytes parsed k) (none_at (phase_three_fault parsed) n k ok.three p) ∙
+        ap (λ bs. Ok bs) (sym (line_is ok k p));
+    all = all_joined ok;
+    end = reaches_end ok;
   }
 
 -- ---- the notes of lines

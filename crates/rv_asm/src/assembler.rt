@@ -1,14 +1,15 @@
 //! The phases of assembly, from a source to its image, or to all of its faults.
-ghost use Rattle.std.specs.Prelude.{◌≡◌, ◌++◌, ◌≤◌, ◌<◌, [], is_some, IfOk, IfSome, OnOk, length};
-ghost use Rattle.std.specs.List.{All, flat_map};
+ghost use Rattle.std.specs.Prelude.{◌≡◌, ◌++◌, ◌<◌, [], IfOk, IfSome, OnOk, length};
+ghost use Rattle.std.specs.List.{flat_map};
 ghost use Rattle.std.specs.Option.{option_map};
 ghost use Rattle.rv_base.specs.Lines.{lines};
 ghost use Rattle.rv_source.specs.Reading.{parsed};
 ghost use Rattle.rv_tokens.specs.Support.Partial.{Fails as LineFails};
 ghost use Rattle.rv_program.specs.Faults.{Gives};
 ghost use Rattle.rv_asm.specs.Assembly.{all_parsed, assembled};
-ghost use Rattle.rv_asm.specs.Support.Counted.{all_faults, faults_at, phase_one_fault, unread_kind, located};
-ghost use Rattle.rv_asm.specs.Support.Steps.{start, item_faults, item_listed, IsExamined, LaidOut, Takes};
+ghost use Rattle.rv_asm.specs.Support.Counted.{faults_at, unread_kind, located};
+ghost use Rattle.rv_asm.specs.Support.Phases.{IsExamined, SoFar};
+ghost use Rattle.rv_asm.specs.Support.Steps.{item_faults, item_listed};
 
 use crate::layout::Known;
 use crate::notes::{Notes, note};
@@ -54,68 +55,75 @@ fn append_unread(
     }
 }
 
-/// Performs phases one and two on one more line, or phase one alone if a line before it has a fault in phase
-/// one. A line with a fault in phase two is left out.
-#[tactic(auto, using(rv_source::proofs::Parsed::form_fails, rv_source::proofs::Parsed::statement_fails, rv_source::proofs::Parsed::as_parsed))]
-fn take<'a>(
-    alloc: Global,
-    number: usize,
-    text: &'a [u8],
-    known: &mut Known,
-    items: &mut Vec<PlacedStatement<'a>>,
-    notes: &mut Option<Notes>,
-    unread: &mut Vec<AsmFault>,
-    misplaced: &mut Vec<AsmFault>,
-) -> Result<(), AllocError>
-    requires up_to { unread.old.items ≡ [] → All (λ d. d.line ≤ number) known.old.definitions.locals }
-    requires counted { number < 0xffffffffffffffff }
-    ensures unread { OnOk result (unread.new.items ≡ unread.old.items ++ faults_at number (unread_kind text.now)) }
-    ensures takes { OnOk result (unread.new.items ≡ [] → Takes number text.now known.old known.new items.old.items items.new.items notes.old notes.new misplaced.old.items misplaced.new.items) }
-    ensures keeps { OnOk result (is_some notes.new ≡ is_some notes.old) }
-{
-    let line = match read_line_form(alloc, text) {
-        Ok(line) => line,
-        Err(fault) => return append_unread(number, text, fault, unread),
-    };
-    let statement = match line.statement() {
-        Ok(statement) => statement,
-        Err(fault) => return append_unread(number, text, fault, unread),
-    };
-    if !unread.as_slice().is_empty() {
-        return Ok(());
-    }
-    let here = known.address();
-    let fault = known.add(alloc, number, line.labels(), &statement, items)?;
-    append(number, fault, misplaced)?;
-    note(alloc, notes, here, line.labels(), known)
+/// The lines that are laid out so far. A fault of phase one on any line takes precedence over those of phase two.
+#[derive(Drop)]
+pub struct Laid<'a> {
+    pub known: Known,
+    pub items: Vec<PlacedStatement<'a>>,
+    pub notes: Option<Notes>,
+    /// The faults of phase one.
+    pub unread: Vec<AsmFault>,
+    /// The faults of phase two.
+    pub misplaced: Vec<AsmFault>,
 }
 
-/// Performs phases one and two line by line, with notes of the lines if they are wanted, and appends the
-/// faults of each phase. A fault of phase one on any line takes precedence over those of phase two.
+impl<'a> Laid<'a> {
+    ghost use Rattle.std.specs.Prelude.{◌≡◌, ◌++◌, ◌≤◌, ◌<◌, [], OnOk};
+    ghost use Rattle.std.specs.List.{All};
+    ghost use Rattle.rv_asm.specs.Support.Counted.{faults_at, unread_kind};
+    ghost use Rattle.rv_asm.specs.Support.Phases.{Takes};
+
+    /// Performs phases one and two on one more line, or phase one alone if a line before it has a fault in phase
+    /// one. A line with a fault in phase two is left out.
+    #[tactic(auto, using(rv_source::proofs::Parsed::form_fails, rv_source::proofs::Parsed::statement_fails, rv_source::proofs::Parsed::as_parsed))]
+    fn take(&mut self, alloc: Global, number: usize, text: &'a [u8]) -> Result<(), AllocError>
+        requires up_to { self.old.unread.items ≡ [] → All (λ d. d.line ≤ number) self.old.known.definitions.locals }
+        requires counted { number < 0xffffffffffffffff }
+        ensures unread { OnOk result (self.new.unread.items ≡ self.old.unread.items ++ faults_at number (unread_kind text.now)) }
+        ensures takes { OnOk result (self.new.unread.items ≡ [] → Takes number text.now self.old self.new) }
+    {
+        let line = match read_line_form(alloc, text) {
+            Ok(line) => line,
+            Err(fault) => return append_unread(number, text, fault, &mut self.unread),
+        };
+        let statement = match line.statement() {
+            Ok(statement) => statement,
+            Err(fault) => return append_unread(number, text, fault, &mut self.unread),
+        };
+        if !self.unread.as_slice().is_empty() {
+            return Ok(());
+        }
+        let here = self.known.address();
+        let fault = self
+            .known
+            .add(alloc, number, line.labels(), &statement, &mut self.items)?;
+        append(number, fault, &mut self.misplaced)?;
+        note(alloc, &mut self.notes, here, line.labels(), &self.known)
+    }
+}
+
+/// Performs phases one and two line by line, with notes of the lines if they are wanted.
 fn lay_out<'a>(
     alloc: Global,
     source: &'a [u8],
-    known: &mut Known,
-    items: &mut Vec<PlacedStatement<'a>>,
-    notes: &mut Option<Notes>,
-    unread: &mut Vec<AsmFault>,
-    misplaced: &mut Vec<AsmFault>,
-) -> Result<(), AllocError>
-    requires known { known.old ≡ start }
-    requires items { items.old.items ≡ [] }
-    requires notes { IfSome notes.old (λ n. n ≡ located [] 0) }
-    requires unread { unread.old.items ≡ [] }
-    requires misplaced { misplaced.old.items ≡ [] }
-    ensures unread { OnOk result (unread.new.items ≡ all_faults (phase_one_fault (lines source.now)) (length (lines source.now))) }
-    ensures laid { OnOk result (unread.new.items ≡ [] → LaidOut (all_parsed (lines source.now)) (length (lines source.now)) known.new items.new.items notes.old notes.new misplaced.new.items) }
-    ensures keeps { OnOk result (is_some notes.new ≡ is_some notes.old) }
+    notes: Option<Notes>,
+) -> Result<Laid<'a>, AllocError>
+    requires { IfSome notes (λ n. n ≡ located [] 0) }
+    ensures { IfOk result (λ l. SoFar (lines source.now) (length (lines source.now)) notes l) }
 {
+    let mut laid = Laid {
+        known: Known::new(alloc),
+        items: Vec::new(alloc),
+        notes,
+        unread: Vec::new(alloc),
+        misplaced: Vec::new(alloc),
+    };
     let mut number: usize = 0;
     for text in cut_lines(source) {
-        take(alloc, number, text, known, items, notes, unread, misplaced)?;
+        laid.take(alloc, number, text)?;
         number += 1;
     }
-    Ok(())
+    Ok(laid)
 }
 
 /// Appends the bytes of a statement, or its fault.
@@ -153,58 +161,55 @@ fn image(
     Ok(out)
 }
 
-/// What is found of a source: its faults in the first phase that has any, its image if there are none, and its
-/// symbols with the address following its lines.
+/// A source as far as it can be assembled. Lines are counted from 1.
 #[derive(Drop)]
-pub struct Examined {
+pub struct Reviewed {
+    /// The faults of the first phase that has any, in order of lines.
     pub faults: Vec<AsmFault>,
-    pub bytes: Vec<u8>,
-    pub known: Known,
+    /// The image, if there are no faults.
+    pub(crate) bytes: Vec<u8>,
+    /// The symbols, with the address following all lines.
+    pub(crate) known: Known,
+    pub(crate) notes: Option<Notes>,
 }
 
 /// Performs the phases up to the first that has faults, with notes of the lines if they are wanted.
-pub fn examine(
-    alloc: Global,
-    source: &[u8],
-    notes: &mut Option<Notes>,
-) -> Result<Examined, AllocError>
-    requires { IfSome notes.old (λ n. n ≡ located [] 0) }
-    ensures { IfOk result (λ e. IsExamined source.now e.faults.items e.bytes.items e.known notes.old notes.new) }
+pub fn examine(alloc: Global, source: &[u8], notes: Option<Notes>) -> Result<Reviewed, AllocError>
+    requires { IfSome notes (λ n. n ≡ located [] 0) }
+    ensures { IfOk result (λ r. IsExamined source.now notes r.faults.items r.bytes.items r.known r.notes) }
 {
-    let mut known = Known::new(alloc);
-    let mut items = Vec::new(alloc);
-    let mut unread = Vec::new(alloc);
-    let mut faults = Vec::new(alloc);
-    lay_out(
-        alloc,
-        source,
-        &mut known,
-        &mut items,
+    let Laid {
+        known,
+        items,
         notes,
-        &mut unread,
-        &mut faults,
-    )?;
+        unread,
+        misplaced,
+    } = lay_out(alloc, source, notes)?;
     let bytes = Vec::new(alloc);
     if !unread.as_slice().is_empty() {
         let faults = unread;
-        return Ok(Examined {
+        return Ok(Reviewed {
             faults,
             bytes,
             known,
+            notes,
         });
     }
+    let mut faults = misplaced;
     if !faults.as_slice().is_empty() {
-        return Ok(Examined {
+        return Ok(Reviewed {
             faults,
             bytes,
             known,
+            notes,
         });
     }
     let bytes = image(alloc, &items, known.symbols(), &mut faults)?;
-    Ok(Examined {
+    Ok(Reviewed {
         faults,
         bytes,
         known,
+        notes,
     })
 }
 
@@ -212,19 +217,20 @@ pub fn examine(
 pub fn assemble_noting(
     alloc: Global,
     source: &[u8],
-    notes: &mut Option<Notes>,
-) -> Result<Program, AsmFault>
-    requires { IfSome notes.old (λ n. n ≡ located [] 0) }
-    ensures program { Gives (λ p. p) result (assembled source.now) }
-    ensures notes { OnOk result (notes.new ≡ option_map (λ _. located (all_parsed (lines source.now)) (length (lines source.now))) notes.old) }
+    notes: Option<Notes>,
+) -> Result<(Program, Option<Notes>), AsmFault>
+    requires { IfSome notes (λ n. n ≡ located [] 0) }
+    ensures program { Gives (λ p. p.0) result (assembled source.now) }
+    ensures notes { IfOk result (λ p. p.1 ≡ option_map (λ _. located (all_parsed (lines source.now)) (length (lines source.now))) notes) }
 {
-    let Examined {
+    let Reviewed {
         faults,
         bytes,
         known,
+        notes,
     } = examine(alloc, source, notes)?;
     match faults.first() {
-        None => Ok(Program::new(bytes, known.into_symbols().names)),
+        None => Ok((Program::new(bytes, known.into_symbols().names), notes)),
         Some(first) => Err(AsmFault::at(first.line, first.kind)),
     }
 }
@@ -238,5 +244,6 @@ pub fn assemble_noting(
 pub fn assemble(alloc: Global, source: &[u8]) -> Result<Program, AsmFault>
     ensures { Gives (λ p. p) result (assembled source.now) }
 {
-    assemble_noting(alloc, source, &mut None)
+    let (program, _) = assemble_noting(alloc, source, None)?;
+    Ok(program)
 }

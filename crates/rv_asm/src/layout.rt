@@ -156,7 +156,8 @@ impl Known {
 
     /// Returns the symbols defined so far, without the address.
     pub fn into_symbols(self) -> Symbols
-        ensures { result ≡ self.definitions }
+        ensures value { result ≡ self.definitions }
+        ensures within { self.address ≤ image_end }
     {
         self.symbols
     }

@@ -23,9 +23,9 @@ mod rejected;
 mod symbols;
 mod values;
 
-pub use assembler::assemble;
+pub use assembler::{Reviewed, assemble};
 pub use listing::{Listing, NearLabel, Places, list};
 pub use locals::LocalLabel;
-pub use rejected::{Reviewed, review};
+pub use rejected::review;
 pub use rv_program::{AsmFault, FaultKind, Program};
 pub use values::fits;

@@ -199,8 +199,7 @@ pub fn list(alloc: Global, source: &[u8]) -> Result<(Program, Places), AsmFault>
     ensures image { IfOk result (λ l. flat_map (λ k. bytes_of (listing_of l.0 l.1) (suc k)) (range_with_len 0 (length (lines source.now))) ≡ l.0.bytes) }
     ensures end { IfOk result (λ l. end_of (listing_of l.0 l.1) ≡ ram_base + length l.0.bytes) }
 {
-    let mut notes = Some(Notes::new(alloc)?);
-    let program = assemble_noting(alloc, source, &mut notes)?;
+    let (program, notes) = assemble_noting(alloc, source, Some(Notes::new(alloc)?))?;
     match notes {
         Some(notes) => Ok((program, Places::of(notes))),
         None => unreachable!(),

@@ -1,5 +1,5 @@
 //! What is noted of the lines of a source while they are laid out.
-ghost use Rattle.std.specs.Prelude.{◌≡◌, ◌++◌, is_some, OnOk};
+ghost use Rattle.std.specs.Prelude.{◌≡◌, ◌++◌, OnOk};
 ghost use Rattle.std.specs.Option.{option_map};
 ghost use Rattle.rv_asm.specs.Layout.{labels_in};
 ghost use Rattle.rv_asm.specs.Support.Counted.{with_line};
@@ -113,8 +113,7 @@ pub fn note(
     labels: &[Label],
     known: &Known,
 ) -> Result<(), AllocError>
-    ensures notes { OnOk result (notes.new ≡ option_map (with_line here labels.now known.now.address) notes.old) }
-    ensures keeps { OnOk result (is_some notes.new ≡ is_some notes.old) }
+    ensures { OnOk result (notes.new ≡ option_map (with_line here labels.now known.now.address) notes.old) }
 {
     match notes {
         Some(notes) => notes.add(alloc, here, labels, known),

@@ -22,7 +22,7 @@ use Rattle.rv_asm.specs.Symbols.{Definitions, atom_value, sum_value, operand_val
 pub use Rattle.rv_asm.specs.Layout.{Known, labelled, stated}
 unfoldable pub use Rattle.rv_asm.specs.Layout.{known_before}
 use Rattle.rv_asm.specs.Layout.{line_at, row_at, phase_two_fault}
-use Rattle.rv_asm.specs.Support.Counted.{all_faults, faults_at, joined, address, names, fault_on, located, with_line as noted_with}
+use Rattle.rv_asm.specs.Support.Counted.{all_faults, phase_one_fault, faults_at, joined, address, names, fault_on, located, with_line as noted_with}
 use Rattle.rv_asm.specs.Listing.{bytes}
 use Rattle.rv_asm.specs.Support.Statements.{Valuation, added, wanted, kinds, with_value, placed_by}
 use Rattle.rv_base.specs.Lines.{lines}
@@ -161,30 +161,3 @@ pub record LaysOut (k : ℕ) (known : Known) (line : Parsed) (fault : Option Fau
   pub fault_is : fault ≡ fault_on k known line
   pub known_is : after ≡ known_after (is_some fault) k known line
   pub adds : fault ≡ None → AddsLine k known line old new
-
--- line k is read and laid out, its fault is appended, and it is noted
-pub record Takes (k : ℕ) (text : List ℕ) (known after : Known) (items more : List Item)
-    (notes noted : Option Located) (faults found : List AsmFault) : Type 0 where
-  pub line : Parsed
-  pub read : parsed text ≡ Ok line
-  pub fault : Option FaultKind
-  pub lays : LaysOut k known line fault after items more
-  pub finds : found ≡ faults ++ faults_at k fault
-  pub notes_line : noted ≡ option_map (noted_with known.address line.labels after.address) notes
-
--- the first n lines are laid out
-pub record LaidOut (ls : List Parsed) (n : ℕ) (known : Known) (items : List Item) (first notes : Option Located)
-    (faults : List AsmFault) : Type 0 where
-  pub known_is : known ≡ known_before (kept ls n) n
-  pub faults_are : faults ≡ all_faults (judged ls) n
-  pub writes : faults ≡ [] → Writes ls n items
-  pub notes_are : faults ≡ [] → notes ≡ option_map (λ _. located ls n) first
-
--- these are the faults of a source; if there are none, these are its image, its names and its notes
-pub record IsExamined (source : List ℕ) (faults : List AsmFault) (bytes : List ℕ) (known : Known)
-    (first notes : Option Located) : Type 0 where
-  pub faults_are : faults ≡ faults_of (lines source)
-  pub keeps : is_some notes ≡ is_some first
-  pub accepts : faults ≡ [] → assembled source ≡ Ok (record { bytes = bytes; symbols = known.definitions.names })
-  pub notes_are : faults ≡ [] →
-      notes ≡ option_map (λ _. located (all_parsed (lines source)) (length (lines source))) first

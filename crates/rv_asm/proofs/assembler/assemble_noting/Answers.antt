@@ -1,9 +1,8 @@
-use Rattle.std.proofs.Common.{rules, ◌≡◌, ◌∙◌, [], sym}
+use Rattle.std.proofs.Common.{rules, arith, ◌≡◌, ◌∙◌, [], sym}
 use Rattle.std.specs.Prelude.{Some, slice_get}
 use Rattle.std.specs.Result.{result_err}
 use Rattle.rv_asm.specs.Assembly.{assembled}
 use Rattle.rv_asm.proofs.Reading.{fault_at, fails_at}
-use Rattle.rv_asm.proofs.Lined.{accepted, fits}
 use Rattle.rv_asm.proofs.Examining.{first_said, none_first, is_err}
 use Rattle.rv_asm.proofs.assembler.assemble_noting.Goals as goal
 
@@ -11,8 +10,7 @@ pub new-requires : goal.new-requires
 new-requires c =
     let none : c.in_ok-faults.field-0.faults.items ≡ [] =
     none_first c.in_ok-faults.field-0.faults.items (search rules) in
-    let is = c.in_ok-faults.ensures.accepts none in
-    fits c.args.source.now _ (accepted c.args.source.now _ is)
+    omega (arith, c.in_ok-faults.ensures.reaches none, c.into_symbols.ensures.within)
 
 pub returns-clause-program : goal.returns-clause-program
 returns-clause-program c =

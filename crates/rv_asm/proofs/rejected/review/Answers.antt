@@ -1,4 +1,4 @@
-use Rattle.std.proofs.Common.{◌≡◌, ◌∙◌, ap, false, true}
+use Rattle.std.proofs.Common.{◌∙◌, ap}
 use Rattle.std.specs.Prelude.{slice_get}
 use Rattle.rv_asm.specs.Support.Counted.{joined, up_to}
 use Rattle.rv_asm.specs.Support.Steps.{known_before}
@@ -9,10 +9,6 @@ pub examine-requires : goal.examine-requires
 unfolding known_before up_to joined
 examine-requires c = c.in_ok-new.ensures
 
-pub unreachable-requires : goal.unreachable-requires
-unreachable-requires c =
-    let no : false ≡ true = rw c.in-None.is at c.in_ok-found.ensures.keeps in cc
-
 pub returns-clause-first : goal.returns-clause-first
 returns-clause-first c =
-    ap (λ faults. slice_get faults 0) (c.of.ensures ∙ c.in_ok-found.ensures.faults_are) ∙ first_said c.args.source.now
+    ap (λ faults. slice_get faults 0) c.in_ok-examine.ensures.faults_are ∙ first_said c.args.source.now
