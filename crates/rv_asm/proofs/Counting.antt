@@ -13,7 +13,7 @@ use Rattle.rv_program.specs.declared.fault.FaultKind.{FaultKind}
 use Rattle.rv_program.specs.declared.fault.AsmFault.{AsmFault}
 use Rattle.rv_asm.specs.Layout.{definitions, phase_two_fault}
 use Rattle.rv_asm.specs.Assembly.{all_parsed, assembled, line_bytes}
-use Rattle.rv_asm.specs.Support.Counted.{joined, up_to, all_faults, faults_at, phase_one_fault, phase_three_fault}
+use Rattle.rv_asm.specs.Support.Steps.{joined, up_to, all_faults, faults_at, phase_one_fault, phase_three_fault}
 
 -- ---- numbers
 

@@ -1,9 +1,6 @@
 pub mod Sums
-pub mod DataBytes
 pub mod Rows
-pub mod Keeping
 pub mod Counting
-pub mod Laying
 pub mod Reading
 pub mod Lined
 pub mod Examining

@@ -1,5 +1,5 @@
 -- The listing of an accepted source.
-use Rattle.std.proofs.Common.{◌≡◌, ℕ, zero, suc, ◌+◌, ◌≤◌, Bool, true, false, cond, List, [], ◌∷◌, ◌++◌, length, refl, sym, ap, ◌∙◌, arith, append-nil, length-append, ◌-◌, ◌<◌, get_or, slice_range, append_assoc, add-zero, add-suc}
+use Rattle.std.proofs.Common.{◌≡◌, ℕ, zero, suc, ◌+◌, ◌≤◌, true, cond, List, [], ◌∷◌, ◌++◌, length, refl, sym, ap, ◌∙◌, arith, append-nil, length-append, ◌-◌, ◌<◌, get_or, slice_range, append_assoc, add-zero, add-suc}
 use Rattle.std.specs.Prelude.{Option, None, Some, Result, Ok, Err, nat_lt, IfSome, ◌&&◌}
 use Rattle.std.specs.Option.{unwrap_or, option_map, option_map_or}
 use Rattle.std.specs.Result.{result_err, result_unwrap_or}
@@ -9,12 +9,10 @@ use Rattle.rv_source.specs.Reading.{Parsed}
 use Rattle.rv_source.specs.declared.statement.Statement.{Statement}
 use Rattle.rv_source.specs.declared.statement.Statement.TheVariants.{Marker}
 use Rattle.rv_program.specs.declared.fault.FaultKind.{FaultKind}
-use Rattle.rv_program.specs.declared.fault.FaultKind.TheVariants.{DuplicateSymbol, NotConstant, Misplaced, TooLarge}
 use Rattle.rv_asm.specs.Symbols.{Definitions, operand_value}
-use Rattle.rv_base.specs.Limits.{ram_base, image_limit}
+use Rattle.rv_base.specs.Limits.{ram_base}
 use Rattle.rv_asm.specs.Layout.{line_at, row_at, phase_two_fault, definitions, labels_in}
-use Rattle.rv_asm.specs.Support.Counted.{address, known_on, joined, all_faults, phase_one_fault, phase_three_fault, up_to, labels, LabelsRise, LieInOrder, AreLinesOf, located, with_line}
-use Rattle.rv_asm.specs.Support.Steps.{Known, values_of, stated, known_before, stated_bytes, bytes_by, listed as listed_of}
+use Rattle.rv_asm.specs.Support.Steps.{address, known_on, joined, all_faults, phase_one_fault, phase_three_fault, up_to, labels, LabelsRise, LieInOrder, AreLinesOf, located, noted_with, Known, values_of, stated, known_before, stated_bytes, bytes_by, listed as listed_of}
 use Rattle.rv_asm.proofs.Counting.{joined_none, joined_more, none_last, none_before, answer, first_found, image_by, assembled_is, joined_before, joined_same, up_to_more}
 use Rattle.rv_asm.proofs.Rows.{statement_size}
 use Rattle.std.specs.List.Sorted.{IsNonDecreasing, IsNonDecreasingBy}
@@ -270,7 +268,7 @@ noted_begun ls None h = refl
 noted_begun ls (Some n) h = rw h refl
 
 pub noted_more : (ls : List Parsed) (n : ℕ) (first : Option Located) →
-    option_map (with_line (address ls n) (line_at ls n).labels (address ls (suc n))) (option_map (λ _. located ls n) first)
+    option_map (noted_with (address ls n) (line_at ls n).labels (address ls (suc n))) (option_map (λ _. located ls n) first)
     ≡ option_map (λ _. located ls (suc n)) first
 noted_more ls n None = refl
 noted_more ls n (Some p) = rw (up_to_more, joined_more) refl

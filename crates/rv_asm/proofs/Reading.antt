@@ -7,7 +7,7 @@ use Rattle.rv_source.specs.Reading.{Parsed, parsed}
 use Rattle.rv_program.specs.declared.fault.AsmFault.{AsmFault}
 use Rattle.rv_asm.specs.Layout.{line_at}
 use Rattle.rv_asm.specs.Assembly.{all_parsed}
-use Rattle.rv_asm.specs.Support.Counted.{all_faults, faults_at, phase_one_fault, unread_kind, blank}
+use Rattle.rv_asm.specs.Support.Steps.{all_faults, faults_at, phase_one_fault, unread_kind, blank}
 use Rattle.rv_asm.proofs.Counting.{faults_more}
 use Rattle.std.specs.Option.{option_map}
 use Rattle.rv_tokens.specs.Support.Partial.{Fails as LineFails}

@@ -19,7 +19,7 @@ use rv_isa::{Reg, Width};
 use std::alloc::AllocError;
 
 /// Appends the low bytes of a value, as many as the width has, lowest first, if it fits.
-#[tactic(auto, using(crate::proofs::DataBytes::width_within))]
+#[tactic(auto, using(crate::proofs::Rows::width_within))]
 pub fn write_fitting(width: Width, value: i64, out: &mut Vec<u8>) -> Result<(), FaultKind>
     ensures { KindBecomes out.new.items result (appended out.old.items (ok_or (bytes_in width value) OutOfRange)) }
 {

@@ -11,57 +11,9 @@ use crate::fixup::Waiting;
 use crate::instructions::{Instructions, loading};
 use crate::symbols::{Scope, added};
 use crate::values::{bits, gap};
-use rv_source::{Atom, Expression, Form, Operand, Statement, Value};
+use rv_source::{Atom, Expression, Form, List, Operand, Statement, Value};
 use std::alloc::{AllocError, Global};
-use std::marker::Model;
 use std::slice::from_ref;
-
-/// Bytes that wait for nothing. The view is the list of them.
-#[derive(Drop)]
-pub struct Ready(Vec<u8>);
-
-impl Model for Ready {
-    ghost use Rattle.std.specs.Prelude.{List, ℕ};
-
-    ghost Value = { List ℕ };
-
-    ghost view = { λ r. r.0.items };
-}
-
-impl Ready {
-    ghost use Rattle.std.specs.Prelude.{◌≡◌, ◌++◌, OnOk};
-
-    /// Appends the bytes.
-    pub fn append_to(&self, out: &mut Vec<u8>) -> Result<(), AllocError>
-        ensures { OnOk result (out.new.items ≡ out.old.items ++ self.now) }
-    {
-        Ok(out.extend_from_slice(&self.0)?)
-    }
-}
-
-/// The expressions of operands. The view is the list of them.
-#[derive(Drop)]
-pub struct Sums<'a>(Vec<Expression<'a>>);
-
-impl<'a> Model for Sums<'a> {
-    ghost use Rattle.std.specs.Prelude.{List};
-    ghost use Rattle.rv_source.specs.declared.expression.Term.{Term};
-
-    ghost Value = { List (List Term) };
-
-    ghost view = { λ s. s.0.items };
-}
-
-impl<'a> Sums<'a> {
-    ghost use Rattle.std.specs.Prelude.{◌≡◌};
-
-    /// Returns the expressions, from left to right.
-    pub fn as_slice(&self) -> &[Expression<'a>]
-        ensures { result.now ≡ self.now }
-    {
-        self.0.as_slice()
-    }
-}
 
 /// The value of an atom or its negative, with a number added to it, or subtracted from it.
 #[derive(Drop)]
@@ -79,11 +31,11 @@ pub enum Kept<'a> {
     /// Instructions that wait for nothing.
     Instructions(Instructions),
     /// Other bytes that wait for nothing.
-    Ready(Ready),
+    Ready(List<u8>),
     /// What waits for the value of a single symbol.
     One { waiting: Waiting, value: Single<'a> },
     /// What waits for values, each in its place.
-    Many { waiting: Waiting, values: Sums<'a> },
+    Many { waiting: Waiting, values: List<Expression<'a>> },
 }
 
 /// Returns the number of an atom that is one.
@@ -139,14 +91,14 @@ fn sum_of<'a>(alloc: Global, operand: &Operand<'a>) -> Result<Expression<'a>, Al
 }
 
 /// Returns the expressions of operands.
-fn sums_of<'a>(alloc: Global, operands: &[Operand<'a>]) -> Result<Sums<'a>, AllocError>
+fn sums_of<'a>(alloc: Global, operands: &[Operand<'a>]) -> Result<List<Expression<'a>>, AllocError>
     ensures { IfOk result (λ sums. sums ≡ map expression_of operands.now) }
 {
     let mut sums = Vec::with_capacity(alloc, operands.len())?;
     for operand in operands {
         sums.push(sum_of(alloc, operand)?)?;
     }
-    Ok(Sums(sums))
+    Ok(List::of(sums))
 }
 
 /// Returns the value of an operand as that of a single symbol, if it has this form.
@@ -160,7 +112,7 @@ fn symbol_of<'a>(operand: &Operand<'a>) -> Option<Single<'a>>
 }
 
 /// Returns what is kept of what waits for the values of operands.
-#[tactic(auto, using(crate::proofs::Keeping::many_kept, crate::proofs::Keeping::one_kept))]
+#[tactic(auto, using(crate::proofs::Rows::many_kept, crate::proofs::Rows::one_kept))]
 fn waiting_for<'a>(
     alloc: Global,
     waiting: Waiting,
@@ -191,7 +143,7 @@ fn space<'a>(
     }
     let mut zeros = Vec::new(alloc);
     fill(count, 0, &mut zeros)?;
-    Ok(Kept::Ready(Ready(zeros)))
+    Ok(Kept::Ready(List::of(zeros)))
 }
 
 /// Returns what is kept of so many bytes of padding.
@@ -201,11 +153,11 @@ fn padding<'a>(alloc: Global, count: u32) -> Result<Kept<'a>, AllocError>
 {
     let mut bytes = Vec::new(alloc);
     pad(count, &mut bytes)?;
-    Ok(Kept::Ready(Ready(bytes)))
+    Ok(Kept::Ready(List::of(bytes)))
 }
 
 /// Returns what is kept of a statement at an address, with its constant.
-#[tactic(auto, using(crate::proofs::Keeping::near_kept), unfolding(crate::specs::Listing::row, crate::specs::Support::Steps::kept_bytes))]
+#[tactic(auto, using(crate::proofs::Rows::near_kept), unfolding(crate::specs::Listing::row, crate::specs::Support::Steps::kept_bytes))]
 pub fn keep<'a>(
     alloc: Global,
     here: u32,
@@ -238,11 +190,11 @@ pub fn keep<'a>(
         Statement::Bytes(strings) => {
             let mut bytes = Vec::new(alloc);
             strings.append_to(&mut bytes)?;
-            Ok(Kept::Ready(Ready(bytes)))
+            Ok(Kept::Ready(List::of(bytes)))
         }
         Statement::Space { fill, .. } => space(alloc, bits(constant), fill),
         Statement::Align { .. } => padding(alloc, gap(here, 1 << bits(constant))),
         Statement::Balign { .. } => padding(alloc, gap(here, bits(constant))),
-        Statement::Constant { .. } | Statement::Marker => Ok(Kept::Ready(Ready(Vec::new(alloc)))),
+        Statement::Constant { .. } | Statement::Marker => Ok(Kept::Ready(List::of(Vec::new(alloc)))),
     }
 }

@@ -9,7 +9,7 @@ ghost use Rattle.rv_program.specs.Faults.{Gives};
 ghost use Rattle.rv_asm.specs.Assembly.{all_parsed, line_bytes};
 ghost use Rattle.rv_asm.specs.Lines.{listed, bytes_of, end_of, listing_of};
 ghost use Rattle.rv_asm.specs.Layout.{labels_in};
-ghost use Rattle.rv_asm.specs.Support.Counted.{address, labels, up_to, LabelsRise};
+ghost use Rattle.rv_asm.specs.Support.Steps.{address, labels, up_to, LabelsRise};
 ghost use Rattle.rv_asm.specs.Support.Statements.{last_of};
 
 use crate::assembler::assemble_noting;
@@ -39,7 +39,7 @@ impl Drop for Places {
 
 impl Model for Places {
     ghost use Rattle.rv_asm.specs.Lines.{Located};
-    ghost use Rattle.rv_asm.specs.Support.Counted.{LieInOrder};
+    ghost use Rattle.rv_asm.specs.Support.Steps.{LieInOrder};
 
     ghost Value = { Located };
 
@@ -50,7 +50,7 @@ impl Model for Places {
 
 impl Places {
     ghost use Rattle.std.specs.Prelude.{◌≡◌};
-    ghost use Rattle.rv_asm.specs.Support.Counted.{LieInOrder};
+    ghost use Rattle.rv_asm.specs.Support.Steps.{LieInOrder};
 
     fn of(notes: Notes) -> Places
         requires { LieInOrder notes }

@@ -2,7 +2,7 @@
 ghost use Rattle.std.specs.Prelude.{◌≡◌, ◌++◌, OnOk};
 ghost use Rattle.std.specs.Option.{option_map};
 ghost use Rattle.rv_asm.specs.Layout.{labels_in};
-ghost use Rattle.rv_asm.specs.Support.Counted.{with_line};
+ghost use Rattle.rv_asm.specs.Support.Steps.{noted_with};
 
 use crate::layout::Known;
 use rv_base::RAM_BASE;
@@ -72,7 +72,7 @@ impl Model for Notes {
 impl Notes {
     ghost use Rattle.std.specs.Prelude.{◌≡◌, ◌∷◌, [], IfOk, OnOk};
     ghost use Rattle.rv_base.specs.Limits.{ram_base};
-    ghost use Rattle.rv_asm.specs.Support.Counted.{with_line};
+    ghost use Rattle.rv_asm.specs.Support.Steps.{noted_with};
 
     /// Makes the notes of no lines.
     pub fn new(alloc: Global) -> Result<Notes, AllocError>
@@ -95,7 +95,7 @@ impl Notes {
         labels: &[Label],
         known: &Known,
     ) -> Result<(), AllocError>
-        ensures { OnOk result (self.new ≡ with_line here labels.now known.now.address self.old) }
+        ensures { OnOk result (self.new ≡ noted_with here labels.now known.now.address self.old) }
     {
         push_names(alloc, here, labels, &mut self.labels)?;
         let line = self.addresses.len();
@@ -113,7 +113,7 @@ pub fn note(
     labels: &[Label],
     known: &Known,
 ) -> Result<(), AllocError>
-    ensures { OnOk result (notes.new ≡ option_map (with_line here labels.now known.now.address) notes.old) }
+    ensures { OnOk result (notes.new ≡ option_map (noted_with here labels.now known.now.address) notes.old) }
 {
     match notes {
         Some(notes) => notes.add(alloc, here, labels, known),

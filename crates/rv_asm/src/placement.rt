@@ -19,7 +19,7 @@ fn has_unknown(scope: Scope, sums: &[Expression]) -> bool
 }
 
 /// Appends what waits for values. An undefined value is reported before one that is out of range.
-#[tactic(auto, using(crate::proofs::DataBytes::placed_more, crate::proofs::DataBytes::unknown_later, crate::proofs::DataBytes::first_fails), unfolding(crate::specs::Support::Steps::sums_bytes))]
+#[tactic(auto, using(crate::proofs::Rows::placed_more, crate::proofs::Rows::unknown_later, crate::proofs::Rows::first_fails), unfolding(crate::specs::Support::Steps::sums_bytes))]
 fn write_sums(
     scope: Scope,
     waiting: &Waiting,
@@ -107,7 +107,7 @@ impl<'a> PlacedStatement<'a> {
         };
         match &self.kept {
             Kept::Instructions(instructions) => Ok(instructions.write(out)?),
-            Kept::Ready(bytes) => Ok(bytes.append_to(out)?),
+            Kept::Ready(bytes) => Ok(out.extend_from_slice(bytes.as_slice())?),
             Kept::One { waiting, value } => waiting.write(self.address, value.value(scope), out),
             Kept::Many { waiting, values } => write_sums(scope, waiting, values.as_slice(), out),
         }

@@ -6,6 +6,7 @@
 mod expression;
 mod field;
 mod line;
+mod list;
 mod operand;
 mod reader;
 mod row;
@@ -16,7 +17,8 @@ mod terms;
 mod words;
 
 pub use expression::{Atom, Expression, Term};
-pub use line::{Body, Label, Line, LineForm, Operands};
+pub use line::{Body, Label, Line, LineForm};
+pub use list::List;
 pub use operand::{Form, Operand, Part};
 pub use reader::{label_of, read_line, read_line_form};
 pub use row::Role;

@@ -2,7 +2,7 @@
 ghost use Rattle.std.specs.Prelude.{◌≡◌};
 
 use crate::table::meaning;
-use crate::{LineFault, Operand, Statement};
+use crate::{LineFault, List, Operand, Statement};
 use rv_tokens::Name;
 use std::marker::Model;
 
@@ -15,30 +15,6 @@ pub enum Label<'a> {
     Local(u16),
 }
 
-/// The operands of a statement. The view is the list of them.
-#[derive(Drop)]
-pub struct Operands<'a>(pub(crate) Vec<Operand<'a>>);
-
-impl<'a> Model for Operands<'a> {
-    ghost use Rattle.std.specs.Prelude.{List};
-    ghost use Rattle.rv_source.specs.declared.operand.Operand.{Operand};
-
-    ghost Value = { List Operand };
-
-    ghost view = { λ o. o.0.items };
-}
-
-impl<'a> Operands<'a> {
-    ghost use Rattle.std.specs.Prelude.{◌≡◌};
-
-    /// Returns the operands, from left to right.
-    pub fn as_slice(&self) -> &[Operand<'a>]
-        ensures { result.now ≡ self.now }
-    {
-        self.0.as_slice()
-    }
-}
-
 /// What a line has after its labels.
 #[derive(Drop)]
 pub enum Body<'a> {
@@ -48,7 +24,7 @@ pub enum Body<'a> {
     /// Any other word with its operands.
     Word {
         word: Name<'a>,
-        operands: Operands<'a>,
+        operands: List<Operand<'a>>,
     },
 }
 

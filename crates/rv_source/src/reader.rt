@@ -6,11 +6,11 @@ ghost use Rattle.rv_tokens.specs.Support.Cuts.{tokens};
 ghost use Rattle.rv_source.specs.Support.Partial.{body_of, labels_of, left_after, with_labels};
 ghost use Rattle.rv_source.specs.Reading.{label_of, line_form, parsed};
 
-use crate::line::{Body, Operands};
+use crate::line::Body;
 use crate::operand::read_operands;
 use crate::table::is_marker;
 use crate::terms::is_symbol;
-use crate::{Label, Line, LineFault, LineForm};
+use crate::{Label, Line, LineFault, LineForm, List};
 use rv_tokens::{Token, cut_line};
 use std::alloc::{AllocError, Global};
 
@@ -67,7 +67,7 @@ fn read_body<'a>(
     let Some(operands) = read_operands(alloc, count - rest.len(), rest)? else {
         return Ok(None);
     };
-    let (word, operands) = (word.again(), Operands(operands));
+    let (word, operands) = (word.again(), List::of(operands));
     Ok(Some(Body::Word { word, operands }))
 }
 

@@ -1,4 +1,3 @@
-use Rattle.std.proofs.Common.{◌≡◌, []}
 use Rattle.rv_asm.proofs.Examining.{in_one, in_two, in_three, filled_by, empty_by}
 use Rattle.rv_asm.proofs.assembler.examine.Goals as goal
 

@@ -2,8 +2,7 @@ use Rattle.std.proofs.Common.{◌≡◌, rules, length}
 use Rattle.std.proofs.lemmas.Result.{err_from_is_err_and}
 use Rattle.rv_base.specs.Lines.{lines}
 use Rattle.rv_asm.specs.Assembly.{all_parsed, assembled}
-use Rattle.rv_asm.specs.Support.Counted.{joined, up_to, located}
-use Rattle.rv_asm.specs.Support.Steps.{known_before}
+use Rattle.rv_asm.specs.Support.Steps.{joined, up_to, located, known_before}
 use Rattle.rv_asm.specs.Lines.{listed}
 use Rattle.rv_asm.proofs.Reading.{fails_bind}
 use Rattle.rv_asm.proofs.Lined.{lie_in_order, are_lines}

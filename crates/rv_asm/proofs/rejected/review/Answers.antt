@@ -1,7 +1,6 @@
 use Rattle.std.proofs.Common.{◌∙◌, ap}
 use Rattle.std.specs.Prelude.{slice_get}
-use Rattle.rv_asm.specs.Support.Counted.{joined, up_to}
-use Rattle.rv_asm.specs.Support.Steps.{known_before}
+use Rattle.rv_asm.specs.Support.Steps.{joined, up_to, known_before}
 use Rattle.rv_asm.proofs.Examining.{first_said}
 use Rattle.rv_asm.proofs.rejected.review.Goals as goal
 

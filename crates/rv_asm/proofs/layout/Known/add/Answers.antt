@@ -2,9 +2,8 @@ use Rattle.std.proofs.Common.{rules, ◌≡◌, ◌∙◌, ◌++◌, ◌∷◌, 
 use Rattle.std.proofs.lemmas.Int.{to_z-of_z}
 use mir.Syntax.{w64}
 use mir.Val.{SFits}
-use Rattle.rv_asm.specs.Support.Steps.{Known}
-use Rattle.rv_asm.specs.Support.Counted.{relabels}
-use Rattle.rv_asm.proofs.Laying.{lays_duplicate, lays_nothing, lays_fault, lays}
+use Rattle.rv_asm.specs.Support.Steps.{Known, relabels}
+use Rattle.rv_asm.proofs.Examining.{lays_duplicate, lays_nothing, lays_fault, lays}
 use Rattle.rv_asm.proofs.layout.Known.add.Goals as goal
 
 pub returns-then-branch : goal.returns-then-branch

@@ -1,8 +1,7 @@
 use Rattle.std.proofs.Common.{◌≡◌, drop}
 use Rattle.std.specs.Prelude.{◌||◌}
-use Rattle.rv_asm.specs.Support.Steps.{labelled, new_among}
-use Rattle.rv_asm.specs.Support.Counted.{relabels}
-use Rattle.rv_asm.proofs.Laying.{IsUpTo}
+use Rattle.rv_asm.specs.Support.Steps.{labelled, new_among, relabels}
+use Rattle.rv_asm.proofs.Examining.{IsUpTo}
 use Rattle.rv_asm.proofs.layout.Known.new_labels.Given as goal
 
 abbrev pub invariant-loop-label : goal.invariant-loop-label
