@@ -160,6 +160,14 @@ impl<'a> Listing<'a> {
         }
     }
 
+    /// Returns the labels with their addresses, in order of definition.
+    pub fn labels(&self) -> &'a [PlacedName]
+        ensures { result.now ≡ (seen self.now).labels }
+    {
+        let places = self.places;
+        places.labels.as_slice()
+    }
+
     /// Returns the last label at an address or before it, with the distance from it.
     pub fn label_before(&self, address: u32) -> Option<NearLabel<'a>>
         ensures { option_map {U = List ℕ × ℕ} (λ n. (n.name, n.distance)) result ≡ option_map (λ l. (l.0, address - l.1)) (last_or None (filter (λ l. nat_le l.1 address) (seen self.now).labels)) }
