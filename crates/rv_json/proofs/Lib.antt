@@ -1,3 +1,2 @@
 pub mod Lists
 pub mod Near
-pub mod Plain

@@ -4,7 +4,7 @@ ghost use Rattle.rv_json.specs.Json.{area_data, barrier_data, before_data, expla
 
 use crate::names::Names;
 use crate::object::send_members;
-use crate::sent::ToJson;
+use crate::sent::{ToJson, send_word};
 use rv_answers::{Area, Barrier, Before, Explained, Explanation, Handler, Reason, Sum, Unfetched};
 use serde::Serializer;
 
@@ -14,12 +14,12 @@ impl ToJson for Area {
     #[tactic(auto, unfolding(crate::specs::Json::area_data))]
     fn send<S: Serializer>(&self, _: &Names<'_>, out: &mut S) -> Result<(), S::Error> {
         match self {
-            Area::Nothing => out.str("nothing"),
-            Area::Halt => out.str("halt"),
-            Area::Timer => out.str("timer"),
-            Area::Controller => out.str("controller"),
-            Area::Serial => out.str("serial"),
-            Area::PastEnd => out.str("past_end"),
+            Area::Nothing => send_word("nothing", out),
+            Area::Halt => send_word("halt", out),
+            Area::Timer => send_word("timer", out),
+            Area::Controller => send_word("controller", out),
+            Area::Serial => send_word("serial", out),
+            Area::PastEnd => send_word("past_end", out),
         }
     }
 }
@@ -41,7 +41,7 @@ impl ToJson for Barrier {
 impl ToJson for Unfetched {
     ghost json = { λ _ u. unfetched_data u };
 
-    #[tactic(auto, unfolding(crate::specs::Json::unfetched_data))]
+    #[tactic(auto, unfolding(crate::specs::Json::unfetched_data, crate::specs::Support::Sends::Sends))]
     fn send<S: Serializer>(&self, names: &Names<'_>, out: &mut S) -> Result<(), S::Error> {
         match *self {
             Unfetched::Refused(barrier) => {
@@ -66,7 +66,7 @@ impl ToJson for Sum {
 impl ToJson for Reason {
     ghost json = { λ _ r. reason_data r };
 
-    #[tactic(auto, unfolding(crate::specs::Json::reason_data))]
+    #[tactic(auto, unfolding(crate::specs::Json::reason_data, crate::specs::Support::Sends::Sends))]
     fn send<S: Serializer>(&self, names: &Names<'_>, out: &mut S) -> Result<(), S::Error> {
         match *self {
             Reason::Interrupt(line) => send_members!(_, names, out, kind = "interrupt", line),

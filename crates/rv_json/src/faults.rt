@@ -4,7 +4,7 @@ ghost use Rattle.rv_json.specs.Json.{fault_data, fault_name, fault_number, fault
 
 use crate::names::Names;
 use crate::object::send_members;
-use crate::sent::{Text, ToJson};
+use crate::sent::{Text, ToJson, send_word};
 use rv_answers::Many;
 use rv_program::FaultKind;
 use serde::Serializer;
@@ -38,7 +38,7 @@ impl ToJson for FaultKind {
 
     #[tactic(auto, unfolding(crate::specs::Json::fault_name))]
     fn send<S: Serializer>(&self, _: &Names<'_>, out: &mut S) -> Result<(), S::Error> {
-        out.str(self.name())
+        send_word(self.name(), out)
     }
 }
 

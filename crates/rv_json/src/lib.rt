@@ -2,18 +2,14 @@
 #![tactic(auto)]
 
 mod answer;
-mod devices;
 mod explained;
 mod faults;
-mod inputs;
+mod looks;
+mod moves;
 mod names;
 mod object;
-mod places;
-mod refusal;
 mod rejected;
-mod runs;
 mod sent;
-mod state;
 mod text;
 
 pub use faults::Fault;

@@ -1,7 +1,8 @@
 //! Objects by their members.
 ghost use Rattle.std.specs.Prelude.{◌≡◌, ◌<◌, List, ℕ, OnOk, min};
 ghost use Rattle.serde_json.specs.Data.{Members, member, no_members, object};
-ghost use Rattle.serde_json.specs.Events.{SendsMembers, SendsValue, members_len};
+ghost use Rattle.serde_json.specs.Events.{members_len};
+ghost use Rattle.rv_json.specs.Support.Sends.{Sends, SendsAll};
 ghost use Rattle.rv_json.specs.Support.Labels.{labels};
 
 use crate::names::Names;
@@ -20,7 +21,7 @@ pub(crate) trait Members {
     /// Sends them, and the end of the object.
     fn send_all<S: Serializer>(&self, names: &Names<'_>, out: &mut S) -> Result<(), S::Error>
         ensures { OnOk result
-            (SendsMembers (members (labels names.now) self.now) (S.written out.old) (S.written out.new)) };
+            (SendsAll (members (labels names.now) self.now) (S.written out.old) (S.written out.new)) };
 }
 
 /// No member.
@@ -34,6 +35,7 @@ impl Members for End {
         0
     }
 
+    #[tactic(auto, unfolding(crate::specs::Support::Sends::SendsAll))]
     fn send_all<S: Serializer>(&self, _: &Names<'_>, out: &mut S) -> Result<(), S::Error> {
         out.end_map()
     }
@@ -54,6 +56,7 @@ impl<T: ToJson, R: Members> Members for Member<'_, T, R> {
         self.rest.count().saturating_add(1)
     }
 
+    #[tactic(auto, using(crate::proofs::Lists::member_sent))]
     fn send_all<S: Serializer>(&self, names: &Names<'_>, out: &mut S) -> Result<(), S::Error> {
         out.key(self.name)?;
         self.value.send(names, out)?;
@@ -62,6 +65,7 @@ impl<T: ToJson, R: Members> Members for Member<'_, T, R> {
 }
 
 /// Sends an object.
+#[tactic(auto, unfolding(crate::specs::Support::Sends::Sends, crate::specs::Support::Sends::SendsAll))]
 pub(crate) fn send_object<M: Members, S: Serializer>(
     members: &M,
     names: &Names<'_>,
@@ -69,7 +73,7 @@ pub(crate) fn send_object<M: Members, S: Serializer>(
 ) -> Result<(), S::Error>
     requires { members_len (M.members (labels names.now) members.now) < 256 }
     ensures { OnOk result
-        (SendsValue (object (M.members (labels names.now) members.now)) (S.written out.old) (S.written out.new)) }
+        (Sends (object (M.members (labels names.now) members.now)) (S.written out.old) (S.written out.new)) }
 {
     out.begin_map(Some(members.count()))?;
     members.send_all(names, out)

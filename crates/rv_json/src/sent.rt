@@ -1,7 +1,7 @@
 //! What has a JSON, and how it is sent: numbers, texts and lists.
 ghost use Rattle.std.specs.Prelude.{◌≡◌, List, ℕ, IfOk, OnOk, encode_utf8_all, string_bytes};
-ghost use Rattle.serde_json.specs.Data.{Data, boolean, string};
-ghost use Rattle.serde_json.specs.Events.{SendsValue};
+ghost use Rattle.serde_json.specs.Data.{Data, boolean, null, string};
+ghost use Rattle.rv_json.specs.Support.Sends.{Sends};
 ghost use Rattle.rv_json.specs.Json.{integer, list_data, natural, option_data, text_data};
 ghost use Rattle.rv_json.specs.Support.Labels.{labels};
 
@@ -20,12 +20,37 @@ pub(crate) trait ToJson {
     /// Sends its data.
     fn send<S: Serializer>(&self, names: &Names<'_>, out: &mut S) -> Result<(), S::Error>
         ensures { OnOk result
-            (SendsValue (json (labels names.now) self.now) (S.written out.old) (S.written out.new)) };
+            (Sends (json (labels names.now) self.now) (S.written out.old) (S.written out.new)) };
+}
+
+/// Sends a number.
+#[tactic(auto, unfolding(crate::specs::Support::Sends::Sends))]
+fn send_natural<S: Serializer>(number: u64, out: &mut S) -> Result<(), S::Error>
+    ensures { OnOk result (Sends (natural number) (S.written out.old) (S.written out.new)) }
+{
+    out.u64(number)
+}
+
+/// Sends a word.
+#[tactic(auto, unfolding(crate::specs::Support::Sends::Sends))]
+pub(crate) fn send_word<S: Serializer>(word: &str, out: &mut S) -> Result<(), S::Error>
+    ensures { OnOk result (Sends (string word.now) (S.written out.old) (S.written out.new)) }
+{
+    out.str(word)
+}
+
+/// Sends that there is nothing.
+#[tactic(auto, unfolding(crate::specs::Support::Sends::Sends))]
+pub(crate) fn send_null<S: Serializer>(out: &mut S) -> Result<(), S::Error>
+    ensures { OnOk result (Sends null (S.written out.old) (S.written out.new)) }
+{
+    out.unit()
 }
 
 impl ToJson for bool {
     ghost json = { λ _ b. boolean b };
 
+    #[tactic(auto, unfolding(crate::specs::Support::Sends::Sends))]
     fn send<S: Serializer>(&self, _: &Names<'_>, out: &mut S) -> Result<(), S::Error> {
         out.bool(*self)
     }
@@ -35,7 +60,7 @@ impl ToJson for u8 {
     ghost json = { λ _ n. natural n };
 
     fn send<S: Serializer>(&self, _: &Names<'_>, out: &mut S) -> Result<(), S::Error> {
-        out.u64(u64::from(*self))
+        send_natural(u64::from(*self), out)
     }
 }
 
@@ -43,7 +68,7 @@ impl ToJson for u16 {
     ghost json = { λ _ n. natural n };
 
     fn send<S: Serializer>(&self, _: &Names<'_>, out: &mut S) -> Result<(), S::Error> {
-        out.u64(u64::from(*self))
+        send_natural(u64::from(*self), out)
     }
 }
 
@@ -51,7 +76,7 @@ impl ToJson for u32 {
     ghost json = { λ _ n. natural n };
 
     fn send<S: Serializer>(&self, _: &Names<'_>, out: &mut S) -> Result<(), S::Error> {
-        out.u64(u64::from(*self))
+        send_natural(u64::from(*self), out)
     }
 }
 
@@ -59,14 +84,14 @@ impl ToJson for u64 {
     ghost json = { λ _ n. natural n };
 
     fn send<S: Serializer>(&self, _: &Names<'_>, out: &mut S) -> Result<(), S::Error> {
-        out.u64(*self)
+        send_natural(*self, out)
     }
 }
 
 impl ToJson for i32 {
     ghost json = { λ _ z. integer z };
 
-    #[tactic(auto, unfolding(crate::specs::Json::integer))]
+    #[tactic(auto, unfolding(crate::specs::Json::integer, crate::specs::Support::Sends::Sends))]
     fn send<S: Serializer>(&self, _: &Names<'_>, out: &mut S) -> Result<(), S::Error> {
         out.i64(i64::from(*self))
     }
@@ -76,7 +101,7 @@ impl ToJson for usize {
     ghost json = { λ _ n. natural n };
 
     fn send<S: Serializer>(&self, _: &Names<'_>, out: &mut S) -> Result<(), S::Error> {
-        out.u64(*self as u64)
+        send_natural(*self as u64, out)
     }
 }
 
@@ -84,7 +109,7 @@ impl ToJson for &str {
     ghost json = { λ _ s. string s.now };
 
     fn send<S: Serializer>(&self, _: &Names<'_>, out: &mut S) -> Result<(), S::Error> {
-        out.str(*self)
+        send_word(*self, out)
     }
 }
 
@@ -95,7 +120,7 @@ impl<T: ToJson> ToJson for Option<T> {
     fn send<S: Serializer>(&self, names: &Names<'_>, out: &mut S) -> Result<(), S::Error> {
         match self {
             Some(value) => value.send(names, out),
-            None => out.unit(),
+            None => send_null(out),
         }
     }
 }
@@ -142,10 +167,10 @@ fn string_of(alloc: Global, bytes: &[u8]) -> Result<String, NoMemory>
 /// Sends a string whose characters are bytes.
 #[tactic(auto, unfolding(crate::specs::Json::text_data))]
 fn send_text<S: Serializer>(bytes: &[u8], names: &Names<'_>, out: &mut S) -> Result<(), S::Error>
-    ensures { OnOk result (SendsValue (text_data bytes.now) (S.written out.old) (S.written out.new)) }
+    ensures { OnOk result (Sends (text_data bytes.now) (S.written out.old) (S.written out.new)) }
 {
     match string_of(names.alloc, bytes) {
-        Ok(text) => out.str(text.as_str()),
+        Ok(text) => send_word(text.as_str(), out),
         Err(NoMemory) => Err(out.custom("out of memory")),
     }
 }

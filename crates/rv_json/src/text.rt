@@ -1,6 +1,6 @@
 //! The JSON texts of an answer, of a command's line, and of a rejected source.
 ghost use Rattle.std.specs.Prelude.{◌≡◌, IfOk, string_bytes};
-ghost use Rattle.serde_json.specs.Events.{SendsValue};
+ghost use Rattle.rv_json.specs.Support.Sends.{Sends};
 ghost use Rattle.serde_json.specs.Written.{compact_text};
 ghost use Rattle.rv_asm.specs.Seen.{seen};
 ghost use Rattle.rv_json.specs.Json.{answer_data, faults_data, reply_data};
@@ -24,7 +24,7 @@ struct Told<'a, T> {
 }
 
 impl<T: ToJson> Described for Told<'_, T> {
-    ghost writes = { λ t. SendsValue (T.json (labels t.names) t.value.now) };
+    ghost writes = { λ t. Sends (T.json (labels t.names) t.value.now) };
 }
 
 impl<T: ToJson> Serialize for Told<'_, T> {
@@ -34,7 +34,7 @@ impl<T: ToJson> Serialize for Told<'_, T> {
 }
 
 /// Returns the JSON of an answer of a lab with a listing, in one line without spaces.
-#[tactic(auto, using(serde_json::proofs::FreeTexts::text_of_value, crate::proofs::Plain::answer_plain))]
+#[tactic(auto, using(crate::proofs::Lists::text_of))]
 pub fn answer_json(alloc: Global, listing: Listing<'_>, answer: &Answer) -> Result<String, NoMemory>
     ensures { IfOk result
         (λ s. string_bytes s ≡ compact_text (answer_data (seen listing.entry).labels answer.now)) }
@@ -76,7 +76,7 @@ impl ToJson for Exchange<'_> {
 
 /// Returns the JSON of what a command answers, with a word for what follows it and what the console got
 /// meanwhile, in one line without spaces.
-#[tactic(auto, using(serde_json::proofs::FreeTexts::text_of_value, crate::proofs::Plain::reply_plain))]
+#[tactic(auto, using(crate::proofs::Lists::text_of))]
 pub fn reply_json(
     alloc: Global,
     listing: Listing<'_>,
@@ -104,7 +104,7 @@ pub fn reply_json(
 }
 
 /// Returns the JSON of the faults of a source that is rejected, in one line without spaces.
-#[tactic(auto, using(serde_json::proofs::FreeTexts::text_of_value, crate::proofs::Plain::faults_plain))]
+#[tactic(auto, using(crate::proofs::Lists::text_of))]
 pub fn faults_json(alloc: Global, faults: &Many<Fault>) -> Result<String, NoMemory>
     ensures { IfOk result (λ s. string_bytes s ≡ compact_text (faults_data faults.now)) }
 {

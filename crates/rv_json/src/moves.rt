@@ -1,25 +1,27 @@
-//! Runs, steps and traces.
-ghost use Rattle.std.specs.Prelude.{◌≡◌};
+//! What the commands that move the board answer, and those that change breakpoints, give inputs or save.
+ghost use Rattle.rv_json.specs.Json.{aim_data, cleared_data, ending_data, given_data, met, option_data, run_data, saved_data, step_data, stepped_data, target_data, text_data, trace_data, watch_data, watched};
 ghost use Rattle.serde_json.specs.Data.{string};
-ghost use Rattle.rv_json.specs.Json.{aim_data, ending_data, met, run_data, step_data, stepped_data, target_data, trace_data, watch_data, watched};
+ghost use Rattle.std.specs.Prelude.{◌≡◌};
 
 use crate::names::Names;
 use crate::object::send_members;
-use crate::sent::ToJson;
-use rv_answers::{Aim, Ending, Run, Step, Stepped, Target, Trace, Trap, Watch};
+use crate::sent::{Text, ToJson, send_null, send_word};
+use rv_answers::{
+    Aim, Cleared, Ending, Given, Many, Run, Saved, Step, Stepped, Target, Trace, Trap, Watch,
+};
 use serde::Serializer;
 
 impl ToJson for Ending {
     ghost json = { λ _ e. ending_data e };
 
-    #[tactic(auto, unfolding(crate::specs::Json::ending_data))]
+    #[tactic(auto, unfolding(crate::specs::Json::ending_data, crate::specs::Support::Sends::Sends))]
     fn send<S: Serializer>(&self, _: &Names<'_>, out: &mut S) -> Result<(), S::Error> {
         match self {
-            Ending::Halted => out.str("halted"),
-            Ending::Reached => out.str("reached"),
-            Ending::Breakpoint => out.str("breakpoint"),
-            Ending::Limit => out.str("limit"),
-            Ending::Stuck => out.str("stuck"),
+            Ending::Halted => send_word("halted", out),
+            Ending::Reached => send_word("reached", out),
+            Ending::Breakpoint => send_word("breakpoint", out),
+            Ending::Limit => send_word("limit", out),
+            Ending::Stuck => send_word("stuck", out),
         }
     }
 }
@@ -27,16 +29,16 @@ impl ToJson for Ending {
 impl ToJson for Aim {
     ghost json = { λ _ a. aim_data a };
 
-    #[tactic(auto, unfolding(crate::specs::Json::aim_data))]
+    #[tactic(auto, unfolding(crate::specs::Json::aim_data, crate::specs::Support::Sends::Sends))]
     fn send<S: Serializer>(&self, _: &Names<'_>, out: &mut S) -> Result<(), S::Error> {
         match self {
-            Aim::Steps => out.str("steps"),
-            Aim::Breakpoint => out.str("breakpoint"),
-            Aim::Return => out.str("return"),
-            Aim::Trap(_) => out.str("trap"),
-            Aim::Console => out.str("console"),
-            Aim::Arrival => out.str("arrival"),
-            Aim::Watch(_) => out.str("watch"),
+            Aim::Steps => send_word("steps", out),
+            Aim::Breakpoint => send_word("breakpoint", out),
+            Aim::Return => send_word("return", out),
+            Aim::Trap(_) => send_word("trap", out),
+            Aim::Console => send_word("console", out),
+            Aim::Arrival => send_word("arrival", out),
+            Aim::Watch(_) => send_word("watch", out),
         }
     }
 }
@@ -89,7 +91,7 @@ impl ToJson for Watch {
 impl ToJson for Run {
     ghost json = { λ ls r. run_data ls r };
 
-    #[tactic(auto, unfolding(crate::specs::Json::run_data))]
+    #[tactic(auto, unfolding(crate::specs::Json::run_data, crate::specs::Support::Sends::Sends))]
     fn send<S: Serializer>(&self, names: &Names<'_>, out: &mut S) -> Result<(), S::Error> {
         send_members!(
             self,
@@ -131,5 +133,60 @@ impl ToJson for Trace {
     #[tactic(auto, unfolding(crate::specs::Json::trace_data))]
     fn send<S: Serializer>(&self, names: &Names<'_>, out: &mut S) -> Result<(), S::Error> {
         send_members!(self, names, out, kind = "traced", steps, ending, standing)
+    }
+}
+
+impl ToJson for Cleared {
+    ghost json = { λ ls c. cleared_data ls c };
+
+    #[tactic(auto, unfolding(crate::specs::Json::cleared_data))]
+    fn send<S: Serializer>(&self, names: &Names<'_>, out: &mut S) -> Result<(), S::Error> {
+        send_members!(self, names, out, kind = "cleared", place, was_there)
+    }
+}
+
+impl ToJson for Given {
+    ghost json = { λ _ g. given_data g };
+
+    #[tactic(auto, unfolding(crate::specs::Json::given_data))]
+    fn send<S: Serializer>(&self, names: &Names<'_>, out: &mut S) -> Result<(), S::Error> {
+        send_members!(self, names, out, kind = "given", inputs, steps, is_halted)
+    }
+}
+
+/// The name under which something is saved, if it has one.
+#[derive(Clone, Copy)]
+struct Name<'a>(&'a Option<Many<u8>>);
+
+impl ToJson for Name<'_> {
+    ghost json = { λ _ n. option_data text_data n.0.now };
+
+    #[tactic(auto, unfolding(crate::specs::Json::option_data))]
+    fn send<S: Serializer>(&self, names: &Names<'_>, out: &mut S) -> Result<(), S::Error> {
+        match self.0 {
+            Some(name) => Text(name).send(names, out),
+            None => send_null(out),
+        }
+    }
+}
+
+impl ToJson for Saved {
+    ghost json = { λ _ s. saved_data s };
+
+    #[tactic(auto, unfolding(crate::specs::Json::saved_data))]
+    fn send<S: Serializer>(&self, names: &Names<'_>, out: &mut S) -> Result<(), S::Error> {
+        send_members!(
+            self,
+            names,
+            out,
+            kind = "saved",
+            name = Name(&self.name),
+            list = Text(&self.list),
+            inputs,
+            commands = Text(&self.commands),
+            steps,
+            limit,
+            pages
+        )
     }
 }
