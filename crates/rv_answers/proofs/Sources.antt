@@ -3,24 +3,24 @@ use Rattle.std.proofs.Common.{◌≡◌, ◌∙◌, ℕ, zero, suc, ◌+◌, ◌
 use Rattle.std.specs.List.{range_with_len}
 use Rattle.std.proofs.lemmas.Bool.{le-leb, lt-ltb}
 use Rattle.rv_plic.specs.Gateways.{PlicState}
-use Rattle.rv_plic.specs.Plic.{at, priority_of}
+use Rattle.rv_plic.specs.Plic.{plic_register, priority_of}
 use Rattle.rv_plic.specs.Support.Registers.{reg_at}
 use Rattle.rv_plic.specs.Sources.{sources, word_of}
 use Rattle.rv_plic.proofs.Rows.{loads}
 
-pub pending_word : (p : PlicState) → (at 0x1000).word p ≡ word_of p.pending
+pub pending_word : (p : PlicState) → (plic_register 0x1000).word p ≡ word_of p.pending
 unfolding reg_at
 pending_word p = loads p 0x1000 refl
 
-pub enabled_word : (p : PlicState) → (at 0x2000).word p ≡ word_of p.enabled
+pub enabled_word : (p : PlicState) → (plic_register 0x2000).word p ≡ word_of p.enabled
 unfolding reg_at
 enabled_word p = loads p 0x2000 refl
 
-pub threshold_word : (p : PlicState) → (at 0x200000).word p ≡ p.threshold
+pub threshold_word : (p : PlicState) → (plic_register 0x200000).word p ≡ p.threshold
 unfolding reg_at
 threshold_word p = loads p 0x200000 refl
 
-pub priority_word : (p : PlicState) (s : ℕ) → 0 < s → s < 32 → (at (4 * s)).word p ≡ priority_of p s
+pub priority_word : (p : PlicState) (s : ℕ) → 0 < s → s < 32 → (plic_register (4 * s)).word p ≡ priority_of p s
 unfolding reg_at
 priority_word p s low high =
     let same : 4 * s / 4 ≡ s = omega arith in

@@ -9,7 +9,7 @@ use Rattle.rv_mmio.specs.Timer.{TimerState, is_due}
 use Rattle.rv_plic.specs.Gateways.{PlicState, edges_of}
 use Rattle.rv_plic.specs.Plic.{priority_of}
 use Rattle.rv_plic.specs.Sources.{word_of}
-use Rattle.rv_pmp.specs.Entry.{entry_grants, matching_code}
+use Rattle.rv_pmp.specs.Entry.{matching_code, permits}
 use Rattle.rv_pmp.specs.Pmp.{PmpState, entry_at, matches}
 use Rattle.rv_pmp.specs.declared.access.Access.TheVariants.{Read, Write, Execute}
 use Rattle.rv_pmp.specs.declared.entry.Entry.{Entry}
@@ -56,9 +56,9 @@ source_of p s = record {
 
 abbrev pub rights_of : Entry → Mode → Rights
 rights_of entry mode = record {
-  read = entry_grants entry mode Read;
-  write = entry_grants entry mode Write;
-  execute = entry_grants entry mode Execute;
+  read = permits entry mode Read;
+  write = permits entry mode Write;
+  execute = permits entry mode Execute;
 }
 
 -- the first and the last of some bytes

@@ -1,16 +1,15 @@
 -- Locked entries of protection, which no event changes.
 use Rattle.std.proofs.Common.{◌≡◌, ◌∙◌, ℕ, List, ◌+◌, ◌*◌, ◌/◌, ◌%◌, ◌^◌, ◌==◌, Bool, true, false, [], ◌∷◌, length, Option, Some, None, Result, Ok, Err, refl, sym, ap, subst, nat_lt}
-use Rattle.std.specs.Prelude.{if◌then◌else◌, ◌&&◌, not, slice_index_or}
+use Rattle.std.specs.Prelude.{if◌then◌else◌, ◌&&◌, not}
 use Rattle.std.specs.Option.{option_map}
 use Rattle.rv_isa.specs.Number.{flag}
 use Rattle.rv_isa.specs.declared.kind.Kind.{Kind}
 use Rattle.rv_isa.specs.declared.op.CsrOp.{CsrOp}
-use Rattle.rv_pmp.specs.Entry.{matching_code, configured, addressed}
+use Rattle.rv_pmp.specs.Entry.{addressed, configured, matching_code, matching_of}
 use Rattle.rv_pmp.specs.Pmp as protection
 use Rattle.rv_pmp.specs.Pmp.{PmpState, entry_at, is_locked_tor, written}
 use Rattle.rv_pmp.proofs.Registers.{stored_entry}
 use Rattle.rv_pmp.specs.declared.entry.Entry.{Entry}
-use Rattle.rv_pmp.specs.declared.entry.Matching.TheVariants.{Off, Tor, Na4, Napot}
 use Rattle.rv_pmp.specs.declared.mode.Mode.{Mode}
 use Rattle.rv_pmp.specs.declared.mode.Mode.TheVariants as mode
 use Rattle.rv_csr.specs.State.{CsrState}
@@ -66,7 +65,7 @@ module _ (e : Entry) (byte word : ℕ) where
     writable = flag byte 0 && flag byte 1;
     executable = flag byte 2;
     locked = flag byte 7;
-    matching = slice_index_or (Off ∷ Tor ∷ Na4 ∷ Napot ∷ []) (byte / 2 ^ 3 % 4) Napot;
+    matching = matching_of (byte / 2 ^ 3 % 4);
   }
 
   configured_locked : e.locked ≡ true → configured e byte ≡ e

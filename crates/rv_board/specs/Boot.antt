@@ -4,8 +4,8 @@ use Rattle.std.specs.Prelude.{ℕ, Bool, ◌*◌, ◌-◌, ◌&&◌, nat_le, nat
 use Rattle.std.specs.Option.{option_map}
 use Rattle.rv_ram.specs.Bytes.{zeros}
 use Rattle.rv_cache.specs.SlotCount.{is_slot_count}
-use Rattle.rv_bus.specs.State as bus
-use Rattle.rv_hart.specs.Step as hart
+use Rattle.rv_bus.specs.State.{bus_at_reset}
+use Rattle.rv_hart.specs.Step.{machine_at_reset}
 use Rattle.rv_board.specs.BoardState.{BoardState}
 use Rattle.rv_board.specs.declared.event.BootFault.{BootFault}
 use Rattle.rv_board.specs.declared.event.BootFault.TheVariants.{BadPages, BadSlots, ImageTooLarge}
@@ -19,6 +19,6 @@ boot_fault size pages slots =
     ∷ (nat_lt (4096 * pages) size, ImageTooLarge) ∷ []))
 
 -- the board at reset over `size` bytes of memory: the image, followed by zeros
-unfoldable pub reset : List ℕ → ℕ → BoardState
-reset image size =
-    record { machine = hart.reset (bus.reset (image ++ zeros (size - length image))); traps = []; steps = 0 }
+unfoldable pub board_at_reset : List ℕ → ℕ → BoardState
+board_at_reset image size =
+    record { machine = machine_at_reset (bus_at_reset (image ++ zeros (size - length image))); traps = []; steps = 0 }

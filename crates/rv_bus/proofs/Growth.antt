@@ -6,7 +6,7 @@ use Rattle.rv_isa.specs.declared.op.Width.{Width}
 use Rattle.rv_ram.specs.Support.Room.{RoomRule}
 use Rattle.rv_mmio.specs.declared.serial.SerialReg.TheVariants.{Tx, Rx, Status}
 use Rattle.rv_bus.specs.State.{BusState}
-use Rattle.rv_bus.specs.Access.{store, writes}
+use Rattle.rv_bus.specs.Access.{store, keeps_stores}
 use Rattle.rv_bus.specs.Support.AtLocation.{is_written, location, store_at}
 use Rattle.rv_bus.specs.Support.Room.{wants_room, wants_room_at}
 use Rattle.rv_bus.proofs.Rows as rows
@@ -26,7 +26,7 @@ at_location rule b v w (Plic off) is = absurd cc
 at_location rule b v w Nowhere is = absurd cc
 
 pub room_stores : (rule : RoomRule) (b : BusState) (a v : ℕ) (w : Width) → wants_room rule b a w v ≡ true
-    → (writes b a ≡ true) × (is_some (store b a w v) ≡ true)
+    → (keeps_stores b a ≡ true) × (is_some (store b a w v) ≡ true)
 unfolding wants_room
 room_stores rule b a v w is =
     let at = at_location rule b v w (location b a w) is in

@@ -6,7 +6,7 @@ use Rattle.std.proofs.lemmas.Option.{slice_get-get_or, slice_get_past}
 use Rattle.rv_base.specs.Limits.{ram_base}
 use Rattle.rv_ram.specs.Bytes.{value_at}
 use Rattle.rv_bus.specs.State.{BusState}
-use Rattle.rv_bus.specs.Access.{fetch, ram_byte, writes}
+use Rattle.rv_bus.specs.Access.{fetch, ram_byte, keeps_stores}
 use Rattle.rv_bus.specs.Support.AtLocation.{in_memory}
 
 is_within : (bs : List ℕ) (i : ℕ) → is_some (slice_get bs i) ≡ nat_lt i (length bs)
@@ -27,6 +27,6 @@ pub fetch_is : (ram : List ℕ) (a : ℕ)
 unfolding fetch
 fetch_is ram a = ap (λ t. if t then Some (value_at ram (a - ram_base) 4) else None) (has_byte ram a)
 
-pub writes_is : (b : BusState) (a : ℕ) → writes b a ≡ (in_memory b.ram a || (a == 0x10000000))
-unfolding writes
+pub writes_is : (b : BusState) (a : ℕ) → keeps_stores b a ≡ (in_memory b.ram a || (a == 0x10000000))
+unfolding keeps_stores
 writes_is b a = ap (λ t. t || (a == 0x10000000)) (has_byte b.ram a)

@@ -11,10 +11,10 @@ use Rattle.rv_isa.specs.declared.op.Width.TheVariants.{One, Two, Four}
 use Rattle.rv_ram.specs.Bytes.{value_at}
 use Rattle.rv_mmio.specs.declared.serial.SerialReg.TheVariants.{Tx}
 use Rattle.rv_bus.specs.State.{BusState}
-use Rattle.rv_bus.specs.Table.{reached, windows}
-use Rattle.rv_bus.specs.Access.{load, store, writes, fetch}
+use Rattle.rv_bus.specs.Table.{Window, window_at, windows}
+use Rattle.rv_bus.specs.Access.{load, store, keeps_stores, fetch}
 use Rattle.rv_bus.specs.Support.Locations.{controller, device_in, for_width, has, location_of, registers, takes}
-use Rattle.rv_bus.specs.Support.AtLocation.{IsFor, in_memory, location, reach_at, is_written, fetch_at}
+use Rattle.rv_bus.specs.Support.AtLocation.{IsFor, Reached, in_memory, location, reach_at, is_written, fetch_at}
 use Rattle.rv_bus.specs.declared.locations.Location.{Location}
 use Rattle.rv_bus.specs.declared.locations.Location.TheVariants.{Nowhere, Plic, Ram, Serial}
 use Rattle.rv_bus.proofs.Memory.{fetch_is, writes_is}
@@ -34,25 +34,18 @@ narrow Four (Serial reg) = refl
 narrow Four p = refl
 
 module _ (b : BusState) (a : ℕ) (w : Width) where
-  -- what an access reaches, and a row of the table
-  abbrev Reached : Type 0
-  Reached = (ℕ × BusState) × (ℕ → BusState)
-
-  abbrev Row : Type 0
-  Row = ℕ × ℕ × ℕ × (ℕ → Reached)
-
   -- what a row reaches, or none, is what an access reaches at a location
   abbrev IsRow : Option Reached → Location → Type 0
   IsRow x p = x ≡ reach_at b p (bytes_of w)
 
   -- whether a row takes the access, and what it reaches
-  abbrev takes_it : Row → Bool
-  takes_it x = nat_le x.2 (bytes_of w) && has x.0 x.1 a
+  abbrev takes_it : Window → Bool
+  takes_it x = nat_le x.narrowest (bytes_of w) && has x.first x.places a
 
-  abbrev reaches : Row → Reached
-  reaches x = x.3 (a - x.0)
+  abbrev reaches : Window → Reached
+  reaches x = (x.load (a - x.first), x.store (a - x.first))
 
-  first : (t : Bool) (x : Row) (rest : Option Row) (p q : Location) → IsRow (Some (reaches x)) p
+  first : (t : Bool) (x : Window) (rest : Option Window) (p q : Location) → IsRow (Some (reaches x)) p
       → IsRow (option_map reaches rest) q
       → IsRow (option_map reaches (cond t (Some x) rest)) (if t then p else q)
   first true x rest p q here later = here
@@ -61,21 +54,22 @@ module _ (b : BusState) (a : ℕ) (w : Width) where
   -- ---- the rows of the devices
 
   -- rows are those of the registers, of which no later one has the same address, and then the interrupt controller's
-  abbrev IsRegister : ℕ × Location → Row → List Row → Type 0
+  abbrev IsRegister : ℕ × Location → Window → List Window → Type 0
   IsRegister y x xs =
-      (x.0 ≡ y.0) × (x.1 ≡ 1) × (x.2 ≡ narrowest y.1) × ((off : ℕ) → IsRow (Some (x.3 off)) y.1)
-      × (list_any (λ (x : Row). has x.0 x.1 y.0) xs ≡ false)
+      (x.first ≡ y.0) × (x.places ≡ 1) × (x.narrowest ≡ narrowest y.1)
+      × ((off : ℕ) → IsRow (Some (x.load off, x.store off)) y.1)
+      × (list_any (λ (x : Window). has x.first x.places y.0) xs ≡ false)
 
-  abbrev AreRows : List (ℕ × Location) → List Row → Type 0
+  abbrev AreRows : List (ℕ × Location) → List Window → Type 0
   AreRows [] xs = xs ≡ drop (length registers + 1) (windows b (bytes_of w))
   AreRows (y ∷ ys) [] = ⊥
   AreRows (y ∷ ys) (x ∷ xs) = IsRegister y x xs × AreRows ys xs
 
-  none_takes : (xs : List Row) → list_any (λ (x : Row). has x.0 x.1 a) xs ≡ false → find takes_it xs ≡ None
+  none_takes : (xs : List Window) → list_any (λ (x : Window). has x.first x.places a) xs ≡ false → find takes_it xs ≡ None
   none_takes [] none = refl
   none_takes (x ∷ xs) none =
-      let p = or_parts (has x.0 x.1 a) (list_any (λ (x : Row). has x.0 x.1 a) xs) none in
-      ap (λ t. cond t (Some x) (find takes_it xs)) (and_right (nat_le x.2 (bytes_of w)) (has x.0 x.1 a) p.0)
+      let p = or_parts (has x.first x.places a) (list_any (λ (x : Window). has x.first x.places a) xs) none in
+      ap (λ t. cond t (Some x) (find takes_it xs)) (and_right (nat_le x.narrowest (bytes_of w)) (has x.first x.places a) p.0)
       ∙ none_takes xs p.1
 
   nowhere : (t : Bool) → IsRow None (if t then Nowhere else Nowhere)
@@ -83,7 +77,7 @@ module _ (b : BusState) (a : ℕ) (w : Width) where
   nowhere false = refl
 
   -- the row of a device, by whether it takes the width, and whether it has the address
-  at_row : (t u : Bool) (x : Row) (rest : Option Row) (p q : Location) → takes p w ≡ t
+  at_row : (t u : Bool) (x : Window) (rest : Option Window) (p q : Location) → takes p w ≡ t
       → (u ≡ true → rest ≡ None) → IsRow (Some (reaches x)) p → IsRow (option_map reaches rest) (for_width q w)
       → IsRow (option_map reaches (cond (t && u) (Some x) rest)) (for_width (if u then p else q) w)
   at_row true true x rest p q is none here later =
@@ -95,13 +89,13 @@ module _ (b : BusState) (a : ℕ) (w : Width) where
   at_row false false x rest p q is none here later = later
 
   -- a row's test, by the location that it has
-  tested : (p : Location) (u : Bool) (x : Row) (rest : Option Row) (at : Location)
+  tested : (p : Location) (u : Bool) (x : Window) (rest : Option Window) (at : Location)
       → IsRow (option_map reaches (cond (takes p w && u) (Some x) rest)) at
       → IsRow (option_map reaches (cond (nat_le (narrowest p) (bytes_of w) && u) (Some x) rest)) at
   tested p u x rest at =
       subst (λ t. IsRow (option_map reaches (cond (t && u) (Some x) rest)) at) (sym (narrow w p))
 
-  rows_of : (ys : List (ℕ × Location)) (xs : List Row) → AreRows ys xs
+  rows_of : (ys : List (ℕ × Location)) (xs : List Window) → AreRows ys xs
       → IsRow (option_map reaches (find takes_it xs)) (for_width (device_in ys a) w)
   rows_of [] xs is =
       subst (λ xs. IsRow (option_map reaches (find takes_it xs)) (for_width (controller a) w)) (sym is)
@@ -112,22 +106,22 @@ module _ (b : BusState) (a : ℕ) (w : Width) where
   rows_of (y ∷ ys) (x ∷ xs) is =
       subst (λ t. IsRow (option_map reaches (cond t (Some x) (find takes_it xs))) (for_width (device_in (y ∷ ys) a) w))
       (sym test)
-      (at_row (takes y.1 w) (a == y.0) x (find takes_it xs) y.1 (device_in ys a) refl none (is.0.3 (a - x.0))
+      (at_row (takes y.1 w) (a == y.0) x (find takes_it xs) y.1 (device_in ys a) refl none (is.0.3 (a - x.first))
       (rows_of ys xs is.1))
     where
       test : takes_it x ≡ (takes y.1 w && (a == y.0))
       test =
-          ap (λ f. nat_le x.2 (bytes_of w) && has f x.1 a) is.0.0
-          ∙ (ap (λ s. nat_le x.2 (bytes_of w) && has y.0 s a) is.0.1
+          ap (λ f. nat_le x.narrowest (bytes_of w) && has f x.places a) is.0.0
+          ∙ (ap (λ s. nat_le x.narrowest (bytes_of w) && has y.0 s a) is.0.1
           ∙ (ap (λ n. nat_le n (bytes_of w) && has y.0 1 a) is.0.2
           ∙ (ap (λ t. t && has y.0 1 a) (narrow w y.1) ∙ ap (λ u. takes y.1 w && u) (one_address y.0 a))))
 
       none : (a == y.0) ≡ true → find takes_it xs ≡ None
       none u =
           none_takes xs
-          (subst (λ k. list_any (λ (x : Row). has x.0 x.1 k) xs ≡ false) (sym (eqb-true a y.0 u)) is.0.4)
+          (subst (λ k. list_any (λ (x : Window). has x.first x.places k) xs ≡ false) (sym (eqb-true a y.0 u)) is.0.4)
 
-  rows : IsRow (reached b a (bytes_of w)) (location b a w)
+  rows : IsRow (option_map reaches (window_at b a (bytes_of w))) (location b a w)
   unfolding location_of
   rows =
       tested (Serial Tx) (has ram_base (length b.ram) a) _ (find takes_it (drop 1 (windows b (bytes_of w)))) _
@@ -168,19 +162,26 @@ module _ (b : BusState) (a : ℕ) (w : Width) where
   writing true u p is = refl
   writing false u p is = sym is
 
-  written : writes b a ≡ is_written (location b a w)
+  written : keeps_stores b a ≡ is_written (location b a w)
   unfolding location_of
   written =
       writes_is b a
       ∙ writing (in_memory b.ram a) (a == 0x10000000) (for_width (device_in registers a) w)
       (device_written (a == 0x10000000))
 
+  -- a part of what a window reaches
+  twice : {A : Type 0} (part : Reached → A) (found : Option Window)
+      → option_map (λ x. part (reaches x)) found ≡ option_map part (option_map reaches found)
+  twice part None = refl
+  twice part (Some x) = refl
+
   pub at_location : IsFor b a w (location b a w)
   unfolding load store
   at_location =
       record {
-        load = ap (λ x. option_map (λ (x : Reached). x.0) x) rows;
-        store = λ v. ap (λ x. option_map (λ (x : Reached). x.1 v) x) rows;
+        load = twice (λ (x : Reached). x.0) (window_at b a (bytes_of w)) ∙ ap (option_map (λ (x : Reached). x.0)) rows;
+        store = λ v. twice (λ (x : Reached). x.1 v) (window_at b a (bytes_of w))
+            ∙ ap (option_map (λ (x : Reached). x.1 v)) rows;
         writes = written;
         fetch = fetches;
       }

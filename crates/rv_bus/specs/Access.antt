@@ -10,23 +10,23 @@ use Rattle.rv_ram.specs.Bytes.{value_at}
 use Rattle.rv_plic.specs.Plic.{is_notified}
 use Rattle.rv_mmio.specs.Timer.{is_due}
 use Rattle.rv_bus.specs.State.{BusState}
-use Rattle.rv_bus.specs.Table.{reached}
+use Rattle.rv_bus.specs.Table.{window_at}
 
 -- the value that a load returns, with the bus after it, or none for a fault
 unfoldable pub load : BusState → ℕ → Width → Option (ℕ × BusState)
-load b a w = option_map (λ reached. reached.0) (reached b a (bytes_of w))
+load b a w = option_map (λ window. window.load (a - window.first)) (window_at b a (bytes_of w))
 
 -- the bus after a store, or none for a fault
 unfoldable pub store : BusState → ℕ → Width → ℕ → Option BusState
-store b a w v = option_map (λ reached. reached.1 v) (reached b a (bytes_of w))
+store b a w v = option_map (λ window. window.store (a - window.first) v) (window_at b a (bytes_of w))
 
 -- the byte of the memory at an address, if there is one
 abbrev pub ram_byte : List ℕ → ℕ → Option ℕ
 ram_byte ram a = if nat_le ram_base a then slice_get ram (a - ram_base) else None
 
 -- whether a store at an address goes into the memory or to the transmit register
-unfoldable pub writes : BusState → ℕ → Bool
-writes b a = is_some (ram_byte b.ram a) || (a == 0x10000000)
+unfoldable pub keeps_stores : BusState → ℕ → Bool
+keeps_stores b a = is_some (ram_byte b.ram a) || (a == 0x10000000)
 
 -- the word that a fetch returns, or none for a fault: only the memory can be fetched from
 unfoldable pub fetch : List ℕ → ℕ → Option ℕ

@@ -5,11 +5,12 @@ ghost use Rattle.rv_isa.specs.Width.{bytes_of};
 ghost use Rattle.rv_base.specs.Limits.{ram_base};
 ghost use Rattle.rv_ram.specs.Bytes.{put, value_at};
 ghost use Rattle.rv_ram.specs.Support.Table.{HasPages};
+ghost use Rattle.rv_mmio.specs.Serial.{serial_register};
 ghost use Rattle.rv_mmio.specs.Serial as serial;
-ghost use Rattle.rv_bus.specs.State.{BusState, reset};
+ghost use Rattle.rv_bus.specs.State.{BusState, bus_at_reset};
 ghost use Rattle.rv_plic.specs.Plic as plic;
-ghost use Rattle.rv_mmio.specs.Timer as timer;
-ghost use Rattle.rv_bus.specs.Access.{load, store, writes, fetch, ram_byte, lines_of};
+ghost use Rattle.rv_mmio.specs.Timer.{timer_ticked};
+ghost use Rattle.rv_bus.specs.Access.{load, store, keeps_stores, fetch, ram_byte, lines_of};
 ghost use Rattle.rv_bus.specs.Support.AtLocation.{IsFor, location};
 ghost use Rattle.rv_bus.specs.Support.Within.{IsWithin};
 ghost use Rattle.rv_bus.specs.Support.Room.{wants_room};
@@ -133,7 +134,7 @@ impl<M: ByteMemory> Model for Bus<M> {
 impl<M: ByteMemory> Bus<M> {
     /// Returns a bus over a memory and a serial port, with all other devices at reset.
     pub fn new(ram: M, serial: Serial) -> Bus<M>
-        ensures { result ≡ record (reset (M.bytes ram)) { serial = serial } }
+        ensures { result ≡ record (bus_at_reset (M.bytes ram)) { serial = serial } }
     {
         Bus {
             ram,
@@ -211,8 +212,8 @@ impl<M: ByteMemory> Bus<M> {
 
     /// Loads a register of the serial port: the low bytes of its word.
     fn load_serial(&mut self, register: SerialReg, width: Width) -> u32
-        ensures value { result ≡ (serial.at register).word self.old.serial % 256 ^ bytes_of width }
-        ensures after { self.new ≡ record self.old { serial = (serial.at register).loaded self.old.serial } }
+        ensures value { result ≡ (serial_register register).word self.old.serial % 256 ^ bytes_of width }
+        ensures after { self.new ≡ record self.old { serial = (serial_register register).loaded self.old.serial } }
     {
         let word = self.serial.load(register);
         match width {
@@ -231,7 +232,7 @@ impl<M: ByteMemory> Bus<M> {
         ensures ok { OnOk result (store self.old addr width value ≡ Some self.new) }
         ensures err { OnErr result (self.new ≡ self.old) }
         ensures fault { IfErr result (λ e. e ≡ refusal.Fault → store self.old addr width value ≡ None) }
-        ensures memory { IfErr result (λ e. e ≡ refusal.NoMemory → writes self.old addr ≡ true) }
+        ensures memory { IfErr result (λ e. e ≡ refusal.NoMemory → keeps_stores self.old addr ≡ true) }
         ensures room { IfErr result (λ e. e ≡ refusal.NoMemory
             → wants_room M.wants_room self.old addr width value ≡ true) }
         ensures others { (a : ℕ) → a % 4 ≡ 0 → a ≢ addr / 4 * 4 → fetch self.new.ram a ≡ fetch self.old.ram a }
@@ -284,7 +285,7 @@ impl<M: ByteMemory> Bus<M> {
     /// Advances the time by one tick, and forwards the requests of the interrupt controller's gateways.
     pub fn tick(&mut self)
         ensures { self.new ≡ record self.old {
-          timer = timer.ticked self.old.timer;
+          timer = timer_ticked self.old.timer;
           plic = plic.forwarded self.old.plic;
         } }
     {

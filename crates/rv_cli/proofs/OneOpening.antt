@@ -2,8 +2,7 @@
 use Rattle.std.proofs.Common.{◌≡◌, ◌∙◌, ℕ, ◌*◌, List, length, Option, Some, None, Result, Ok, Err, refl, sym, ap, ⊎_elim}
 use Rattle.std.specs.Prelude.{◌≢◌}
 use Rattle.rv_base.specs.Lines.{lines}
-use Rattle.rv_board.specs.Boot.{boot_fault}
-use Rattle.rv_board.specs.Boot as boot
+use Rattle.rv_board.specs.Boot.{boot_fault, board_at_reset}
 use Rattle.rv_board.specs.declared.event.BootFault.{BootFault}
 use Rattle.rv_timeline.specs.Timed.{timed}
 use Rattle.rv_timeline.specs.declared.input.TimedInput.{TimedInput}
@@ -19,7 +18,7 @@ Opening = Result SessionState OpenFault
 
 module _ (program : Assembly) (inputs : List ℕ) (pages slots limit : ℕ) where
   abbrev session : List TimedInput → SessionState
-  session xs = new_session (boot.reset program.bytes (4096 * pages)) xs program limit
+  session xs = new_session (board_at_reset program.bytes (4096 * pages)) xs program limit
 
   abbrev fault : Option BootFault
   fault = boot_fault (length program.bytes) pages slots

@@ -9,8 +9,7 @@ use Rattle.rv_pmp.specs.Support.Registers.{WritesOrRefuses}
 use Rattle.rv_pmp.specs.declared.mode.Mode.{Mode}
 use Rattle.rv_pmp.specs.declared.mode.Mode.TheVariants.{User}
 use Rattle.rv_csr.specs.Support.RegisterCases.{register_at}
-use Rattle.rv_csr.specs.Support.MayAccess.{may_read, may_write}
-use Rattle.rv_csr.specs.Registers.{read}
+use Rattle.rv_csr.specs.Registers.{may_read, may_write, read}
 use Rattle.rv_csr.proofs.Table.{read_by_cases}
 use Rattle.rv_csr.specs.State.{CsrState}
 use Rattle.rv_csr.specs.declared.register.Register.{Register}
@@ -28,7 +27,7 @@ nothing_loaded pmp addr h = search rules
 
 nothing_stored : (pmp : PmpState) (addr word : ℕ) → addr / 2 ^ 8 % 4 ≡ 0
     → protection.write_register pmp addr word ≡ None
-unfolding protection.write_register protection.read_register
+unfolding protection.write_register
 nothing_stored pmp addr word h = search rules
 
 -- ---- so user mode may access none, neither one of the table nor one of protection

@@ -1,42 +1,35 @@
 -- The table of the registers says what the cases by register say.
 use Rattle.std.proofs.Common.{rules}
-use Rattle.std.proofs.Common.{◌≡◌, ℕ, zero, suc, ◌+◌, ◌-◌, ◌*◌, ◌==◌, Bool, true, false, cond, List, [], ◌∷◌, ◌++◌, map, length, Option, Some, None, refl, ap, sym, ◌∙◌, arith, nat_lt, nat_le}
+use Rattle.std.proofs.Common.{◌≡◌, ℕ, zero, suc, ◌+◌, ◌-◌, ◌*◌, ◌==◌, Bool, true, false, cond, List, [], ◌∷◌, ◌++◌, map, length, Option, Some, None, refl, ap, subst, sym, ◌∙◌, arith, nat_lt, nat_le}
 use Rattle.std.specs.Prelude.{◌&&◌, ◌||◌, find, if◌then◌else◌, codes}
 use Rattle.std.specs.Fmt.{digits}
 use Rattle.std.specs.List.{list_all, list_any, range_with_len}
-use Rattle.std.specs.Option.{option_map, option_or}
+use Rattle.std.specs.Option.{option_map, option_map_or, option_or}
 use Rattle.std.proofs.lemmas.Bool.Decides.{nat_tests}
+use Rattle.std.proofs.lemmas.Bool.{eqb-true, or_from, or_parts}
 use Rattle.std.proofs.lemmas.List.Folds.{list_any-append}
 use Rattle.rv_isa.specs.Names.{csr_names, numbered}
 use Rattle.rv_isa.specs.declared.Lines.{Lines}
 use Rattle.rv_pmp.specs.Pmp as protection
-use Rattle.rv_pmp.specs.Pmp.{PmpState, config_word, entry_at, written}
-use Rattle.rv_pmp.specs.Support.Registers.{is_config, is_address}
+use Rattle.rv_pmp.specs.Pmp.{PmpState, config_word, entry_at, is_address, is_config, written}
 use Rattle.rv_pmp.specs.declared.mode.Mode.{Mode}
 use Rattle.rv_csr.specs.State.{CsrState}
-use Rattle.rv_csr.specs.Support.MayAccess.{may_read, may_write}
-use Rattle.rv_csr.specs.Registers.{table, row_at, number_of, read, write}
-use Rattle.rv_csr.specs.Support.RegisterCases.{Row, is_from_to, is_zero, register_at, value_of, with_value, with_value_at}
+use Rattle.rv_csr.specs.Registers.{CsrRow, is_at, may_read, may_write, number_of, read, row_at, table, word_at, write, written_at, wrote_half}
+use Rattle.rv_csr.specs.Support.RegisterCases.{is_from_to, is_zero, register_at, value_of, with_value, with_value_at}
 use Rattle.rv_csr.specs.Support.RegisterCases as cases
 use Rattle.rv_csr.specs.declared.register.Register.{Register}
-use Rattle.rv_csr.specs.declared.register.Register.TheVariants.{Zero}
+use Rattle.rv_csr.specs.declared.register.Register.TheVariants.{Mcause, Mcycle, Mcycleh, Mepc, Mie, Minstret, Minstreth, Mip, Misa, Mscratch, Mstatus, Mtval, Mtvec, Zero}
 
 -- a row has the value and the write of a register
-pub record Agrees (row : Row) (register : Register) : Type 0 where
-  pub value : (s : CsrState) (lines : Lines) → row.1 s lines ≡ value_of s lines register
-  pub written : (s : CsrState) (word : ℕ) → row.2 s word ≡ with_value s register word
+pub record Agrees (row : CsrRow) (register : Register) : Type 0 where
+  pub value : (s : CsrState) (lines : Lines) → row.value s lines ≡ value_of s lines register
+  pub written : (s : CsrState) (word : ℕ) → row.written s word ≡ with_value s register word
 
-abbrev Same : Option Row → Option Register → Type 0
+abbrev Same : Option CsrRow → Option Register → Type 0
 Same None None = Unit {0}
 Same (Some row) (Some register) = Agrees row register
 Same None (Some register) = ⊥
 Same (Some row) None = ⊥
-
--- one row more, with the number n
-more : (addr n : ℕ) (row : Row) (register : Register) (rows : Option Row) (others : Option Register)
-    → number_of row.0 ≡ n → Agrees row register → ((addr == n) ≡ false → Same rows others)
-    → Same (cond (addr == number_of row.0) (Some row) rows) (if addr == n then Some register else others)
-more addr n row register rows others is here later = search rules
 
 -- ---- the registers that have a name
 
@@ -100,91 +93,130 @@ five_and_more : (addr : ℕ)
     ≡ is_zero addr
 five_and_more addr = search rules
 
+-- the registers that have a row of their own, by their numbers
+abbrev registers : List (ℕ × Register)
+registers =
+    (0x300, Mstatus)
+    ∷ (0x301, Misa)
+    ∷ (0x304, Mie)
+    ∷ (0x305, Mtvec)
+    ∷ (0x340, Mscratch)
+    ∷ (0x341, Mepc)
+    ∷ (0x342, Mcause)
+    ∷ (0x343, Mtval)
+    ∷ (0x344, Mip)
+    ∷ (0xB00, Mcycle)
+    ∷ (0xB80, Mcycleh)
+    ∷ (0xB02, Minstret)
+    ∷ (0xB82, Minstreth) ∷ []
+
 -- a name that is of neither the table nor protection is one of a register that reads 0
-named_zero : (addr : ℕ) → (addr == 0x300) ≡ false
-    → (addr == 0x301) ≡ false
-    → (addr == 0x304) ≡ false
-    → (addr == 0x305) ≡ false
-    → (addr == 0x340) ≡ false
-    → (addr == 0x341) ≡ false
-    → (addr == 0x342) ≡ false
-    → (addr == 0x343) ≡ false
-    → (addr == 0x344) ≡ false
-    → (addr == 0xB00) ≡ false
-    → (addr == 0xB02) ≡ false
-    → (addr == 0xB80) ≡ false
-    → (addr == 0xB82) ≡ false
+named_zero : (addr : ℕ) → list_any (λ r. addr == r.0) registers ≡ false
     → is_config addr ≡ false → is_address addr ≡ false
     → list_any (λ named. addr == named.1) csr_names ≡ is_zero addr
-named_zero addr f300 f301 f304 f305 f340 f341 f342 f343 f344 fB00 fB02 fB80 fB82 config address = search (rules, any-name, any-more, five_and_more)
+named_zero addr none config address = search (rules, or_parts, any-name, any-more, five_and_more)
 
 -- ---- the rows
 
 -- the row of a register that reads 0
-abbrev zero_row : List ℕ × ℕ → Row
-zero_row named = (named.0, λ s lines. 0, λ s w. s)
+abbrev zero_row : List ℕ × ℕ → CsrRow
+zero_row named = record { name = named.0; value = λ s lines. 0; written = λ s w. s }
 
 -- no two control registers share a name
-each_number : list_all (λ named. number_of named.0 == named.1) csr_names ≡ true
+each_number : list_all (λ named. is_at named.1 named.0) csr_names ≡ true
 unfolding number_of csr_names digits
 each_number = refl
 
 zero_found : (addr : ℕ) (names : List (List ℕ × ℕ)) (b : Bool)
-    → list_all (λ named. number_of named.0 == named.1) names ≡ true
+    → list_all (λ named. is_at named.1 named.0) names ≡ true
     → list_any (λ named. addr == named.1) names ≡ b
-    → Same (find (λ row. addr == number_of row.0) (map zero_row names)) (if b then Some Zero else None)
+    → Same (find (λ row. is_at addr row.name) (map zero_row names)) (if b then Some Zero else None)
 zero_found addr [] true each is = absurd cc
 zero_found addr [] false each is = tt
 zero_found addr (n ∷ ns) b each is =
-    by (addr == number_of n.0) b (rw same_number at is) (zero_found addr ns b rest)
+    by (is_at addr n.0) b (ap (λ t. t || list_any (λ named. addr == named.1) ns) test ∙ is) (zero_found addr ns b rest)
   where
     parts : (p q : Bool) → (p && q) ≡ true → (p ≡ true) × (q ≡ true)
     parts true q e = (refl, e)
     parts false q e = absurd cc
 
-    rest : list_all (λ named. number_of named.0 == named.1) ns ≡ true
-    rest = (parts (number_of n.0 == n.1) _ each).1
+    rest : list_all (λ named. is_at named.1 named.0) ns ≡ true
+    rest = (parts (is_at n.1 n.0) _ each).1
 
-    same_number : n.1 ≡ number_of n.0
-    same_number = let here = (parts (number_of n.0 == n.1) _ each).0 in grind (arith, nat_tests)
+    found : (number : Option ℕ) → option_map_or (λ k. n.1 == k) number false ≡ true → number ≡ Some n.1
+    found None e = absurd cc
+    found (Some k) e = ap Some (sym (eqb-true n.1 k e))
+
+    test : is_at addr n.0 ≡ (addr == n.1)
+    test = ap (λ o. option_map_or (λ k. addr == k) o false) (found (number_of n.0) (parts (is_at n.1 n.0) _ each).0)
 
     by : (here b : Bool) → (here || list_any (λ named. addr == named.1) ns) ≡ b
         → (list_any (λ named. addr == named.1) ns ≡ b
-        → Same (find (λ row. addr == number_of row.0) (map zero_row ns)) (if b then Some Zero else None))
-        → Same (cond here (Some (zero_row n)) (find (λ row. addr == number_of row.0) (map zero_row ns)))
+        → Same (find (λ row. is_at addr row.name) (map zero_row ns)) (if b then Some Zero else None))
+        → Same (cond here (Some (zero_row n)) (find (λ row. is_at addr row.name) (map zero_row ns)))
         (if b then Some Zero else None)
     by true true is later = record { value = λ s lines. refl; written = λ s word. refl }
     by true false is later = absurd cc
     by false b is later = later is
 
--- the numbers of the registers in the table
-numbers : (number_of (codes "mstatus") ≡ 0x300)
-    × (number_of (codes "misa") ≡ 0x301)
-    × (number_of (codes "mie") ≡ 0x304)
-    × (number_of (codes "mtvec") ≡ 0x305)
-    × (number_of (codes "mscratch") ≡ 0x340)
-    × (number_of (codes "mepc") ≡ 0x341)
-    × (number_of (codes "mcause") ≡ 0x342)
-    × (number_of (codes "mtval") ≡ 0x343)
-    × (number_of (codes "mip") ≡ 0x344)
-    × (number_of (codes "mcycle") ≡ 0xB00)
-    × (number_of (codes "mcycleh") ≡ 0xB80)
-    × (number_of (codes "minstret") ≡ 0xB02)
-    × (number_of (codes "minstreth") ≡ 0xB82)
+-- the halves of the counters
+pub half_mcycle : (wrote : Option ℕ) → wrote_half (codes "mcycle") wrote ≡ cases.wrote_half 0xB00 wrote
 unfolding number_of csr_names
-numbers = (refl, refl, refl, refl, refl, refl, refl, refl, refl, refl, refl, refl, refl)
+half_mcycle None = refl
+half_mcycle (Some addr) = refl
 
-pub number_mcycle : number_of (codes "mcycle") ≡ 0xB00
-number_mcycle = numbers.9
+pub half_minstret : (wrote : Option ℕ) → wrote_half (codes "minstret") wrote ≡ cases.wrote_half 0xB02 wrote
+unfolding number_of csr_names
+half_minstret None = refl
+half_minstret (Some addr) = refl
 
-pub number_minstret : number_of (codes "minstret") ≡ 0xB02
-number_minstret = numbers.11
+pub ruleset counter_halves = (half_mcycle, half_minstret)
 
-pub ruleset counter_numbers = (number_mcycle, number_minstret)
+-- these are the rows, with those of the registers that read 0 behind them
+abbrev AreRows : List CsrRow → List (ℕ × Register) → Type 0
+AreRows rows [] = rows ≡ map zero_row csr_names
+AreRows [] (r ∷ rs) = ⊥
+AreRows (row ∷ rows) (r ∷ rs) = (number_of row.name ≡ Some r.0) × Agrees row r.1 × AreRows rows rs
+
+-- the register of the first of these numbers that is the address
+abbrev by_number : ℕ → List (ℕ × Register) → Option Register
+by_number addr [] = if is_zero addr then Some Zero else None
+by_number addr (r ∷ rs) = if addr == r.0 then Some r.1 else by_number addr rs
+
+rows_of : (addr : ℕ) (rows : List CsrRow) (rs : List (ℕ × Register)) → AreRows rows rs
+    → (list_any (λ r. addr == r.0) rs ≡ false
+    → Same (find (λ row. is_at addr row.name) (map zero_row csr_names)) (by_number addr []))
+    → Same (find (λ row. is_at addr row.name) rows) (by_number addr rs)
+rows_of addr rows [] is last =
+    subst (λ rows. Same (find (λ row. is_at addr row.name) rows) (by_number addr [])) (sym is) (last refl)
+rows_of addr [] (r ∷ rs) is last = absurd is
+rows_of addr (row ∷ rows) (r ∷ rs) is last =
+    subst (λ t. Same (cond t (Some row) rest) (by_number addr (r ∷ rs))) (sym test)
+    (one (addr == r.0) refl (rows_of addr rows rs is.2))
+  where
+    rest : Option CsrRow
+    rest = find (λ row. is_at addr row.name) rows
+
+    test : is_at addr row.name ≡ (addr == r.0)
+    test = ap (λ o. option_map_or (λ k. addr == k) o false) is.0
+
+    one : (here : Bool) → (addr == r.0) ≡ here
+        → ((list_any (λ r. addr == r.0) rs ≡ false
+        → Same (find (λ row. is_at addr row.name) (map zero_row csr_names)) (by_number addr []))
+        → Same rest (by_number addr rs))
+        → Same (cond here (Some row) rest) (if here then Some r.1 else by_number addr rs)
+    one true at later = is.1
+    one false apart later = later (λ others. last (or_from (addr == r.0) _ apart others))
+
+are_rows : AreRows table registers
+unfolding table number_of csr_names
+are_rows = search rules
 
 same : (addr : ℕ) → is_config addr ≡ false → is_address addr ≡ false → Same (row_at addr) (register_at addr)
-unfolding table register_at row_at
-same addr config address = search (rules, more, numbers.0, numbers.1, numbers.2, numbers.3, numbers.4, numbers.5, numbers.6, numbers.7, numbers.8, number_mcycle, numbers.10, number_minstret, numbers.12, zero_found, each_number, named_zero)
+unfolding register_at row_at
+same addr config address =
+    rows_of addr table registers are_rows (λ none. zero_found addr csr_names (is_zero addr) each_number
+    (named_zero addr none config address))
 
 -- ---- what is at an address, by the register there
 
@@ -204,10 +236,10 @@ abbrev given : {A : Type 0} → (Register → A) → Option A → Option Registe
 given of_register protected None = protected
 given of_register protected (Some register) = Some (of_register register)
 
-module _ {A : Type 0} (of_row : Row → A) (of_register : Register → A) where
+module _ {A : Type 0} (of_row : CsrRow → A) (of_register : Register → A) where
   -- where protection has no register
-  picked : (found : Option Row) (register : Option Register) → Same found register
-      → ((row : Row) (register : Register) → Agrees row register → of_row row ≡ of_register register)
+  picked : (found : Option CsrRow) (register : Option Register) → Same found register
+      → ((row : CsrRow) (register : Register) → Agrees row register → of_row row ≡ of_register register)
       → option_map of_row found ≡ given of_register None register
   picked None None s each = refl
   picked (Some row) (Some register) s each = ap Some (each row register s)
@@ -215,8 +247,7 @@ module _ {A : Type 0} (of_row : Row → A) (of_register : Register → A) where
   picked (Some row) None s each = absurd s
 
 pub values : (state : CsrState) (lines : Lines) (addr : ℕ)
-    → option_or (protection.read_register state.pmp addr) (option_map (λ row. row.1 state lines) (row_at addr))
-    ≡ cases.value_at state lines addr (register_at addr)
+    → word_at state addr lines ≡ cases.value_at state lines addr (register_at addr)
 unfolding protection.read_register
 values state lines addr =
     go (is_config addr) refl (is_address addr) refl
@@ -234,19 +265,17 @@ values state lines addr =
     as_given (Some register) = refl
 
     go : (a : Bool) → is_config addr ≡ a → (b : Bool) → is_address addr ≡ b
-        → option_or (loaded a b) (option_map (λ row. row.1 state lines) (row_at addr))
+        → option_or (loaded a b) (option_map (λ row. row.value state lines) (row_at addr))
         ≡ given (value_of state lines) (loaded a b) (register_at addr)
     go true c b d = sym (ap (given (value_of state lines) (loaded true b)) (none_config addr c))
     go false c true d = sym (ap (given (value_of state lines) (loaded false true)) (none_address addr d))
     go false c false d =
-        picked (λ row. row.1 state lines) (value_of state lines) (row_at addr) (register_at addr)
+        picked (λ row. row.value state lines) (value_of state lines) (row_at addr) (register_at addr)
         (same addr c d) (λ row register agrees. agrees.value state lines)
 
 pub writes : (state : CsrState) (addr word : ℕ)
-    → option_or (option_map (λ pmp. record state { pmp = pmp }) (protection.write_register state.pmp addr word))
-    (option_map (λ row. row.2 state word) (row_at addr))
-    ≡ with_value_at state addr word (register_at addr)
-unfolding protection.write_register protection.read_register
+    → written_at state addr word ≡ with_value_at state addr word (register_at addr)
+unfolding protection.write_register
 writes state addr word =
     go (is_config addr) refl (is_address addr) refl
     ∙ sym (as_given (register_at addr))
@@ -256,10 +285,7 @@ writes state addr word =
 
     stored : Bool → Bool → Option CsrState
     stored a b =
-        option_map (λ (pmp : PmpState). record state { pmp = pmp })
-        (option_map (λ (value : ℕ). after)
-        (if a then Some (config_word state.pmp (4 * (addr - 0x3A0)))
-        else (if b then Some (entry_at state.pmp (addr - 0x3B0)).address else None)))
+        option_map (λ (pmp : PmpState). record state { pmp = pmp }) (if a || b then Some after else None)
 
     of_register : Register → CsrState
     of_register register = with_value state register word
@@ -271,12 +297,12 @@ writes state addr word =
     as_given (Some register) = refl
 
     go : (a : Bool) → is_config addr ≡ a → (b : Bool) → is_address addr ≡ b
-        → option_or (stored a b) (option_map (λ row. row.2 state word) (row_at addr))
+        → option_or (stored a b) (option_map (λ row. row.written state word) (row_at addr))
         ≡ given of_register (stored a b) (register_at addr)
     go true c b d = sym (ap (given of_register (stored true b)) (none_config addr c))
     go false c true d = sym (ap (given of_register (stored false true)) (none_address addr d))
     go false c false d =
-        picked (λ row. row.2 state word) of_register (row_at addr) (register_at addr)
+        picked (λ row. row.written state word) of_register (row_at addr) (register_at addr)
         (same addr c d) (λ row register agrees. agrees.written state word)
 
 -- ---- a read and a write by the register at the address

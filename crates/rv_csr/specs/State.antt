@@ -21,8 +21,8 @@ pub record CsrState : Type 0 where
   pub pmp : PmpState
 
 -- the state after a reset: all 0
-abbrev pub reset : CsrState
-reset = record {
+abbrev pub csrs_at_reset : CsrState
+csrs_at_reset = record {
   mstatus = record { mie = false; mpie = false; mpp = User; mprv = false; tw = false };
   mie = record { software = false; timer = false; external = false };
   mtvec = 0;

@@ -1,5 +1,4 @@
 -- Definitions that aren't to audit: each file says why.
 pub mod Interruptible
 pub mod Later
-pub mod MayAccess
 pub mod RegisterCases

@@ -4,7 +4,7 @@ ghost use Rattle.rv_csr.specs.Support.RegisterCases.{value_of, with_value};
 ghost use Rattle.rv_csr.specs.Support.Interruptible.{any_enabled};
 ghost use Rattle.rv_csr.specs.Support.Later.{later};
 ghost use Rattle.rv_csr.specs.Registers as registers;
-ghost use Rattle.rv_csr.specs.State.{reset};
+ghost use Rattle.rv_csr.specs.State.{csrs_at_reset};
 ghost use Rattle.rv_csr.specs.Traps as traps;
 ghost use Rattle.rv_isa.specs.Width.{bytes_of};
 ghost use Rattle.rv_isa.specs.declared.op.Width.{Width};
@@ -84,7 +84,7 @@ impl Model for Csrs {
 impl Csrs {
     /// Creates the registers as they are after a reset.
     pub fn new() -> Csrs
-        ensures { result ≡ reset }
+        ensures { result ≡ csrs_at_reset }
     {
         Csrs {
             mstatus: Mstatus {
@@ -310,7 +310,7 @@ impl Csrs {
 
     /// Counts a step. `retired` is whether its instruction retired, and `wrote` the address of the control
     /// register that it wrote, if any: a counter that the step wrote a half of keeps what was written.
-    #[tactic(auto, using(crate::proofs::Table::counter_numbers))]
+    #[tactic(auto, using(crate::proofs::Table::counter_halves))]
     pub fn count(&mut self, retired: bool, wrote: Option<u16>)
         ensures { self.new ≡ registers.counted self.old retired wrote }
     {

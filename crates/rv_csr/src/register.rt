@@ -3,7 +3,7 @@
 ghost use Rattle.std.specs.Prelude.{◌≡◌, ◌<◌};
 ghost use Rattle.rv_csr.specs.Support.RegisterCases.{register_at};
 ghost use Rattle.rv_csr.specs.Support.RegisterCases as cases;
-ghost use Rattle.rv_csr.specs.Support.MayAccess as access;
+ghost use Rattle.rv_csr.specs.Registers as access;
 
 use crate::mstatus::mode_level;
 use rv_pmp::Mode;

@@ -12,7 +12,7 @@ use Rattle.std.proofs.lemmas.Cmp.{nat_cmp_total}
 use Rattle.rv_base.specs.Registers.{Register, register}
 use Rattle.rv_plic.specs.Sources.{sources}
 use Rattle.rv_plic.specs.Gateways.{PlicState}
-use Rattle.rv_plic.specs.Plic.{at, best, claimed, completed, priority_of, registers, with_priority}
+use Rattle.rv_plic.specs.Plic.{plic_register, best, claimed, completed, priority_of, registers, with_priority}
 use Rattle.rv_hart.specs.Laws.{is_best}
 
 -- a register, by its offset, keeps what is pending
@@ -77,8 +77,8 @@ found off (r ∷ rs) keep =
     cond_both (off == r.0) (Some r) (find (λ row. off == row.0) rs) (Found off) (λ t. (keep.0, eqb-true off r.0 t))
     (λ t. found off rs keep.1)
 
-pub at_keeps : (off : ℕ) → KeepsPending (off, at off)
-unfolding at
+pub at_keeps : (off : ℕ) → KeepsPending (off, plic_register off)
+unfolding plic_register
 at_keeps off = by (find (λ row. off == row.0) registers) (found off registers all_keep) where
   by : (row : Option (ℕ × Register PlicState)) → Found off row
       → KeepsPending (off, option_map_or (λ row. row.1) row (register (λ p. 0) (λ p word. p)))

@@ -25,8 +25,7 @@ use Rattle.rv_pmp.proofs.Decision.{grants_each}
 use Rattle.rv_csr.specs.State.{CsrState}
 use Rattle.rv_csr.specs.Registers.{read, write}
 use Rattle.rv_csr.specs.Traps.{data_mode}
-use Rattle.rv_mmio.specs.Timer.{TimerState}
-use Rattle.rv_mmio.specs.Timer as timer
+use Rattle.rv_mmio.specs.Timer.{TimerState, timer_register}
 use Rattle.rv_mmio.specs.declared.timer.TimerReg.{TimerReg}
 use Rattle.rv_mmio.specs.declared.timer.TimerReg.TheVariants.{Msip}
 use Rattle.rv_bus.specs.State.{BusState}
@@ -101,7 +100,7 @@ abbrev IfSome : {A : Type 0} → (A → Type 0) → Option A → Type 0
 IfSome P None = Unit {0}
 IfSome P (Some x) = P x
 
-timer_loaded : (reg : TimerReg) (t : TimerState) → (timer.at reg).loaded t ≡ t
+timer_loaded : (reg : TimerReg) (t : TimerState) → (timer_register reg).loaded t ≡ t
 timer_loaded Msip t = refl
 timer_loaded reg t = refl
 

@@ -11,14 +11,14 @@ use Rattle.rv_isa.specs.declared.kind.Kind.TheVariants.{Store}
 use Rattle.rv_pmp.specs.declared.access.Access.TheVariants.{Write}
 use Rattle.rv_ram.specs.Support.Room.{RoomRule}
 use Rattle.rv_bus.specs.State.{BusState}
+use Rattle.rv_bus.specs.Access.{keeps_stores}
 use Rattle.rv_bus.specs.Access as bus
 use Rattle.rv_bus.proofs.Growth.{room_stores}
 use Rattle.rv_hart.specs.State.{Machine}
 use Rattle.rv_hart.specs.Effect.{effect, execute, plus, reg}
 use Rattle.rv_hart.specs.Support.EffectParts.{misaligned_store, refused_store, store_effect, store_result, may_access}
 use Rattle.rv_hart.specs.Support.Room.{attempt_grows, may_grow, store_grows, wants_room}
-use Rattle.rv_hart.specs.Step as step
-use Rattle.rv_hart.specs.Step.{fetched, ticked, tries, writes}
+use Rattle.rv_hart.specs.Step.{fetched, ticked, tries, writes, is_kept_store}
 use Rattle.rv_hart.specs.declared.trap.Trap.{Trap}
 
 retires : (m : Machine) (addr : ℕ) (aligned granted : Bool) (after : Option BusState) → aligned ≡ true
@@ -31,7 +31,7 @@ retires m addr true false after p q r = absurd cc
 retires m addr false granted after p q r = absurd cc
 
 stores : (rule : RoomRule) (m : Machine) (w : Width) (addr v : ℕ) → store_grows rule m w addr v ≡ true
-    → (is_ok (store_effect m w addr v) && bus.writes m.bus addr) ≡ true
+    → (is_ok (store_effect m w addr v) && keeps_stores m.bus addr) ≡ true
 unfolding store_grows store_effect
 stores rule m w addr v is =
     let a = and_parts (addr % bytes_of w == 0) _ is in
@@ -41,13 +41,13 @@ stores rule m w addr v is =
     s.0
 
 writing : (rule : RoomRule) (k : Kind) (m : Machine) → may_grow rule k m ≡ true
-    → (is_ok (effect k m) && step.stores k m) ≡ true
+    → (is_ok (effect k m) && is_kept_store k m) ≡ true
 unfolding may_grow execute store_effect
 writing rule (Store w source base offset) m is = stores rule m w (plus (reg m base) offset) (reg m source) is
 writing rule k m is = absurd cc
 
 by_fetch : (rule : RoomRule) (m : Machine) (f : Result Kind Trap) → attempt_grows rule m f ≡ true
-    → option_map_or (λ k. is_ok (effect k m) && step.stores k m) (result_ok f) false ≡ true
+    → option_map_or (λ k. is_ok (effect k m) && is_kept_store k m) (result_ok f) false ≡ true
 by_fetch rule m (Ok k) is = writing rule k m is
 by_fetch rule m (Err t) is = absurd cc
 

@@ -28,9 +28,8 @@ use Rattle.rv_csr.specs.Support.Interruptible.{cause_of, pending_by_cases}
 use Rattle.rv_csr.proofs.Pending.{by_cases}
 use Rattle.rv_plic.specs.Sources.{sources}
 use Rattle.rv_plic.specs.Gateways.{PlicState, forwarded, requests}
-use Rattle.rv_plic.specs.Plic.{is_notified, outranks, priority_of}
-use Rattle.rv_mmio.specs.Timer.{TimerState, is_due}
-use Rattle.rv_mmio.specs.Timer as timer
+use Rattle.rv_plic.specs.Plic.{asks_above, is_notified, priority_of}
+use Rattle.rv_mmio.specs.Timer.{TimerState, is_due, timer_ticked}
 use Rattle.rv_bus.specs.State.{BusState}
 use Rattle.rv_bus.specs.Access.{fetch, lines_of, load, store}
 use Rattle.rv_bus.proofs.Windows.{one_address}
@@ -201,7 +200,7 @@ first_taken m = taken (ticked m)
 
 -- ---- those that stay pending
 
-due_ticked : (t : TimerState) → t.time + 1 < 2 ^ 64 → is_due t ≡ true → is_due (timer.ticked t) ≡ true
+due_ticked : (t : TimerState) → t.time + 1 < 2 ^ 64 → is_due t ≡ true → is_due (timer_ticked t) ≡ true
 due_ticked t small due =
     le-leb t.compare ((t.time + 1) % 2 ^ 64) (omega (arith, leb-true t.compare t.time due))
 
@@ -221,7 +220,7 @@ or_more false b c more is = absurd cc
 notified_forwarded : (p : PlicState) → is_notified p ≡ true → is_notified (forwarded p) ≡ true
 unfolding is_notified
 notified_forwarded p =
-    any_more (outranks p p.threshold) (outranks (forwarded p) p.threshold) sources (λ s is.
+    any_more (asks_above p p.threshold) (asks_above (forwarded p) p.threshold) sources (λ s is.
     ap (λ b. b && contains p.enabled s && nat_lt p.threshold (priority_of p s))
     (contains-union nat_cmp_total p.pending (requests p) s)
     ∙ or_more (contains p.pending s) (contains p.enabled s) (nat_lt p.threshold (priority_of p s))

@@ -13,23 +13,23 @@ pub record SerialState : Type 0 where
   pub overrun : Bool
 
 -- the port at reset
-abbrev pub reset : SerialState
-reset = record { waiting = []; sent = []; overrun = false }
+abbrev pub serial_at_reset : SerialState
+serial_at_reset = record { waiting = []; sent = []; overrun = false }
 
 -- the status: bit 0 where a byte is waiting, bit 1 since a byte may always be sent, bit 2 where a byte was
 -- lost
-abbrev pub status_word : SerialState → ℕ
-status_word s = (if nat_lt 0 (length s.waiting) then 1 else 0) + 2 + (if s.overrun then 4 else 0)
+abbrev pub serial_status : SerialState → ℕ
+serial_status s = (if nat_lt 0 (length s.waiting) then 1 else 0) + 2 + (if s.overrun then 4 else 0)
 
 -- the registers. A store to the transmit register sends the low byte of its word. A load of the receive
 -- register takes the oldest byte, and returns a word that no byte has where none is waiting; one of the
 -- status register clears the overrun
-abbrev pub at : SerialReg → Register SerialState
-at Tx = register (λ s. 0) (λ s w. record s { sent = s.sent ++ (w % 256) ∷ [] })
-at Rx =
+abbrev pub serial_register : SerialReg → Register SerialState
+serial_register Tx = register (λ s. 0) (λ s w. record s { sent = s.sent ++ (w % 256) ∷ [] })
+serial_register Rx =
     record (register (λ s. unwrap_or (slice_get s.waiting 0) 0x80000000) (λ s w. s))
     { loaded = λ s. record s { waiting = drop 1 s.waiting } }
-at Status = record (register status_word (λ s w. s)) { loaded = λ s. record s { overrun = false } }
+serial_register Status = record (register serial_status (λ s w. s)) { loaded = λ s. record s { overrun = false } }
 
 -- the port after it received a byte: the queue holds 16, and a byte beyond them is lost
 abbrev pub received : SerialState → ℕ → SerialState

@@ -15,24 +15,24 @@ pub record TimerState : Type 0 where
   pub compare : ℕ
 
 -- the timer at reset: the largest time to compare with keeps its line low
-abbrev pub reset : TimerState
-reset = record { software = false; time = 0; compare = 2 ^ 64 - 1 }
+abbrev pub timer_at_reset : TimerState
+timer_at_reset = record { software = false; time = 0; compare = 2 ^ 64 - 1 }
 
 -- the timer after a tick
-abbrev pub ticked : TimerState → TimerState
-ticked timer = record timer { time = (timer.time + 1) % 2 ^ 64 }
+abbrev pub timer_ticked : TimerState → TimerState
+timer_ticked timer = record timer { time = (timer.time + 1) % 2 ^ 64 }
 
 -- whether the timer's line is high
 abbrev pub is_due : TimerState → Bool
 is_due timer = nat_le timer.compare timer.time
 
 -- the registers: msip keeps bit 0 of a word
-abbrev pub at : TimerReg → Register TimerState
-at Msip = register (λ t. if t.software then 1 else 0) (λ t w. record t { software = w % 2 == 1 })
-at MtimecmpLow = register (λ t. t.compare % 2 ^ 32) (λ t w. record t { compare = with_low t.compare w })
-at MtimecmpHigh = register (λ t. t.compare / 2 ^ 32) (λ t w. record t { compare = with_high t.compare w })
-at MtimeLow = register (λ t. t.time % 2 ^ 32) (λ t w. record t { time = with_low t.time w })
-at MtimeHigh = register (λ t. t.time / 2 ^ 32) (λ t w. record t { time = with_high t.time w })
+abbrev pub timer_register : TimerReg → Register TimerState
+timer_register Msip = register (λ t. if t.software then 1 else 0) (λ t w. record t { software = w % 2 == 1 })
+timer_register MtimecmpLow = register (λ t. t.compare % 2 ^ 32) (λ t w. record t { compare = with_low t.compare w })
+timer_register MtimecmpHigh = register (λ t. t.compare / 2 ^ 32) (λ t w. record t { compare = with_high t.compare w })
+timer_register MtimeLow = register (λ t. t.time % 2 ^ 32) (λ t w. record t { time = with_low t.time w })
+timer_register MtimeHigh = register (λ t. t.time / 2 ^ 32) (λ t w. record t { time = with_high t.time w })
 
 -- where each register lies, in bytes from the timer's first address
 abbrev pub offsets : List (ℕ × TimerReg)

@@ -2,7 +2,7 @@
 ghost use Rattle.std.specs.Prelude.{◌≡◌, ◌+◌, ◌≤◌, [], ◌∷◌, ◌++◌, true, length, vec_len, vec_capacity, IfOk, OnOk, OnErr};
 ghost use Rattle.rv_mmio.specs.declared.serial.SerialReg.TheVariants.{Rx, Status};
 ghost use Rattle.rv_mmio.specs.Support.ConsoleRoom.{HasConsoleRoom};
-ghost use Rattle.rv_mmio.specs.Serial.{reset, status_word, at, received};
+ghost use Rattle.rv_mmio.specs.Serial.{serial_at_reset, serial_status, serial_register, received};
 ghost use Rattle.rv_mmio.specs.Support.Room.{is_full, wants_room};
 
 use crate::buffer::copied_buffer;
@@ -55,7 +55,7 @@ impl Model for Serial {
 impl Serial {
     /// Returns a port with an empty queue and an empty console. Allocates the queue.
     pub fn new(alloc: Global) -> Result<Serial, NoMemory>
-        ensures { IfOk result (λ s. s ≡ reset) }
+        ensures { IfOk result (λ s. s ≡ serial_at_reset) }
     {
         Ok(Serial {
             waiting: HeapCircularBuffer::with_capacity(alloc, QUEUE)?,
@@ -91,8 +91,8 @@ impl Serial {
     /// Loads a register. A load of the receive register takes the byte, one of the status register clears the
     /// overrun.
     pub fn load(&mut self, reg: SerialReg) -> u32
-        ensures value { result ≡ (at reg).word self.old }
-        ensures after { self.new ≡ (at reg).loaded self.old }
+        ensures value { result ≡ (serial_register reg).word self.old }
+        ensures after { self.new ≡ (serial_register reg).loaded self.old }
     {
         match reg {
             SerialReg::Tx => 0,
@@ -105,7 +105,7 @@ impl Serial {
     /// others change nothing. A store is refused only where the console has to make room, which it does for
     /// 4096 bytes at a time.
     pub fn store(&mut self, reg: SerialReg, word: u32) -> Result<(), NoMemory>
-        ensures ok { OnOk result (self.new ≡ (at reg).stored self.old word) }
+        ensures ok { OnOk result (self.new ≡ (serial_register reg).stored self.old word) }
         ensures err { OnErr result (self.new ≡ self.old) }
         ensures room { OnErr result (wants_room self.old reg ≡ true) }
     {
@@ -152,8 +152,8 @@ impl Serial {
 
     /// Takes the oldest received byte, if one is waiting.
     fn take_byte(&mut self) -> u32
-        ensures value { result ≡ (at Rx).word self.old }
-        ensures after { self.new ≡ (at Rx).loaded self.old }
+        ensures value { result ≡ (serial_register Rx).word self.old }
+        ensures after { self.new ≡ (serial_register Rx).loaded self.old }
     {
         match self.waiting.pop_front() {
             Some(byte) => byte as u32,
@@ -163,8 +163,8 @@ impl Serial {
 
     /// Returns the status word, and clears the overrun.
     fn take_status(&mut self) -> u32
-        ensures value { result ≡ status_word self.old }
-        ensures after { self.new ≡ (at Status).loaded self.old }
+        ensures value { result ≡ serial_status self.old }
+        ensures after { self.new ≡ (serial_register Status).loaded self.old }
     {
         let received = if self.waiting.is_empty() { 0 } else { 1 };
         let lost = if self.overrun { 4 } else { 0 };

@@ -1,7 +1,7 @@
 //! The machine timer.
 ghost use Rattle.std.specs.Prelude.{◌≡◌};
 ghost use Rattle.std.specs.Option.{option_map, option_map_or};
-ghost use Rattle.rv_mmio.specs.Timer.{reset, ticked, is_due, at, register_at};
+ghost use Rattle.rv_mmio.specs.Timer.{timer_at_reset, timer_ticked, is_due, timer_register, register_at};
 
 use rv_base::{high_word, low_word, with_high_word, with_low_word};
 use std::marker::Model;
@@ -63,7 +63,7 @@ impl Timer {
     /// Returns the timer at reset: time 0, the largest time to compare with, and the software interrupt line
     /// low.
     pub fn new() -> Timer
-        ensures { result ≡ reset }
+        ensures { result ≡ timer_at_reset }
     {
         Timer {
             software: false,
@@ -74,7 +74,7 @@ impl Timer {
 
     /// Advances the time by one, modulo 2^64.
     pub fn tick(&mut self)
-        ensures { self.new ≡ ticked self.old }
+        ensures { self.new ≡ timer_ticked self.old }
     {
         self.time = self.time.wrapping_add(1);
     }
@@ -118,7 +118,7 @@ impl Timer {
     ///
     /// Returns `None` where no register is.
     pub fn load(&self, off: u32) -> Option<u32>
-        ensures { result ≡ option_map (λ reg. (at reg).word self.now) (register_at off) }
+        ensures { result ≡ option_map (λ reg. (timer_register reg).word self.now) (register_at off) }
     {
         TimerReg::at(off).map(|reg| self.word(reg))
     }
@@ -128,7 +128,7 @@ impl Timer {
     /// Returns `None`, and changes nothing, where no register is.
     pub fn store(&mut self, off: u32, word: u32) -> Option<()>
         ensures result { result ≡ option_map (λ _. tt) (register_at off) }
-        ensures after { self.new ≡ option_map_or (λ reg. (at reg).stored self.old word) (register_at off) self.old }
+        ensures after { self.new ≡ option_map_or (λ reg. (timer_register reg).stored self.old word) (register_at off) self.old }
     {
         let reg = TimerReg::at(off)?;
         self.set_word(reg, word);
@@ -137,7 +137,7 @@ impl Timer {
 
     /// Returns the word of a register.
     pub fn word(&self, reg: TimerReg) -> u32
-        ensures { result ≡ (at reg).word self.now }
+        ensures { result ≡ (timer_register reg).word self.now }
     {
         match reg {
             TimerReg::Msip => self.software as u32,
@@ -150,7 +150,7 @@ impl Timer {
 
     /// Stores a word in a register. The software interrupt bit keeps bit 0.
     pub fn set_word(&mut self, reg: TimerReg, word: u32)
-        ensures { self.new ≡ (at reg).stored self.old word }
+        ensures { self.new ≡ (timer_register reg).stored self.old word }
     {
         match reg {
             TimerReg::Msip => self.software = word % 2 == 1,

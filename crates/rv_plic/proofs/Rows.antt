@@ -6,7 +6,7 @@ use Rattle.std.specs.Option.{option_map_or}
 use Rattle.std.proofs.lemmas.Bool.Decides.{nat_tests}
 use Rattle.rv_plic.specs.Sources.{sources, sources_of, word_of}
 use Rattle.rv_plic.specs.Gateways.{PlicState}
-use Rattle.rv_plic.specs.Plic.{registers, priority_of, best, claimed, completed, at}
+use Rattle.rv_plic.specs.Plic.{registers, priority_of, best, claimed, completed, plic_register}
 use Rattle.rv_base.specs.Registers.{Register, register}
 use Rattle.rv_plic.specs.Support.Registers.{reg_at, word_at, with_word, after_reading}
 use Rattle.rv_plic.specs.declared.register.PlicReg.{PlicReg}
@@ -126,8 +126,8 @@ module _ (plic : PlicState) (off : ℕ) (aligned : off % 4 ≡ 0) where
   abbrev found : Option (ℕ × Register PlicState) → Register PlicState
   found row = option_map_or (λ row. row.1) row nowhere
 
-  pub loads : (at off).word plic ≡ option_map_or (word_at plic) (reg_at off) 0
-  unfolding at
+  pub loads : (plic_register off).word plic ≡ option_map_or (word_at plic) (reg_at off) 0
+  unfolding plic_register
   loads = by (find (λ r. off == r.0) registers) (reg_at off) (same plic off aligned) where
     by : (r : Option (ℕ × Register PlicState)) (reg : Option PlicReg) → Same plic r reg
         → (found r).word plic ≡ option_map_or (word_at plic) reg 0
@@ -136,8 +136,8 @@ module _ (plic : PlicState) (off : ℕ) (aligned : off % 4 ≡ 0) where
     by None (Some reg) s = absurd s
     by (Some r) None s = absurd s
 
-  pub loaded : (at off).loaded plic ≡ option_map_or (after_reading plic) (reg_at off) plic
-  unfolding at
+  pub loaded : (plic_register off).loaded plic ≡ option_map_or (after_reading plic) (reg_at off) plic
+  unfolding plic_register
   loaded = by (find (λ r. off == r.0) registers) (reg_at off) (same plic off aligned) where
     by : (r : Option (ℕ × Register PlicState)) (reg : Option PlicReg) → Same plic r reg
         → (found r).loaded plic ≡ option_map_or (after_reading plic) reg plic
@@ -146,9 +146,9 @@ module _ (plic : PlicState) (off : ℕ) (aligned : off % 4 ≡ 0) where
     by None (Some reg) s = absurd s
     by (Some r) None s = absurd s
 
-  pub stores : (word : ℕ) → (at off).stored plic word
+  pub stores : (word : ℕ) → (plic_register off).stored plic word
       ≡ option_map_or (λ r. with_word plic r word) (reg_at off) plic
-  unfolding at
+  unfolding plic_register
   stores word = by (find (λ r. off == r.0) registers) (reg_at off) (same plic off aligned) where
     by : (r : Option (ℕ × Register PlicState)) (reg : Option PlicReg) → Same plic r reg
         → (found r).stored plic word ≡ option_map_or (λ r. with_word plic r word) reg plic

@@ -22,8 +22,8 @@ pub record PlicState : Type 0 where
   pub threshold : ℕ
 
 -- the controller at reset
-abbrev pub reset : PlicState
-reset = record {
+abbrev pub plic_at_reset : PlicState
+plic_at_reset = record {
   high = empty;
   edges = replicate 8 0;
   outstanding = empty;
@@ -46,14 +46,22 @@ edges_of edges source = if is_by_edge source then slice_index edges (source - 24
 abbrev pub one_more : ℕ → ℕ
 one_more count = if nat_lt count 4294967295 then count + 1 else count
 
+-- the counts with one edge more of a source, and with one less of each source of a set
+abbrev pub with_edge : List ℕ → ℕ → List ℕ
+with_edge edges source = slice_set edges (source - 24) (one_more (edges_of edges source))
+
+abbrev pub with_fewer_edges : List ℕ → Sources → List ℕ
+with_fewer_edges edges set =
+    map (λ s. edges_of edges s - (if contains set s then 1 else 0)) (range_with_len 24 (length edges))
+
 -- ---- lines and requests
--- the controller after the line of a source is set to a level: it rises where it was low and becomes high
+-- the controller after the line of a source is set to a level. It rises where it was low and becomes high
 abbrev pub with_line : PlicState → ℕ → Bool → PlicState
 with_line p source level =
-    let high = if level then insert p.high source else remove p.high source in
-    let rises = is_by_edge source && level && not (contains p.high source) in
-    let counts = slice_set p.edges (source - 24) (one_more (edges_of p.edges source)) in
-    record p { high = high; edges = if rises then counts else p.edges }
+    let rises = is_by_edge source && level && not (contains p.high source) in record p {
+      high = if level then insert p.high source else remove p.high source;
+      edges = if rises then with_edge p.edges source else p.edges;
+    }
 
 -- the sources that ask for a request: those triggered by edges while an edge is pending, any other while
 -- its line is high
@@ -68,7 +76,8 @@ requests plic = difference (difference (asking_sources plic.high plic.edges) pli
 -- the controller after each gateway with a request has forwarded it, which takes one of its pending edges
 abbrev pub forwarded : PlicState → PlicState
 forwarded p =
-    let new = requests p in
-    let less = λ (s : ℕ). edges_of p.edges s - (if contains new s then 1 else 0) in
-    let edges = map less (range_with_len 24 (length p.edges)) in
-    record p { edges = edges; outstanding = union p.outstanding new; pending = union p.pending new }
+    let new = requests p in record p {
+      edges = with_fewer_edges p.edges new;
+      outstanding = union p.outstanding new;
+      pending = union p.pending new;
+    }

@@ -6,25 +6,29 @@ use Rattle.std.specs.Option.{option_map_or}
 use Rattle.std.specs.FinSet.{contains, remove}
 use Rattle.rv_base.specs.Registers.{Register, register}
 use Rattle.rv_plic.specs.Sources.{sources, sources_of, word_of}
-pub use Rattle.rv_plic.specs.Gateways.{PlicState, reset, with_line, forwarded}
+pub use Rattle.rv_plic.specs.Gateways.{PlicState, plic_at_reset, with_line, forwarded}
 
 -- ---- the best source
 -- the priority of a source
 abbrev pub priority_of : PlicState → ℕ → ℕ
 priority_of plic source = slice_index plic.priorities source
 
--- whether a source is pending and enabled, and has a priority above another one
-abbrev pub outranks : PlicState → ℕ → ℕ → Bool
-outranks p priority s = contains p.pending s && contains p.enabled s && nat_lt priority (priority_of p s)
+-- whether a source asks above a level: it is pending and enabled, and its priority is above the level
+abbrev pub asks_above : PlicState → ℕ → ℕ → Bool
+asks_above p level s = contains p.pending s && contains p.enabled s && nat_lt level (priority_of p s)
 
--- the first source above priority 0 that no source is above ("Interrupt Priorities": 0 never interrupts,
--- and of equal priorities the lowest number goes first)
+-- whether any source does
+abbrev pub any_asks_above : PlicState → ℕ → Bool
+any_asks_above p level = list_any (asks_above p level) sources
+
+-- the first source that asks above 0 while none asks above its priority ("Interrupt Priorities": 0 never
+-- interrupts, and of equal priorities the lowest number goes first)
 unfoldable pub best : PlicState → Option ℕ
-best p = find (λ s. outranks p 0 s && not (list_any (outranks p (priority_of p s)) sources)) sources
+best p = find (λ s. asks_above p 0 s && not (any_asks_above p (priority_of p s))) sources
 
 -- whether the external line is high ("Interrupt Notifications", "Priority Thresholds")
 unfoldable pub is_notified : PlicState → Bool
-is_notified plic = list_any (outranks plic plic.threshold) sources
+is_notified plic = any_asks_above plic plic.threshold
 
 -- ---- the registers ("Memory Map"), each of which is one word
 -- the controller after a claim: the best source is no longer pending. The threshold plays no part ("Interrupt
@@ -52,5 +56,5 @@ registers =
     ∷ (0x200004, record { word = λ p. unwrap_or (best p) 0; loaded = claimed; stored = completed }) ∷ []
 
 -- the register at an offset. Where there is none, a load returns 0 and a store changes nothing
-unfoldable pub at : ℕ → Register PlicState
-at off = option_map_or (λ row. row.1) (find (λ row. off == row.0) registers) (register (λ p. 0) (λ p word. p))
+unfoldable pub plic_register : ℕ → Register PlicState
+plic_register off = option_map_or (λ row. row.1) (find (λ row. off == row.0) registers) (register (λ p. 0) (λ p word. p))

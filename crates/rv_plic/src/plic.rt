@@ -3,9 +3,9 @@ ghost use Rattle.std.specs.Prelude.{◌≡◌, ◌%◌, ◌^◌, ◌<◌, ◌&&�
 ghost use Rattle.std.specs.FinSet as set;
 ghost use Rattle.rv_plic.specs.Support.AboveThreshold.{sources_above};
 ghost use Rattle.rv_plic.specs.Support.Best.{IsBest, IsBestBelow};
-ghost use Rattle.rv_plic.specs.Gateways.{PlicState, edges_of, reset, with_line, forwarded};
+ghost use Rattle.rv_plic.specs.Gateways.{PlicState, edges_of, plic_at_reset, with_line, forwarded};
 ghost use Rattle.rv_plic.specs.Gateways as spec;
-ghost use Rattle.rv_plic.specs.Plic.{best, is_notified, claimed, completed, at};
+ghost use Rattle.rv_plic.specs.Plic.{best, is_notified, claimed, completed, plic_register};
 ghost use Rattle.rv_plic.specs.Support.Registers.{word_at, with_word};
 ghost use Rattle.rv_plic.specs.Support.Withdrawn.{withdrawn};
 
@@ -79,7 +79,7 @@ impl Plic {
     /// threshold 0.
     #[tactic(auto, using(crate::proofs::Forwarding::none_at_reset, crate::proofs::AboveThreshold::none_above))]
     pub fn new() -> Plic
-        ensures { result ≡ reset }
+        ensures { result ≡ plic_at_reset }
     {
         Plic {
             gateways: Gateways::new(),
@@ -176,8 +176,8 @@ impl Plic {
     pub fn load(&mut self, off: u32) -> u32
         requires aligned { off % 4 ≡ 0 }
         requires within { off < 0x4000000 }
-        ensures value { result ≡ (at off).word self.old }
-        ensures after { self.new ≡ (at off).loaded self.old }
+        ensures value { result ≡ (plic_register off).word self.old }
+        ensures after { self.new ≡ (plic_register off).loaded self.old }
     {
         match PlicReg::at(off) {
             Some(PlicReg::Claim) => self.claim(),
@@ -191,7 +191,7 @@ impl Plic {
     pub fn peek(&self, off: u32) -> u32
         requires aligned { off % 4 ≡ 0 }
         requires within { off < 0x4000000 }
-        ensures { result ≡ (at off).word self.now }
+        ensures { result ≡ (plic_register off).word self.now }
     {
         match PlicReg::at(off) {
             Some(reg) => self.read(reg),
@@ -204,7 +204,7 @@ impl Plic {
     pub fn store(&mut self, off: u32, word: u32)
         requires aligned { off % 4 ≡ 0 }
         requires within { off < 0x4000000 }
-        ensures { self.new ≡ (at off).stored self.old word }
+        ensures { self.new ≡ (plic_register off).stored self.old word }
     {
         if let Some(reg) = PlicReg::at(off) {
             self.write(reg, word);

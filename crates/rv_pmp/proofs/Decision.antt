@@ -18,11 +18,11 @@ use Rattle.rv_pmp.specs.declared.entry.Matching.TheVariants.{Off, Tor, Na4, Napo
 use Rattle.rv_pmp.specs.declared.active_entries.ActiveEntry.{ActiveEntry}
 use Rattle.rv_pmp.specs.declared.span.Span.{Span}
 use Rattle.rv_pmp.specs.Mode.{is_machine}
-use Rattle.rv_pmp.specs.Entry.{entry_grants, matched}
+use Rattle.rv_pmp.specs.Entry.{matched, permits, trailing_ones}
 use Rattle.rv_pmp.specs.Support.ActiveEntries.{is_matching, entry_answer, decision, some_on, some_locked, active_of, actives_from}
 use Rattle.rv_pmp.specs.Support.Guards.{Guard, region, guards_from, answer, answer_of}
-use Rattle.rv_pmp.specs.Pmp.{PmpState, off_entry, entry_at, lower_of, matches, grants}
-use Rattle.rv_pmp.specs.Support.Span.{is_between, trailing_ones, span, span_of, holds, meets, no_bytes}
+use Rattle.rv_pmp.specs.Pmp.{PmpState, decided, decider, entry_at, grants, lower_of, matches, off_entry}
+use Rattle.rv_pmp.specs.Support.Span.{is_between, span, span_of, holds, meets, no_bytes}
 
 -- ---- one step of the search
 
@@ -30,7 +30,7 @@ use Rattle.rv_pmp.specs.Support.Span.{is_between, trailing_ones, span, span_of, 
 step : Mode → Access → ℕ → ℕ → ActiveEntry → Option Bool → Option Bool
 step mode access first last a rest =
     if meets a.span first last
-    then Some (holds a.span first last && entry_grants a.entry mode access) else rest
+    then Some (holds a.span first last && permits a.entry mode access) else rest
 
 step-some : (mode : Mode) (access : Access) (first last : ℕ) (a : ActiveEntry) (rest : Option Bool)
     (granted : Bool)
@@ -252,12 +252,12 @@ decision-spans mode access a n lower (e ∷ es) =
         ≡ answer mode access (range_with_len a (suc n))
         (find (λ g. list_any g.region (range_with_len a (suc n))) (guards_from e.address es))
         → unwrap_or
-        (if b then Some (holds (span_of lower e) a (a + suc n) && entry_grants e mode access) else rest)
+        (if b then Some (holds (span_of lower e) a (a + suc n) && permits e mode access) else rest)
         (is_machine mode)
         ≡ answer mode access (range_with_len a (suc n))
         (cond b (Some (record { entry = e; region = region lower e }))
         (find (λ g. list_any g.region (range_with_len a (suc n))) (guards_from e.address es)))
-    go true h = ap (λ b. b && entry_grants e mode access) (sym (list_all-region lower e a n))
+    go true h = ap (λ b. b && permits e mode access) (sym (list_all-region lower e a n))
     go false h = h
 
 -- ---- answers without a search
@@ -301,7 +301,7 @@ decision-word access first last lower (e ∷ es) free some within =
 
     go : (b : Bool) → meets (span_of lower e) first last ≡ b → e.locked ≡ false → unwrap_or rest true ≡ true
         → unwrap_or
-        (if b then Some (holds (span_of lower e) first last && entry_grants e Machine access)
+        (if b then Some (holds (span_of lower e) first last && permits e Machine access)
         else rest) true ≡ true
     go true m l r = rw (word_held (span_of lower e) first last (whole lower e) some within m, l) refl
     go false m l r = r
@@ -341,7 +341,7 @@ matches_from lower es n byte =
 
 grants_by : Mode → Access → List ℕ → ℕ → List Entry → ℕ → Bool
 grants_by mode access bytes lower es n =
-    list_all (matches_from lower es n) bytes && entry_grants (get_or es n off_entry) mode access
+    list_all (matches_from lower es n) bytes && permits (get_or es n off_entry) mode access
 
 matches-after : (lower : ℕ) (e : Entry) (es : List Entry) (n byte : ℕ)
     → matches_from lower (e ∷ es) (suc n) byte ≡ matches_from e.address es n byte
@@ -358,7 +358,7 @@ by_number mode access bytes lower [] = refl
 by_number mode access bytes lower (e ∷ es) =
     go (list_any (λ byte. matched e.matching lower e.address byte) bytes)
     (found_after _ _ _ _ (is_machine mode) (λ n. list_any-same _ _ (matches-after lower e es n) bytes)
-    (λ n. ap (λ b. b && entry_grants (get_or es n off_entry) mode access)
+    (λ n. ap (λ b. b && permits (get_or es n off_entry) mode access)
     (list_all-same _ _ (matches-after lower e es n) bytes)) 0 1 (length es) refl
     ∙ by_number mode access bytes e.address es)
   where
@@ -390,14 +390,23 @@ same_matches : (pmp : PmpState) (n byte : ℕ) → matches pmp n byte ≡ matche
 unfolding matches_from
 same_matches pmp n byte = search (rules, same_lower)
 
+-- the decision of an entry, if any
+decision_of : (pmp : PmpState) (mode : Mode) (access : Access) (bytes : List ℕ) (n : Option ℕ)
+    → decided pmp mode access bytes n
+    ≡ option_map_or (λ n. list_all (matches pmp n) bytes && permits (entry_at pmp n) mode access) n
+    (is_machine mode)
+decision_of pmp mode access bytes None = refl
+decision_of pmp mode access bytes (Some n) = refl
+
 pub by_list : (pmp : PmpState) (mode : Mode) (access : Access) (first count : ℕ)
     → grants pmp mode access first count ≡ answer_of mode access first count 0 pmp.entries
 unfolding grants grants_by
 by_list pmp mode access first count =
     let bytes = range_with_len first count in
     let same : (n byte : ℕ) → matches pmp n byte ≡ matches_from 0 pmp.entries n byte = same_matches pmp in
-    found_same _ _ _ _ (is_machine mode) (λ n. list_any-same _ _ (same n) bytes)
-    (λ n. ap (λ b. b && entry_grants (entry_at pmp n) mode access) (list_all-same _ _ (same n) bytes))
+    decision_of pmp mode access bytes (decider pmp bytes)
+    ∙ found_same _ _ _ _ (is_machine mode) (λ n. list_any-same _ _ (same n) bytes)
+    (λ n. ap (λ b. b && permits (entry_at pmp n) mode access) (list_all-same _ _ (same n) bytes))
     (range_with_len 0 (length pmp.entries))
     ∙ by_number mode access bytes 0 pmp.entries
 
@@ -466,7 +475,7 @@ answer_each mode access first count i lower (e ∷ es) h granted =
         (rest (first + i) 1)) ≡ true
     go true m tail r =
         let parts =
-        both (list_all (region lower e) (range_with_len first count)) (entry_grants e mode access) r in
+        both (list_all (region lower e) (range_with_len first count)) (permits e mode access) r in
         let held = all_bytes (region lower e) first count i h parts.0 in
         rw (held, held) parts.1
     go false m tail r = rw (any_byte (region lower e) first count i h m) (tail r)

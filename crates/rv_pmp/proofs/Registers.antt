@@ -1,7 +1,7 @@
 -- The registers by number are what the code reads and writes.
 use Rattle.std.proofs.Common.{rules}
-use Rattle.std.proofs.Common.{◌≡◌, ◌≢◌, ◌∙◌, ℕ, zero, suc, ◌+◌, ◌-◌, ◌*◌, ◌/◌, ◌%◌, ◌<◌, ◌≤◌, ◌==◌, Bool, true, false, List, [], ◌∷◌, length, map, get_or, Option, Some, None, refl, ap, sym, arith, add-zero, nat_lt, eqb-true}
-use Rattle.std.specs.Prelude.{slice_get, slice_set, if◌then◌else◌, ◌&&◌, not}
+use Rattle.std.proofs.Common.{◌≡◌, ◌≢◌, ◌∙◌, ℕ, zero, suc, ◌+◌, ◌-◌, ◌*◌, ◌/◌, ◌%◌, ◌<◌, ◌≤◌, ◌==◌, Bool, true, false, List, [], ◌∷◌, length, map, get_or, Some, None, refl, ap, sym, arith, add-zero, nat_lt, eqb-true}
+use Rattle.std.specs.Prelude.{slice_get, slice_set, if◌then◌else◌, ◌&&◌, ◌||◌, not}
 use Rattle.std.specs.List.{range_with_len}
 use Rattle.std.specs.Option.{option_map, option_map_or}
 use Rattle.std.proofs.Math.ListN.{get_or-eq_default}
@@ -11,8 +11,8 @@ use Rattle.rv_pmp.specs.declared.entry.Entry.{Entry}
 use Rattle.rv_pmp.specs.declared.register.PmpRegister.{PmpRegister}
 use Rattle.rv_pmp.specs.declared.register.PmpRegister.TheVariants.{Config, Address}
 use Rattle.rv_pmp.specs.Entry.{matching_code, config_byte, configured, addressed}
-use Rattle.rv_pmp.specs.Pmp.{PmpState, off_entry, entry_at, config_word, is_locked_tor, read_register, write_register, written}
-use Rattle.rv_pmp.specs.Support.Registers.{is_config, is_address, register_at, config_at, word_of, byte_of, with_config, starts_locked, with_address, with_word}
+use Rattle.rv_pmp.specs.Pmp.{PmpState, is_address, is_config, off_entry, entry_at, config_word, is_locked_tor, read_register, write_register, written}
+use Rattle.rv_pmp.specs.Support.Registers.{register_at, config_at, word_of, byte_of, with_config, starts_locked, with_address, with_word}
 use Rattle.rv_pmp.proofs.Writes.{with_config-at, with_config-past, with_address-at, with_address-locked, with_address-past}
 
 -- ---- reads
@@ -211,7 +211,7 @@ written-past f a (suc n) (suc i) past = written-past f (a + 1) n i (omega arith)
 pub stored_entry : (pmp new : PmpState) (addr word : ℕ) → write_register pmp addr word ≡ Some new → (n : ℕ)
     → entry_at new n ≡ (if nat_lt n (length pmp.entries) then written pmp addr word n else entry_at pmp n)
 unfolding write_register
-stored_entry pmp new addr word is n = by (read_register pmp addr) is where
+stored_entry pmp new addr word is n = by (is_config addr || is_address addr) is where
   all : List Entry
   all = map (written pmp addr word) (range_with_len 0 (length pmp.entries))
 
@@ -226,12 +226,12 @@ stored_entry pmp new addr word is n = by (read_register pmp addr) is where
       written-past (written pmp addr word) 0 (length pmp.entries) n past
       ∙ sym (get_or-eq_default pmp.entries off_entry past)
 
-  by : (value : Option ℕ) → option_map (λ old. with_entries all) value ≡ Some new
+  by : (there : Bool) → (if there then Some (with_entries all) else None) ≡ Some new
       → entry_at new n ≡ (if nat_lt n (length pmp.entries) then written pmp addr word n else entry_at pmp n)
-  by (Some value) gives =
+  by true gives =
       let same : with_entries all ≡ new = cc in
       ap (λ (p : PmpState). entry_at p n) (sym same) ∙ one (nat_lt n (length pmp.entries)) refl
-  by None gives = absurd cc
+  by false gives = absurd cc
 
 module _ (pmp : PmpState) (addr word : ℕ) (sixteen : length pmp.entries ≡ 16) where
   entries : List Entry
@@ -254,12 +254,10 @@ module _ (pmp : PmpState) (addr word : ℕ) (sixteen : length pmp.entries ≡ 16
 
   pub stores : write_register pmp addr word
       ≡ option_map (λ register. with_entries (with_word pmp.entries register word)) (register_at addr)
-  unfolding write_register read_register register_at entries with_word
+  unfolding write_register register_at entries with_word
   stores = go (is_config addr) refl (is_address addr) refl where
     go : (a : Bool) → is_config addr ≡ a → (b : Bool) → is_address addr ≡ b
-        → option_map (λ value. with_entries entries)
-        (if a then Some (config_word pmp (4 * (addr - 0x3A0)))
-        else (if b then Some (entry_at pmp (addr - 0x3B0)).address else None))
+        → (if a || b then Some (with_entries entries) else None)
         ≡ option_map (λ register. with_entries (with_word pmp.entries register word))
         (if a then Some (Config (4 * (addr - 0x3A0))) else (if b then Some (Address (addr - 0x3B0)) else None))
     go true is b also =

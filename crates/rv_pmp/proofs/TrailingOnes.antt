@@ -8,7 +8,8 @@ use Rattle.std.proofs.lemmas.Bool.Decides.{nat_tests}
 use Rattle.std.proofs.lemmas.Nat.{shr-shr, pow_below}
 use Rattle.std.specs.List.{prefix_len, range_with_len}
 use Rattle.rv_isa.specs.Number.{bit}
-use Rattle.rv_pmp.specs.Support.Span.{span_of, trailing_ones}
+use Rattle.rv_pmp.specs.Entry.{trailing_ones}
+use Rattle.rv_pmp.specs.Support.Span.{span_of}
 use Rattle.rv_pmp.specs.declared.entry.Entry.{Entry}
 use Rattle.rv_pmp.specs.declared.entry.Matching.TheVariants.{Napot}
 use Rattle.rv_pmp.specs.declared.span.Span.{Span}

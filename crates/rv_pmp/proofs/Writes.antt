@@ -6,9 +6,9 @@ use Rattle.std.proofs.lemmas.Option.{slice_get-get_or, slice_get_past}
 use Rattle.std.proofs.lemmas.List.Elements.{All-set, All-get_or}
 use Rattle.rv_pmp.specs.declared.entry.Entry.{Entry}
 use Rattle.rv_pmp.specs.declared.entry.Matching.TheVariants.{Napot}
-use Rattle.rv_pmp.specs.Entry.{configured, addressed}
+use Rattle.rv_pmp.specs.Entry.{addressed, configured, matching_of}
 use Rattle.rv_pmp.specs.Support.ActiveEntries.{AllReadable}
-use Rattle.rv_pmp.specs.Support.Registers.{matching_of, changed_at, with_config, with_address, starts_locked}
+use Rattle.rv_pmp.specs.Support.Registers.{changed_at, with_config, with_address, starts_locked}
 
 -- the way to match of the values from 3 on
 pub matching_rest : (code : ℕ) → code ≢ 0 → code ≢ 1 → code ≢ 2 → matching_of code ≡ Napot

@@ -1,14 +1,13 @@
 -- Physical memory protection: its registers, and what they grant. RISC-V Privileged Architecture 20211203,
 -- section 3.7.1.
 -- To audit: public contracts cite this.
-use Rattle.std.specs.Prelude.{ℕ, zero, suc, ◌+◌, ◌-◌, ◌*◌, ◌/◌, ◌%◌, ◌^◌, Bool, false, ◌==◌, ◌&&◌, not, nat_le, if◌then◌else◌, List, find, length, map, slice_index_or, Option, Some, None}
+use Rattle.std.specs.Prelude.{ℕ, zero, suc, ◌+◌, ◌-◌, ◌*◌, ◌/◌, ◌%◌, ◌^◌, Bool, false, ◌==◌, ◌&&◌, ◌||◌, not, nat_le, if◌then◌else◌, List, find, length, map, slice_index_or, Option, Some, None}
 use Rattle.std.specs.List.{list_any, list_all, range_with_len, sum_by}
-use Rattle.std.specs.Option.{option_map, option_map_or}
 use Rattle.rv_pmp.specs.declared.access.Access.{Access}
 use Rattle.rv_pmp.specs.declared.mode.Mode.{Mode}
 use Rattle.rv_pmp.specs.declared.entry.Entry.{Entry}
 use Rattle.rv_pmp.specs.declared.entry.Matching.TheVariants.{Off}
-use Rattle.rv_pmp.specs.Entry.{matching_code, config_byte, configured, addressed, matched, entry_grants}
+use Rattle.rv_pmp.specs.Entry.{matching_code, config_byte, configured, addressed, matched, permits}
 use Rattle.rv_pmp.specs.Mode.{is_machine}
 
 -- the entries, of which the lowest-numbered has the highest priority
@@ -35,14 +34,20 @@ lower_of pmp (suc n) = (entry_at pmp n).address
 abbrev pub matches : PmpState → ℕ → ℕ → Bool
 matches pmp n byte = matched (entry_at pmp n).matching (lower_of pmp n) (entry_at pmp n).address byte
 
--- whether a mode is granted an access to `count` bytes from `first` on: the lowest-numbered entry that matches
--- any of them decides, and has to match all of them and to grant it. Without such an entry only machine mode
--- is granted the access
+-- the entry that decides about an access to these bytes, if any: the lowest-numbered that matches any of them
+abbrev pub decider : PmpState → List ℕ → Option ℕ
+decider pmp bytes = find (λ n. list_any (matches pmp n) bytes) (range_with_len 0 (length pmp.entries))
+
+-- what it decides for a mode: it has to match all of the bytes and to permit the access. Where none decides,
+-- only machine mode is granted it
+abbrev pub decided : PmpState → Mode → Access → List ℕ → Option ℕ → Bool
+decided pmp mode access bytes None = is_machine mode
+decided pmp mode access bytes (Some n) = list_all (matches pmp n) bytes && permits (entry_at pmp n) mode access
+
+-- whether a mode is granted an access to `count` bytes from `first` on
 unfoldable pub grants : PmpState → Mode → Access → ℕ → ℕ → Bool
 grants pmp mode access first count =
-    let bytes = range_with_len first count in
-    option_map_or (λ n. list_all (matches pmp n) bytes && entry_grants (entry_at pmp n) mode access)
-    (find (λ n. list_any (matches pmp n) bytes) (range_with_len 0 (length pmp.entries))) (is_machine mode)
+    let bytes = range_with_len first count in decided pmp mode access bytes (decider pmp bytes)
 
 -- ---- the registers: pmpcfg0 to pmpcfg3 at 0x3A0 to 0x3A3, each with the configuration bytes of four
 -- entries, low byte first; and pmpaddr0 to pmpaddr15 at 0x3B0 to 0x3BF
@@ -51,11 +56,18 @@ grants pmp mode access first count =
 abbrev pub config_word : PmpState → ℕ → ℕ
 config_word pmp first = sum_by (λ i. config_byte (entry_at pmp (first + i)) * 2 ^ (8 * i)) (range_with_len 0 4)
 
+-- whether a configuration register is at an address, and whether an address register is
+abbrev pub is_config : ℕ → Bool
+is_config addr = nat_le 0x3A0 addr && nat_le addr 0x3A3
+
+abbrev pub is_address : ℕ → Bool
+is_address addr = nat_le 0x3B0 addr && nat_le addr 0x3BF
+
 -- the value that a read at an address gives, if a register is there
 unfoldable pub read_register : PmpState → ℕ → Option ℕ
 read_register pmp addr =
-    if nat_le 0x3A0 addr && nat_le addr 0x3A3 then Some (config_word pmp (4 * (addr - 0x3A0)))
-    else (if nat_le 0x3B0 addr && nat_le addr 0x3BF then Some (entry_at pmp (addr - 0x3B0)).address else None)
+    if is_config addr then Some (config_word pmp (4 * (addr - 0x3A0)))
+    else (if is_address addr then Some (entry_at pmp (addr - 0x3B0)).address else None)
 
 -- whether an entry is locked and matches by TOR, so that its region begins at the address of the entry before
 unfoldable pub is_locked_tor : PmpState → ℕ → Bool
@@ -72,5 +84,5 @@ written pmp addr word n =
 -- the registers after a write of a word at an address, if a register is there
 unfoldable pub write_register : PmpState → ℕ → ℕ → Option PmpState
 write_register pmp addr word =
-    option_map (λ value. record { entries = map (written pmp addr word) (range_with_len 0 (length pmp.entries)) })
-    (read_register pmp addr)
+    let entries = map (written pmp addr word) (range_with_len 0 (length pmp.entries)) in
+    if is_config addr || is_address addr then Some (record { entries = entries }) else None

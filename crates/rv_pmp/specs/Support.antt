@@ -2,7 +2,6 @@
 pub mod ActiveEntries
 pub mod Guards
 pub mod PermissionCache
-pub mod Permits
 pub mod Registers
 pub mod Span
 pub mod WidestSpan

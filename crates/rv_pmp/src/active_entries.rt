@@ -50,7 +50,7 @@ impl ActiveEntry {
     pub(crate) fn permitted_part(&self, access: Access, free: Span) -> Span
         ensures { result ≡ spec.permitted_part self.now access free }
     {
-        if self.entry.permits(access) {
+        if self.entry.bit(access) {
             free.intersection(self.span)
         } else {
             Span::NO_BYTES

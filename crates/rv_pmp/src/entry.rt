@@ -1,9 +1,7 @@
 //! An entry: its registers' fields, and what it grants.
 ghost use Rattle.std.specs.Prelude.{◌≡◌, ◌==◌};
-ghost use Rattle.rv_pmp.specs.Entry.{matching_code, config_byte, entry_grants};
-ghost use Rattle.rv_pmp.specs.Support.Registers.{matching_of};
+ghost use Rattle.rv_pmp.specs.Entry.{matching_code, matching_of, config_byte, bit_for};
 ghost use Rattle.rv_pmp.specs.Entry as spec;
-ghost use Rattle.rv_pmp.specs.Support.Permits as bits;
 ghost use Rattle.rv_pmp.specs.Support.ActiveEntries.{is_matching};
 
 use crate::{Access, Mode};
@@ -44,7 +42,7 @@ impl Matching {
     }
 
     /// Returns the way that a value of the field A, less than 4, stands for.
-    #[tactic(auto, unfolding(crate::specs::Support::Registers::matching_of), using(crate::proofs::Writes::matching_rest))]
+    #[tactic(auto, unfolding(crate::specs::Entry::matching_of), using(crate::proofs::Writes::matching_rest))]
     fn of(code: u8) -> Matching
         ensures { result ≡ matching_of code }
     {
@@ -107,7 +105,7 @@ impl Entry {
 
     /// Returns the entry after a write to its configuration byte. A locked entry stays as it is, and W is
     /// kept only together with R.
-    #[tactic(auto, unfolding(crate::specs::Entry::configured, crate::specs::Support::Registers::matching_of))]
+    #[tactic(auto, unfolding(crate::specs::Entry::configured, crate::specs::Entry::matching_of))]
     pub(crate) fn with_config(self, byte: u8) -> Entry
         ensures { result ≡ spec.configured self byte }
     {
@@ -138,14 +136,17 @@ impl Entry {
 
     /// Whether the entry grants a mode an access whose bytes are all in its region.
     pub fn grants(&self, mode: Mode, access: Access) -> bool
-        ensures { result ≡ entry_grants self.now mode access }
+        ensures { result ≡ spec.permits self.now mode access }
     {
-        mode.is_machine() && !self.locked || self.permits(access)
+        match mode {
+            Mode::User => self.bit(access),
+            Mode::Machine => !self.locked || self.bit(access),
+        }
     }
 
     /// Returns the bit for a kind of access: R, W or X.
-    pub(crate) fn permits(&self, access: Access) -> bool
-        ensures { result ≡ bits.permits self.now access }
+    pub(crate) fn bit(&self, access: Access) -> bool
+        ensures { result ≡ bit_for self.now access }
     {
         match access {
             Access::Read => self.readable,

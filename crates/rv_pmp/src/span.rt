@@ -1,6 +1,6 @@
 //! Spans of bytes: the region of an entry, and the parts of spans.
 ghost use Rattle.std.specs.Prelude.{◌≡◌, ◌+◌, ◌<◌, ◌≤◌, ◌^◌};
-ghost use Rattle.rv_pmp.specs.Support.Span as ones;
+ghost use Rattle.rv_pmp.specs.Entry as ones;
 ghost use Rattle.rv_pmp.specs.Support.WidestSpan as spec;
 ghost use Rattle.rv_pmp.specs.Support.Span.{is_between, holds, meets, span_of};
 

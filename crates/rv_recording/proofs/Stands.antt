@@ -6,7 +6,7 @@ use Rattle.std.specs.List.{list_all}
 use Rattle.std.specs.Prelude.{◌⊎◌, ◌&&◌, nat_le, nat_lt, is_none, min, if◌then◌else◌, option_and_then, Option, Some, None, Result, Ok, Err, OnOk, OnErr, OnOk}
 use Rattle.rv_base.specs.declared.memory.NoMemory.{NoMemory}
 use Rattle.rv_hart.specs.declared.trap.Outcome.{Outcome}
-use Rattle.rv_board.specs.Boot.{boot_fault, reset}
+use Rattle.rv_board.specs.Boot.{boot_fault, board_at_reset}
 use Rattle.rv_board.specs.Move.{run}
 use Rattle.rv_board.specs.Support.State.{BoardState, halted_of}
 use Rattle.rv_timeline.specs.Support.Reading.{HasSteps}
@@ -59,7 +59,7 @@ none_is (Some a) h = absurd cc
 abbrev Stands : SessionState → ℕ → ℕ → List KeptBoard → Type 0
 Stands s p q ks =
     IsRecorded (record { session = s; pages = p; slots = q })
-    × AreKept (reset s.program.bytes (4096 * p)) s.timed.inputs ks
+    × AreKept (board_at_reset s.program.bytes (4096 * p)) s.timed.inputs ks
 
 rises_by : (xs ys : List TimedInput) (rises : Bool) → never_falls xs ≡ rises
     → (if rises then Some xs else None) ≡ Some ys → never_falls ys ≡ true
@@ -81,7 +81,7 @@ pub opened_is : (program : Assembly) (text : List ℕ) (pages slots : ℕ) (s : 
     → Opens program text pages slots 9999999999 (Ok s) → HasSteps s.timed.inputs
     → (ks : List KeptBoard) → ks ≡ [] → Stands s pages slots ks
 opened_is program text pages slots s opens small ks none =
-    let first = reset program.bytes (4096 * pages) in
+    let first = board_at_reset program.bytes (4096 * pages) in
     subst (λ (u : SessionState). Stands u pages slots ks) (sym opens.2) (
       record {
         boots = opens.1;
@@ -138,7 +138,7 @@ given_steps t input h k =
 
 module _ (s new : SessionState) (p q : ℕ) (ks : List KeptBoard) (h : Stands s p q ks) where
   abbrev first : BoardState
-  first = reset s.program.bytes (4096 * p)
+  first = board_at_reset s.program.bytes (4096 * p)
 
   abbrev after_call : RecordingState
   after_call = record { session = new; pages = p; slots = q }

@@ -1,7 +1,7 @@
 -- To audit: public contracts cite this.
 -- A session that can be run again from reset on.
 use Rattle.std.specs.Prelude.{ℕ, ◌*◌}
-use Rattle.rv_board.specs.Boot.{reset}
+use Rattle.rv_board.specs.Boot.{board_at_reset}
 use Rattle.rv_board.specs.BoardState.{BoardState}
 use Rattle.rv_monitor.specs.State.{SessionState, TimedState, begun, after}
 
@@ -17,7 +17,7 @@ last_step = 9999999999
 
 -- the board at reset
 abbrev pub first_board : RecordingState → BoardState
-first_board r = reset r.session.program.bytes (4096 * r.pages)
+first_board r = board_at_reset r.session.program.bytes (4096 * r.pages)
 
 -- the recording with its board, inputs and steps replaced
 abbrev pub with_timed : RecordingState → TimedState → RecordingState

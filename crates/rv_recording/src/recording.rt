@@ -58,7 +58,7 @@ impl Model for Recording {
     ghost use Rattle.std.specs.FinSet as set;
     ghost use Rattle.std.specs.Ordering.{nat_cmp};
     ghost use Rattle.rv_plic.specs.Support.Codes.{plic_code};
-    ghost use Rattle.rv_board.specs.Boot.{reset};
+    ghost use Rattle.rv_board.specs.Boot.{board_at_reset};
     ghost use Rattle.rv_recording.specs.Support.Kept.{AreKept};
     ghost use Rattle.rv_recording.specs.Recording.{RecordingState};
     ghost use Rattle.rv_recording.specs.Support.Recorded.{IsRecorded};
@@ -70,7 +70,7 @@ impl Model for Recording {
     ghost view = { λ r. record { session = r.session; pages = r.pages; slots = r.slots } };
 
     ghost invariant = { λ r. IsRecorded (record { session = r.session; pages = r.pages; slots = r.slots })
-        × AreKept (reset r.session.program.bytes (4096 * r.pages)) r.session.timed.inputs r.kept };
+        × AreKept (board_at_reset r.session.program.bytes (4096 * r.pages)) r.session.timed.inputs r.kept };
 }
 
 impl Recording {

@@ -3,5 +3,4 @@ pub mod Instructions
 pub mod Machine
 pub mod Running
 pub mod Programs
-pub mod Quiet
 pub mod Lists

@@ -13,7 +13,7 @@ use Rattle.std.proofs.lemmas.Cmp.{nat_cmp_total}
 use Rattle.std.proofs.lemmas.List.Folds.{list_any-append}
 use Rattle.std.proofs.lemmas.Map.Views.{any-filter_same}
 use Rattle.rv_plic.specs.Sources.{Sources, sources, sources_of, word_of}
-use Rattle.rv_plic.specs.Gateways.{PlicState, asking_sources, edges_of, forwarded, is_by_edge, one_more, requests, reset, with_line}
+use Rattle.rv_plic.specs.Gateways.{PlicState, asking_sources, edges_of, forwarded, is_by_edge, one_more, requests, plic_at_reset, with_line}
 use Rattle.rv_plic.specs.Plic.{best, claimed, completed, is_notified}
 use Rattle.rv_plic.specs.Support.Registers.{after_reading, reg_at, with_word, word_at}
 use Rattle.rv_plic.specs.declared.register.PlicReg.{PlicReg}
@@ -27,7 +27,7 @@ use Rattle.test_definitions.specs.declared.controller.TheConstants.{EQUAL, COMPL
 
 -- ---- sets by their lists
 
-abbrev set_of : List ℕ → Sources
+abbrev pub set_of : List ℕ → Sources
 set_of xs = from_list xs
 
 abbrev has : List ℕ → ℕ → Bool
@@ -81,16 +81,16 @@ differs xs ys =
 
 -- ---- the controller over lists
 
-record OfLists : Type 0 where
-  high : List ℕ
-  edges : List ℕ
-  outstanding : List ℕ
-  pending : List ℕ
-  enabled : List ℕ
-  priorities : List ℕ
-  threshold : ℕ
+pub record OfLists : Type 0 where
+  pub high : List ℕ
+  pub edges : List ℕ
+  pub outstanding : List ℕ
+  pub pending : List ℕ
+  pub enabled : List ℕ
+  pub priorities : List ℕ
+  pub threshold : ℕ
 
-abbrev of : OfLists → PlicState
+abbrev pub of : OfLists → PlicState
 of m = record {
   high = set_of m.high;
   edges = m.edges;
@@ -107,13 +107,13 @@ abbrev edges_by : OfLists → ℕ → Bool → Bool → List ℕ
 edges_by m s level was =
     if is_by_edge s && level && not was then slice_set m.edges (s - 24) (one_more (edges_of m.edges s)) else m.edges
 
-abbrev line_by : OfLists → ℕ → Bool → OfLists
+abbrev pub line_by : OfLists → ℕ → Bool → OfLists
 line_by m s level = record m {
   high = if level then s ∷ m.high else without s m.high;
   edges = edges_by m s level (has m.high s);
 }
 
-line_is : (m : OfLists) (s : ℕ) (level : Bool) → with_line (of m) s level ≡ of (line_by m s level)
+pub line_is : (m : OfLists) (s : ℕ) (level : Bool) → with_line (of m) s level ≡ of (line_by m s level)
 line_is m s true =
     λ i. record (of m) { high = inserted m.high s i; edges = edges_by m s true (has_is m.high s i) }
 line_is m s false =
@@ -122,11 +122,11 @@ line_is m s false =
 abbrev asks_by : List ℕ → (ℕ → Bool) → List ℕ
 asks_by edges high = filter (λ s. if is_by_edge s then nat_lt 0 (edges_of edges s) else high s) sources
 
-abbrev requests_by : OfLists → List ℕ
+abbrev pub requests_by : OfLists → List ℕ
 requests_by m =
     filter (λ s. not (has m.pending s)) (filter (λ s. not (has m.outstanding s)) (asks_by m.edges (has m.high)))
 
-requests_are : (m : OfLists) → requests (of m) ≡ set_of (requests_by m)
+pub requests_are : (m : OfLists) → requests (of m) ≡ set_of (requests_by m)
 unfolding asking_sources
 requests_are m =
     ap (λ h. difference (difference (set_of (asks_by m.edges h)) (set_of m.outstanding)) (set_of m.pending))
@@ -138,7 +138,7 @@ abbrev taken_by : List ℕ → (ℕ → Bool) → List ℕ
 taken_by edges new =
     map (λ s. edges_of edges s - (if new s then 1 else 0)) (range_with_len 24 (length edges))
 
-abbrev forwarded_by : OfLists → OfLists
+abbrev pub forwarded_by : OfLists → OfLists
 forwarded_by m =
     let new = requests_by m in record m {
       edges = taken_by m.edges (has new);
@@ -146,7 +146,7 @@ forwarded_by m =
       pending = m.pending ++ new;
     }
 
-forwarded_is : (m : OfLists) → forwarded (of m) ≡ of (forwarded_by m)
+pub forwarded_is : (m : OfLists) → forwarded (of m) ≡ of (forwarded_by m)
 forwarded_is m =
     ap (λ (new : Sources). record (of m) {
       edges = taken_by m.edges (λ s. contains new s);
@@ -162,12 +162,12 @@ forwarded_is m =
 -- ---- the best source
 
 module _ (priorities : List ℕ) (pending enabled : ℕ → Bool) where
-  abbrev outranks_by : ℕ → ℕ → Bool
-  outranks_by priority s = pending s && enabled s && nat_lt priority (slice_index priorities s)
+  abbrev asks_above_by : ℕ → ℕ → Bool
+  asks_above_by level s = pending s && enabled s && nat_lt level (slice_index priorities s)
 
   abbrev best_of : Option ℕ
   best_of =
-      find (λ s. outranks_by 0 s && not (list_any (outranks_by (slice_index priorities s)) sources)) sources
+      find (λ s. asks_above_by 0 s && not (list_any (asks_above_by (slice_index priorities s)) sources)) sources
 
 abbrev best_by : OfLists → Option ℕ
 best_by m = best_of m.priorities (has m.pending) (has m.enabled)
@@ -176,13 +176,13 @@ best_is : (m : OfLists) → best (of m) ≡ best_by m
 unfolding best
 best_is m = λ i. best_of m.priorities (has_fun m.pending i) (has_fun m.enabled i)
 
-abbrev notified_by : OfLists → Bool
-notified_by m = list_any (outranks_by m.priorities (has m.pending) (has m.enabled) m.threshold) sources
+abbrev pub notified_by : OfLists → Bool
+notified_by m = list_any (asks_above_by m.priorities (has m.pending) (has m.enabled) m.threshold) sources
 
-notified_is : (m : OfLists) → is_notified (of m) ≡ notified_by m
+pub notified_is : (m : OfLists) → is_notified (of m) ≡ notified_by m
 unfolding is_notified
 notified_is m =
-    λ i. list_any (outranks_by m.priorities (has_fun m.pending i) (has_fun m.enabled i) m.threshold) sources
+    λ i. list_any (asks_above_by m.priorities (has_fun m.pending i) (has_fun m.enabled i) m.threshold) sources
 
 -- ---- the registers
 
@@ -223,7 +223,7 @@ completed_is m word =
     by true = λ i. record (of m) { outstanding = removed m.outstanding word i }
     by false = refl
 
-abbrev word_by : OfLists → Option PlicReg → ℕ
+abbrev pub word_by : OfLists → Option PlicReg → ℕ
 word_by m None = 0
 word_by m (Some (Priority s)) = slice_index m.priorities s
 word_by m (Some Pending) = set_word m.pending
@@ -231,7 +231,7 @@ word_by m (Some Enables) = set_word m.enabled
 word_by m (Some Threshold) = m.threshold
 word_by m (Some Claim) = unwrap_or (best_by m) 0
 
-words_are : (m : OfLists) (reg : Option PlicReg) → option_map_or (word_at (of m)) reg 0 ≡ word_by m reg
+pub words_are : (m : OfLists) (reg : Option PlicReg) → option_map_or (word_at (of m)) reg 0 ≡ word_by m reg
 words_are m None = refl
 words_are m (Some (Priority s)) = refl
 words_are m (Some Pending) = word_is m.pending
@@ -239,14 +239,14 @@ words_are m (Some Enables) = word_is m.enabled
 words_are m (Some Threshold) = refl
 words_are m (Some Claim) = ap (λ found. unwrap_or found 0) (best_is m)
 
-abbrev stored_by : OfLists → ℕ → Option PlicReg → OfLists
+abbrev pub stored_by : OfLists → ℕ → Option PlicReg → OfLists
 stored_by m word (Some (Priority s)) = record m { priorities = slice_set m.priorities s (word % 8) }
 stored_by m word (Some Enables) = record m { enabled = filter (λ s. bit_at word s == 1) sources }
 stored_by m word (Some Threshold) = record m { threshold = word % 8 }
 stored_by m word (Some Claim) = completed_by m word
 stored_by m word reg = m
 
-stored_is : (m : OfLists) (word : ℕ) (reg : Option PlicReg)
+pub stored_is : (m : OfLists) (word : ℕ) (reg : Option PlicReg)
     → option_map_or (λ r. with_word (of m) r word) reg (of m) ≡ of (stored_by m word reg)
 unfolding sources_of
 stored_is m word None = refl
@@ -256,11 +256,11 @@ stored_is m word (Some Enables) = refl
 stored_is m word (Some Threshold) = refl
 stored_is m word (Some Claim) = completed_is m word
 
-abbrev loaded_by : OfLists → Option PlicReg → OfLists
+abbrev pub loaded_by : OfLists → Option PlicReg → OfLists
 loaded_by m (Some Claim) = claimed_by m
 loaded_by m reg = m
 
-loaded_is : (m : OfLists) (reg : Option PlicReg)
+pub loaded_is : (m : OfLists) (reg : Option PlicReg)
     → option_map_or (after_reading (of m)) reg (of m) ≡ of (loaded_by m reg)
 loaded_is m None = refl
 loaded_is m (Some (Priority s)) = refl
@@ -315,7 +315,7 @@ all_show m (row ∷ rows) is =
     (ap (λ (q : PlicState). shows_all q rows) (after_is m row.0 row.1 row.2 p.0)
     ∙ all_show (after_by m row.0 row.1 row.2) rows p.1)
 
-abbrev at_reset : OfLists
+abbrev pub at_reset : OfLists
 at_reset = record {
   high = [];
   edges = replicate 8 0;
@@ -326,21 +326,21 @@ at_reset = record {
   threshold = 0;
 }
 
-shown : (rows : List (Act × ℕ × ℕ)) → all_by at_reset rows ≡ true → shows_all reset rows ≡ true
+shown : (rows : List (Act × ℕ × ℕ)) → all_by at_reset rows ≡ true → shows_all plic_at_reset rows ≡ true
 shown rows is = all_show at_reset rows is
 
-pub equal : shows_all reset EQUAL ≡ true
+pub equal : shows_all plic_at_reset EQUAL ≡ true
 unfolding sources reg_at
 equal = shown EQUAL refl
 
-pub complete : shows_all reset COMPLETE ≡ true
+pub complete : shows_all plic_at_reset COMPLETE ≡ true
 unfolding sources reg_at
 complete = shown COMPLETE refl
 
-pub edges : shows_all reset EDGES ≡ true
+pub edges : shows_all plic_at_reset EDGES ≡ true
 unfolding sources reg_at
 edges = shown EDGES refl
 
-pub nested : shows_all reset NESTED ≡ true
+pub nested : shows_all plic_at_reset NESTED ≡ true
 unfolding sources reg_at
 nested = shown NESTED refl

@@ -1,34 +1,53 @@
--- A run of a program whose words stand in rows is computed with their kinds.
-use Rattle.std.proofs.Common.{◌≡◌, refl, ap, sym, ◌∙◌, true, false, ℕ, List, Bool}
-use Rattle.std.specs.Prelude.{[], ◌∷◌, replicate, length, drop, slice_index_or, Option, Some, None, is_some, if◌then◌else◌, Result, Ok}
+-- A run of a program whose words stand in rows is computed with their kinds, and with lists of sources in place of the
+-- interrupt controller's sets, which don't compute.
+use Rattle.std.proofs.Common.{◌≡◌, refl, ap, sym, ◌∙◌, true, false, ℕ, ◌%◌, ◌==◌, List, Bool, eqb-true}
+use Rattle.std.specs.Prelude.{ℤ, [], ◌∷◌, Option, Some, None, is_some, if◌then◌else◌, ◌&&◌, Result, Ok, Err}
 use Rattle.std.specs.Option.{option_map_or}
-use Rattle.std.proofs.lemmas.Bool.{true≢false}
+use Rattle.std.proofs.lemmas.Bool.{and_parts, true≢false}
+use Rattle.std.proofs.lemmas.Option.{none-some}
+use Rattle.rv_isa.specs.Width.{bytes_of}
 use Rattle.rv_isa.specs.Word.{OneMeaning}
+use Rattle.rv_isa.specs.Support.Loads.{load_width}
 use Rattle.rv_isa.specs.Support.Meaning.{means}
 use Rattle.rv_isa.specs.declared.kind.Kind.{Kind}
+use Rattle.rv_isa.specs.declared.kind.Kind.TheVariants.{Load, Store}
+use Rattle.rv_isa.specs.declared.op.LoadOp.{LoadOp}
+use Rattle.rv_isa.specs.declared.op.Width.{Width}
 use Rattle.rv_isa.proofs.Meaning.{means_inverts}
 use Rattle.rv_isa.specs.declared.Lines.{Lines}
-use Rattle.rv_mmio.specs.Timer as timer
-use Rattle.rv_mmio.specs.Timer.{is_due}
-use Rattle.rv_plic.specs.Gateways.{PlicState}
-use Rattle.rv_plic.specs.Gateways as plic
+use Rattle.rv_mmio.specs.Timer.{is_due, timer_ticked}
+use Rattle.rv_plic.specs.Gateways.{PlicState, forwarded, with_line}
+use Rattle.rv_plic.specs.Plic.{is_notified, plic_register}
+use Rattle.rv_plic.specs.Support.Registers.{reg_at}
+use Rattle.rv_plic.proofs.Forwarding.{none_forwarded}
+use Rattle.rv_plic.proofs.Rows.{loaded, loads, stores}
 use Rattle.rv_pmp.specs.Pmp.{grants}
 use Rattle.rv_pmp.specs.declared.access.Access.TheVariants.{Execute}
+use Rattle.rv_pmp.specs.declared.access.Access.TheVariants as access
 use Rattle.rv_csr.specs.Traps.{pending}
-use Rattle.rv_plic.specs.Plic.{is_notified}
 use Rattle.rv_bus.specs.Access.{fetch, lines_of}
+use Rattle.rv_bus.specs.State.{BusState}
+use Rattle.rv_bus.specs.Support.AtLocation.{load_at, location, store_at}
+use Rattle.rv_bus.specs.declared.locations.Location.{Location}
+use Rattle.rv_bus.specs.declared.locations.Location.TheVariants.{Halt, Nowhere, Plic, Ram, Serial, Timer}
+use Rattle.rv_bus.proofs.Rows.{at_location}
 use Rattle.rv_hart.specs.State.{Machine}
-use Rattle.rv_hart.specs.Effect.{given, require, trap}
+use Rattle.rv_hart.specs.Effect.{csr_written, effect, execute, may_access, plus, reg, require, trap}
+use Rattle.rv_hart.specs.Support.EffectParts.{given, load_result, store_result}
 use Rattle.rv_hart.specs.Fetch.{fetch_result}
-use Rattle.rv_hart.specs.Step.{attempt, fetched, step, ticked}
+use Rattle.rv_hart.specs.Step.{attempt, counts, enter, fetched, finished, step, ticked}
+use Rattle.rv_hart.specs.Laws.{accessed}
+use Rattle.rv_hart.proofs.Devices.{Reaches, reaches}
+use Rattle.rv_hart.proofs.Devices as devices
+use Rattle.rv_hart.proofs.Rows.{IfRetired}
 use Rattle.rv_hart.specs.declared.trap.Trap.{Trap}
 use Rattle.rv_hart.specs.declared.trap.Outcome.{Outcome}
-use Rattle.rv_board.specs.BoardState.{BoardState}
+use Rattle.rv_board.specs.BoardState.{BoardState, on_bus}
 use Rattle.rv_board.specs.Move.{after_step, moved, with_event, run}
 use Rattle.rv_board.specs.declared.event.Event.{Event}
 use Rattle.rv_board.specs.declared.event.Event.TheVariants.{Step, Line, Rx}
 use Rattle.test_definitions.specs.Support.Runs.{Row}
-use Rattle.test_definitions.proofs.Quiet.{stays, low}
+use Rattle.test_definitions.proofs.Lists.{OfLists, forwarded_by, forwarded_is, line_by, line_is, loaded_by, loaded_is, notified_by, notified_is, of, requests_are, requests_by, set_of, stored_by, stored_is, word_by, words_are}
 use Rattle.test_definitions.proofs.Decoding.{decoded, by_rows}
 
 -- ---- a fetch
@@ -47,102 +66,317 @@ known_word : (rows : List Row) (pc : ℕ) (word : Option ℕ) → OneMeaning →
 known_word rows pc None one known = refl
 known_word rows pc (Some w) one known = ap (given 2 w Ok) (found_by rows w (decoded rows w) one refl known)
 
--- ---- a step, while the interrupt controller is as at reset
+-- ---- accesses, while the sets of the interrupt controller are those of lists
+
+abbrev loaded_at : OfLists → BusState → Width → Location → Option (ℕ × BusState)
+loaded_at p b w (Plic off) = Some (word_by p (reg_at off), record b { plic = of (loaded_by p (reg_at off)) })
+loaded_at p b w l = load_at b l w
+
+abbrev stored_at : OfLists → BusState → Width → ℕ → Location → Option BusState
+stored_at p b w v (Plic off) = Some (record b { plic = of (stored_by p v (reg_at off)) })
+stored_at p b w v l = store_at b l w v
+
+-- a register of the controller begins at a word
+abbrev is_whole : Location → Bool
+is_whole (Plic off) = off % 4 == 0
+is_whole l = true
+
+module _ (p : OfLists) (b : BusState) (is : b.plic ≡ of p) (w : Width) where
+  loads_at : (l : Location) → is_whole l ≡ true → load_at b l w ≡ loaded_at p b w l
+  loads_at (Plic off) e =
+      let whole : off % 4 ≡ 0 = eqb-true _ _ e in
+      ap (λ (q : PlicState). Some ((plic_register off).word q, record b { plic = (plic_register off).loaded q })) is
+      ∙ (λ i. Some (
+        (loads (of p) off whole ∙ words_are p (reg_at off)) i,
+        record b { plic = (loaded (of p) off whole ∙ loaded_is p (reg_at off)) i },
+      ))
+  loads_at l e = refl
+
+  stores_at : (v : ℕ) (l : Location) → is_whole l ≡ true → store_at b l w v ≡ stored_at p b w v l
+  stores_at v (Plic off) e =
+      let whole : off % 4 ≡ 0 = eqb-true _ _ e in
+      ap (λ (q : PlicState). Some (record b { plic = (plic_register off).stored q v })) is
+      ∙ (λ i. Some (record b { plic = (stores (of p) off whole v ∙ stored_is p v (reg_at off)) i }))
+  stores_at v l e = refl
+
+-- ---- instructions
+
+-- what is at the address of a load or a store
+abbrev at_base : Machine → ℕ → ℤ → Width → Location
+at_base m base offset w = location m.bus (plus (reg m base) offset) w
+
+abbrev load_by : OfLists → Machine → LoadOp → ℕ → ℕ → Bool → Bool → Location → Result Machine Trap
+load_by p m op rd addr aligned granted l =
+    require 4 addr aligned (require 5 addr granted (load_result m op rd addr (loaded_at p m.bus (load_width op) l)))
+
+abbrev store_by : OfLists → Machine → Width → ℕ → ℕ → Bool → Bool → Location → Result Machine Trap
+store_by p m w addr v aligned granted l =
+    require 6 addr aligned (require 7 addr granted (store_result m addr (stored_at p m.bus w v l)))
+
+abbrev effect_by : OfLists → Kind → Machine → Result Machine Trap
+effect_by p (Load op rd base offset) m =
+    let addr = plus (reg m base) offset in
+    let w = load_width op in
+    load_by p m op rd addr (addr % bytes_of w == 0) (may_access m access.Read addr w) (at_base m base offset w)
+effect_by p (Store w source base offset) m =
+    let addr = plus (reg m base) offset in
+    store_by p m w addr (reg m source) (addr % bytes_of w == 0) (may_access m access.Write addr w)
+    (at_base m base offset w)
+effect_by p k m = effect k m
+
+-- whether an instruction accesses whole registers
+abbrev accesses_whole : Machine → Kind → Bool
+accesses_whole m (Load op rd base offset) = is_whole (at_base m base offset (load_width op))
+accesses_whole m (Store w source base offset) = is_whole (at_base m base offset w)
+accesses_whole m k = true
+
+effect_is : (p : OfLists) (m : Machine) → m.bus.plic ≡ of p → (k : Kind) → accesses_whole m k ≡ true
+    → effect k m ≡ effect_by p k m
+unfolding execute
+effect_is p m is (Load op rd base offset) whole =
+    let addr = plus (reg m base) offset in
+    let w = load_width op in
+    ap (λ found. require 4 addr (addr % bytes_of w == 0)
+    (require 5 addr (may_access m access.Read addr w) (load_result m op rd addr found)))
+    ((at_location m.bus addr w).load ∙ loads_at p m.bus is w (location m.bus addr w) whole)
+effect_is p m is (Store w source base offset) whole =
+    let addr = plus (reg m base) offset in
+    ap (λ found. require 6 addr (addr % bytes_of w == 0)
+    (require 7 addr (may_access m access.Write addr w) (store_result m addr found)))
+    ((at_location m.bus addr w).store (reg m source)
+    ∙ stores_at p m.bus is w (reg m source) (location m.bus addr w) whole)
+effect_is p m is k whole = refl
+
+-- the lists after an instruction that retires
+abbrev after_access : OfLists → (ℕ → OfLists) → Location → OfLists
+after_access p change (Plic off) = change off
+after_access p change l = p
+
+abbrev changed : OfLists → Machine → Kind → OfLists
+changed p m (Load op rd base offset) =
+    after_access p (λ off. loaded_by p (reg_at off)) (at_base m base offset (load_width op))
+changed p m (Store w source base offset) =
+    after_access p (λ off. stored_by p (reg m source) (reg_at off)) (at_base m base offset w)
+changed p m k = p
+
+module _ (p : OfLists) (m : Machine) (is : m.bus.plic ≡ of p) where
+  abbrev Has : OfLists → Machine → Type 0
+  Has q new = new.bus.plic ≡ of q
+
+  loaded_has : (op : LoadOp) (rd addr : ℕ) (aligned granted : Bool) (l : Location)
+      → IfRetired (Has (after_access p (λ off. loaded_by p (reg_at off)) l)) (load_by p m op rd addr aligned granted l)
+  loaded_has op rd addr false granted l = tt
+  loaded_has op rd addr true false l = tt
+  loaded_has op rd addr true true (Plic off) = refl
+  loaded_has op rd addr true true (Ram off) = is
+  loaded_has op rd addr true true Halt = is
+  loaded_has op rd addr true true (Timer reg) = is
+  loaded_has op rd addr true true (Serial reg) = is
+  loaded_has op rd addr true true Nowhere = tt
+
+  stored_has : (w : Width) (addr v : ℕ) (aligned granted : Bool) (l : Location)
+      → IfRetired (Has (after_access p (λ off. stored_by p v (reg_at off)) l)) (store_by p m w addr v aligned granted l)
+  stored_has w addr v false granted l = tt
+  stored_has w addr v true false l = tt
+  stored_has w addr v true true (Plic off) = refl
+  stored_has w addr v true true (Ram off) = is
+  stored_has w addr v true true Halt = is
+  stored_has w addr v true true (Timer reg) = is
+  stored_has w addr v true true (Serial reg) = is
+  stored_has w addr v true true Nowhere = tt
+
+  leaves : (k : Kind) (e : Result Machine Trap) → accessed k m ≡ None → IfRetired (Reaches m k) e
+      → IfRetired (Has p) e
+  leaves k (Ok new) none (devices.nothing same) = ap (λ (b : BusState). b.plic) same ∙ is
+  leaves k (Ok new) none (devices.loaded a at granted rest) = absurd (none-some _ (sym none ∙ at))
+  leaves k (Ok new) none (devices.stored a at granted rest) = absurd (none-some _ (sym none ∙ at))
+  leaves k (Err t) none reached = tt
+
+  has_changed : (k : Kind) → IfRetired (Has (changed p m k)) (effect_by p k m)
+  has_changed (Load op rd base offset) =
+      loaded_has op rd (plus (reg m base) offset) _ _ (at_base m base offset (load_width op))
+  has_changed (Store w source base offset) =
+      stored_has w (plus (reg m base) offset) (reg m source) _ _ (at_base m base offset w)
+  has_changed k = leaves k (effect k m) refl (reaches m k)
+
+-- ---- a step
+
+abbrev attempt_by : OfLists → Machine → Result Kind Trap → Machine × Outcome
+attempt_by p m (Ok k) = finished m (csr_written k) (effect_by p k m)
+attempt_by p m (Err t) = finished m None (Err t)
+
+-- the lists after it
+abbrev after_effect : OfLists → OfLists → Result Machine Trap → OfLists
+after_effect p q (Ok new) = q
+after_effect p q (Err t) = p
+
+abbrev lists_after : OfLists → Machine → Result Kind Trap → OfLists
+lists_after p m (Ok k) = after_effect p (changed p m k) (effect_by p k m)
+lists_after p m (Err t) = p
+
+abbrev tries_whole : Machine → Result Kind Trap → Bool
+tries_whole m (Ok k) = accesses_whole m k
+tries_whole m (Err t) = true
+
+module _ (p : OfLists) (m : Machine) (is : m.bus.plic ≡ of p) where
+  attempt_is : (f : Result Kind Trap) → tries_whole m f ≡ true → attempt m f ≡ attempt_by p m f
+  attempt_is (Ok k) whole = ap (finished m (csr_written k)) (effect_is p m is k whole)
+  attempt_is (Err t) whole = refl
+
+  finished_has : (wrote : Option ℕ) (q : OfLists) (e : Result Machine Trap) → IfRetired (λ new. new.bus.plic ≡ of q) e
+      → (finished m wrote e).0.bus.plic ≡ of (after_effect p q e)
+  unfolding counts enter
+  finished_has wrote q (Ok new) has = has
+  finished_has wrote q (Err t) has = is
+
+  attempt_has : (f : Result Kind Trap) → (attempt_by p m f).0.bus.plic ≡ of (lists_after p m f)
+  attempt_has (Ok k) = finished_has (csr_written k) (changed p m k) (effect_by p k m) (has_changed p m is k)
+  attempt_has (Err t) = finished_has None p (Err t) tt
+
+-- the lists after a tick: as they are where no gateway has a request, so that they stay short
+abbrev forwarded_if : OfLists → List ℕ → OfLists
+forwarded_if p [] = p
+forwarded_if p (s ∷ ss) = forwarded_by p
+
+abbrev tick_by : OfLists → OfLists
+tick_by p = forwarded_if p (requests_by p)
+
+tick_is : (p : OfLists) → forwarded (of p) ≡ of (tick_by p)
+tick_is p = by (requests_by p) refl where
+  by : (new : List ℕ) → requests_by p ≡ new → forwarded (of p) ≡ of (forwarded_if p new)
+  by [] none = none_forwarded (of p) (requests_are p ∙ ap (λ xs. set_of xs) none)
+  by (s ∷ ss) some = forwarded_is p
 
 -- the machine after a tick
-abbrev quiet : Machine → Machine
-quiet m = record m { bus = record m.bus { timer = timer.ticked m.bus.timer } }
+abbrev ticked_by : OfLists → Machine → Machine
+ticked_by p m =
+    record m { bus = record m.bus { timer = timer_ticked m.bus.timer; plic = of (tick_by p) } }
 
-quiet_tick : (m : Machine) → m.bus.plic ≡ plic.reset → ticked m ≡ quiet m
-quiet_tick m is i =
-    record m { bus = record m.bus { timer = timer.ticked m.bus.timer; plic = (ap plic.forwarded is ∙ stays ∙ sym is) i } }
+ticked_is : (p : OfLists) (m : Machine) → m.bus.plic ≡ of p → ticked m ≡ ticked_by p m
+ticked_is p m is i =
+    record m {
+      bus = record m.bus { timer = timer_ticked m.bus.timer; plic = (ap forwarded is ∙ tick_is p) i };
+    }
 
 -- the levels of the interrupt lines
-abbrev quiet_lines : Machine → Lines
-quiet_lines m = record { software = m.bus.timer.software; timer = is_due m.bus.timer; external = false }
+abbrev lines_by : OfLists → Machine → Lines
+lines_by p m =
+    record { software = m.bus.timer.software; timer = is_due m.bus.timer; external = notified_by p }
 
-no_external : (m : Machine) → m.bus.plic ≡ plic.reset → lines_of m.bus ≡ quiet_lines m
-no_external m is i =
-    record { software = m.bus.timer.software; timer = is_due m.bus.timer; external = (ap is_notified is ∙ low) i }
+lines_are : (p : OfLists) (m : Machine) → m.bus.plic ≡ of p → lines_of m.bus ≡ lines_by p m
+lines_are p m is i =
+    record {
+      software = m.bus.timer.software;
+      timer = is_due m.bus.timer;
+      external = (ap is_notified is ∙ notified_is p) i;
+    }
 
-abbrev fetched_by : List Row → Machine → Result Kind Trap
-fetched_by rows m =
-    option_map_or (λ cause. trap cause 0) (pending m.csrs m.mode (quiet_lines m))
+abbrev fetched_by : List Row → OfLists → Machine → Result Kind Trap
+fetched_by rows p m =
+    option_map_or (λ cause. trap cause 0) (pending m.csrs m.mode (lines_by p m))
     (require 1 m.pc (grants m.csrs.pmp m.mode Execute m.pc 4)
     (given 1 m.pc (λ w. given 2 w Ok (decoded rows w)) (fetch m.bus.ram m.pc)))
 
-abbrev stepped_by : List Row → Machine → Machine × Outcome
-stepped_by rows m = attempt (quiet m) (fetched_by rows (quiet m))
+abbrev stepped_by : List Row → OfLists → Machine → Machine × Outcome
+stepped_by rows p m =
+    let q = tick_by p in let n = ticked_by p m in attempt_by q n (fetched_by rows q n)
 
-known_fetch : (rows : List Row) (m : Machine) → OneMeaning → is_known rows (fetch m.bus.ram m.pc) ≡ true
-    → m.bus.plic ≡ plic.reset
-    → option_map_or (λ cause. trap cause 0) (pending m.csrs m.mode (lines_of m.bus)) (fetch_result m)
-    ≡ fetched_by rows m
+known_fetch : (rows : List Row) (p : OfLists) (m : Machine) → OneMeaning
+    → is_known rows (fetch m.bus.ram m.pc) ≡ true → m.bus.plic ≡ of p
+    → fetched m ≡ fetched_by rows p m
 unfolding fetch_result
-known_fetch rows m one known is i =
-    option_map_or (λ cause. trap cause 0) (pending m.csrs m.mode (no_external m is i))
+known_fetch rows p m one known is i =
+    option_map_or (λ cause. trap cause 0) (pending m.csrs m.mode (lines_are p m is i))
     (require 1 m.pc (grants m.csrs.pmp m.mode Execute m.pc 4)
     (known_word rows m.pc (fetch m.bus.ram m.pc) one known i))
 
-known_step : (rows : List Row) (m : Machine) → OneMeaning → is_known rows (fetch m.bus.ram m.pc) ≡ true
-    → m.bus.plic ≡ plic.reset → step m ≡ stepped_by rows m
+-- whether a step can be computed: its word stands in the rows, and it accesses whole registers
+abbrev is_computed : List Row → OfLists → Machine → Bool
+is_computed rows p m =
+    is_known rows (fetch m.bus.ram m.pc) && tries_whole (ticked_by p m) (fetched_by rows (tick_by p) (ticked_by p m))
+
+known_step : (rows : List Row) (p : OfLists) (m : Machine) → OneMeaning → is_computed rows p m ≡ true
+    → m.bus.plic ≡ of p → step m ≡ stepped_by rows p m
 unfolding step
-known_step rows m one known is =
-    ap (λ (n : Machine). attempt n (fetched n)) (quiet_tick m is)
-    ∙ ap (attempt (quiet m)) (known_fetch rows (quiet m) one known is)
+known_step rows p m one known is =
+    let q = tick_by p in
+    let n = ticked_by p m in
+    let parts = and_parts _ _ known in
+    ap (λ (n : Machine). attempt n (fetched n)) (ticked_is p m is)
+    ∙ (ap (attempt n) (known_fetch rows q n one parts.0 refl) ∙ attempt_is q n refl (fetched_by rows q n) parts.1)
 
 -- ---- a run
 
-abbrev event_by : List Row → BoardState → Event → BoardState
-event_by rows b Step = after_step b (stepped_by rows b.machine)
-event_by rows b e = with_event b e
+abbrev event_by : List Row → OfLists → BoardState → Event → BoardState
+event_by rows p b Step = after_step b (stepped_by rows p b.machine)
+event_by rows p b (Line source high) = on_bus b (λ bus. record bus { plic = of (line_by p source high) })
+event_by rows p b e = with_event b e
 
-abbrev moved_by : List Row → BoardState → Event → BoardState
-moved_by rows b e = if is_some b.machine.bus.halt then b else event_by rows b e
+-- the lists after an event
+abbrev lists_by : List Row → OfLists → BoardState → Event → OfLists
+lists_by rows p b Step =
+    let q = tick_by p in
+    let n = ticked_by p b.machine in lists_after q n (fetched_by rows q n)
+lists_by rows p b (Line source high) = line_by p source high
+lists_by rows p b e = p
 
-abbrev ran : List Row → List Event → BoardState → Option BoardState
-ran rows [] b = Some b
-ran rows (e ∷ es) b =
-    if is_known rows (fetch b.machine.bus.ram b.machine.pc) then ran rows es (moved_by rows b e) else None
+abbrev moved_by : List Row → OfLists → BoardState → Event → BoardState
+moved_by rows p b e = if is_some b.machine.bus.halt then b else event_by rows p b e
 
--- the interrupt controllers before each event
-abbrev controllers : List Row → List Event → BoardState → List PlicState
-controllers rows [] b = []
-controllers rows (e ∷ es) b = b.machine.bus.plic ∷ controllers rows es (moved_by rows b e)
+abbrev lists_on : List Row → OfLists → BoardState → Event → OfLists
+lists_on rows p b e = if is_some b.machine.bus.halt then p else lists_by rows p b e
 
--- they are as at reset
-abbrev pub AreQuiet : List Row → List Event → BoardState → Type 0
-AreQuiet rows es b = controllers rows es b ≡ replicate (length es) plic.reset
+abbrev ran : List Row → OfLists → List Event → BoardState → Option BoardState
+ran rows p [] b = Some b
+ran rows p (e ∷ es) b =
+    if is_computed rows p b.machine then ran rows (lists_on rows p b e) es (moved_by rows p b e) else None
 
-known_event : (rows : List Row) (b : BoardState) (e : Event) → OneMeaning
-    → is_known rows (fetch b.machine.bus.ram b.machine.pc) ≡ true → b.machine.bus.plic ≡ plic.reset
-    → with_event b e ≡ event_by rows b e
-known_event rows b Step one known is = ap (after_step b) (known_step rows b.machine one known is)
-known_event rows b (Line source high) one known is = refl
-known_event rows b (Rx byte) one known is = refl
+module _ (rows : List Row) (p : OfLists) (b : BoardState) (one : OneMeaning)
+    (known : is_computed rows p b.machine ≡ true) (is : b.machine.bus.plic ≡ of p) where
+  known_event : (e : Event) → with_event b e ≡ event_by rows p b e
+  known_event Step = ap (after_step b) (known_step rows p b.machine one known is)
+  known_event (Line source high) =
+      ap (λ (q : PlicState). on_bus b (λ bus. record bus { plic = with_line q source high })) is
+      ∙ ap (λ (q : PlicState). on_bus b (λ bus. record bus { plic = q })) (line_is p source high)
+  known_event (Rx byte) = refl
 
-known_move : (rows : List Row) (b : BoardState) (e : Event) → OneMeaning
-    → is_known rows (fetch b.machine.bus.ram b.machine.pc) ≡ true → b.machine.bus.plic ≡ plic.reset
-    → moved b e ≡ moved_by rows b e
-unfolding moved
-known_move rows b e one known is =
-    ap (λ new. if is_some b.machine.bus.halt then b else new) (known_event rows b e one known is)
+  known_move : (e : Event) → moved b e ≡ moved_by rows p b e
+  unfolding moved
+  known_move e = ap (λ new. if is_some b.machine.bus.halt then b else new) (known_event e)
 
-goes_on : (rows : List Row) (p : BoardState → Bool) (es : List Event) (b : BoardState) (x : Event) → OneMeaning
-    → b.machine.bus.plic ≡ plic.reset
-    → (option_map_or p (ran rows es (moved_by rows b x)) false ≡ true → p (run (moved_by rows b x) es) ≡ true)
-    → (known : Bool) → is_known rows (fetch b.machine.bus.ram b.machine.pc) ≡ known
-    → option_map_or p (if known then ran rows es (moved_by rows b x) else None) false ≡ true
-    → p (run b (x ∷ es)) ≡ true
-goes_on rows p es b x one is others true known e =
-    ap (λ (new : BoardState). p (run new es)) (known_move rows b x one known is) ∙ others e
-goes_on rows p es b x one is others false known e = absurd (true≢false (sym e))
+  event_has : (e : Event) → (event_by rows p b e).machine.bus.plic ≡ of (lists_by rows p b e)
+  event_has Step =
+      attempt_has (tick_by p) (ticked_by p b.machine) refl (fetched_by rows (tick_by p) (ticked_by p b.machine))
+  event_has (Line source high) = refl
+  event_has (Rx byte) = is
+
+  moved_has : (e : Event) → (moved_by rows p b e).machine.bus.plic ≡ of (lists_on rows p b e)
+  moved_has e = by (is_some b.machine.bus.halt) where
+    by : (halted : Bool)
+        → (if halted then b else event_by rows p b e).machine.bus.plic ≡ of (if halted then p else lists_by rows p b e)
+    by true = is
+    by false = event_has e
+
+module _ (rows : List Row) (p : OfLists) (test : BoardState → Bool) (es : List Event) (b : BoardState) (x : Event)
+    (one : OneMeaning) (is : b.machine.bus.plic ≡ of p) where
+  goes_on : ((moved_by rows p b x).machine.bus.plic ≡ of (lists_on rows p b x)
+      → option_map_or test (ran rows (lists_on rows p b x) es (moved_by rows p b x)) false ≡ true
+      → test (run (moved_by rows p b x) es) ≡ true)
+      → (known : Bool) → is_computed rows p b.machine ≡ known
+      → option_map_or test (if known then ran rows (lists_on rows p b x) es (moved_by rows p b x) else None) false
+      ≡ true
+      → test (run b (x ∷ es)) ≡ true
+  goes_on others true known e =
+      ap (λ (new : BoardState). test (run new es)) (known_move rows p b one known is x)
+      ∙ others (moved_has rows p b one known is x) e
+  goes_on others false known e = absurd (true≢false (sym e))
 
 -- what a computed run says of its end holds of the run
-pub run_is : (rows : List Row) (p : BoardState → Bool) (es : List Event) (b : BoardState) → OneMeaning
-    → AreQuiet rows es b → option_map_or p (ran rows es b) false ≡ true → p (run b es) ≡ true
-run_is rows p [] b one are e = e
-run_is rows p (x ∷ es) b one are e =
-    goes_on rows p es b x one (ap (λ (all : List PlicState). slice_index_or all 0 plic.reset) are)
-    (run_is rows p es (moved_by rows b x) one (ap (λ (all : List PlicState). drop 1 all) are))
-    (is_known rows (fetch b.machine.bus.ram b.machine.pc)) refl e
+pub run_is : (rows : List Row) (p : OfLists) (test : BoardState → Bool) (es : List Event) (b : BoardState)
+    → OneMeaning → b.machine.bus.plic ≡ of p → option_map_or test (ran rows p es b) false ≡ true
+    → test (run b es) ≡ true
+run_is rows p test [] b one is e = e
+run_is rows p test (x ∷ es) b one is e =
+    goes_on rows p test es b x one is
+    (run_is rows (lists_on rows p b x) test es (moved_by rows p b x) one)
+    (is_computed rows p b.machine) refl e

@@ -1,6 +1,6 @@
 //! The interrupt controller: what its registers and its line show after lines, ticks, stores and loads.
 ghost use Rattle.std.specs.Prelude.{◌≡◌, true};
-ghost use Rattle.rv_plic.specs.Gateways.{reset};
+ghost use Rattle.rv_plic.specs.Gateways.{plic_at_reset};
 ghost use Rattle.test_definitions.specs.Support.Controller.{shows_all};
 
 /// What is done to the controller, or asked of it.
@@ -114,10 +114,10 @@ pub const NESTED: [(Act, u32, u32); 20] = [
 /// Law: the definition of the interrupt controller shows what each table says.
 #[tactic(auto, using(crate::proofs::Lists::equal, crate::proofs::Lists::complete, crate::proofs::Lists::edges, crate::proofs::Lists::nested))]
 pub fn controllers_are_defined()
-    ensures equal { shows_all reset EQUAL ≡ true }
-    ensures complete { shows_all reset COMPLETE ≡ true }
-    ensures edges { shows_all reset EDGES ≡ true }
-    ensures nested { shows_all reset NESTED ≡ true }
+    ensures equal { shows_all plic_at_reset EQUAL ≡ true }
+    ensures complete { shows_all plic_at_reset COMPLETE ≡ true }
+    ensures edges { shows_all plic_at_reset EDGES ≡ true }
+    ensures nested { shows_all plic_at_reset NESTED ≡ true }
 {}
 
 #[cfg(test)]

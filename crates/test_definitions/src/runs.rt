@@ -1,7 +1,7 @@
 //! Whole runs: programs by their words, and what they leave.
 ghost use Rattle.std.specs.Prelude.{◌≡◌, true, ◌∷◌, []};
 ghost use Rattle.std.specs.List.{list_all};
-ghost use Rattle.test_definitions.specs.Support.Runs.{ran_for, is_at, has_word};
+ghost use Rattle.test_definitions.specs.Support.Runs.{has_word, leaves, ran_for, ran_with};
 
 use rv_isa::{Operation, one_meaning};
 
@@ -225,16 +225,114 @@ pub const CALL_INSIDE: [(u16, u32); 6] = [
     (0xb02, 10),
 ];
 
-/// Law: on the definition of a run, each program leaves this pc, these registers and this console after so many steps.
-#[tactic(auto, using(crate::proofs::Programs::hello, crate::proofs::Programs::trap, crate::proofs::Programs::user, crate::proofs::Programs::timer, crate::proofs::Programs::changes, crate::proofs::Programs::call, crate::proofs::Programs::call_inside))]
+/// External interrupts, one within the handler of another. Sources 3 and 5 have priorities 2 and 5. The handler of 3
+/// claims it into x10, keeps mepc and mstatus, raises the threshold to 2 and enables interrupts again, so that 5 comes
+/// in before x21 becomes 1. The handler of 5 claims it into x13, reads mepc and mcause, and completes it.
+pub const EXTERNAL: [(Operation, [u8; 3], i32, u32); 37] = [
+    // lui x5,0xc200
+    (Operation::Lui, [5, 0, 0], 49664, 0x0c2002b7),
+    // lui x6,0xc000
+    (Operation::Lui, [6, 0, 0], 49152, 0x0c000337),
+    // addi x7,x0,2
+    (Operation::Addi, [7, 0, 0], 2, 0x00200393),
+    // sw x7,12(x6)
+    (Operation::Sw, [0, 6, 7], 12, 0x00732623),
+    // addi x7,x0,5
+    (Operation::Addi, [7, 0, 0], 5, 0x00500393),
+    // sw x7,20(x6)
+    (Operation::Sw, [0, 6, 7], 20, 0x00732a23),
+    // lui x8,0xc002
+    (Operation::Lui, [8, 0, 0], 49154, 0x0c002437),
+    // addi x7,x0,40
+    (Operation::Addi, [7, 0, 0], 40, 0x02800393),
+    // sw x7,0(x8)
+    (Operation::Sw, [0, 8, 7], 0, 0x00742023),
+    // auipc x9,0x0
+    (Operation::Auipc, [9, 0, 0], 0, 0x00000497),
+    // addi x9,x9,36
+    (Operation::Addi, [9, 9, 0], 36, 0x02448493),
+    // csrrw x0,mtvec,x9
+    (Operation::Csrrw, [0, 9, 0], 773, 0x30549073),
+    // lui x7,0x1
+    (Operation::Lui, [7, 0, 0], 1, 0x000013b7),
+    // addi x7,x7,-2048
+    (Operation::Addi, [7, 7, 0], -2048, 0x80038393),
+    // csrrw x0,mie,x7
+    (Operation::Csrrw, [0, 7, 0], 772, 0x30439073),
+    // csrrsi x0,mstatus,8
+    (Operation::Csrrsi, [0, 8, 0], 768, 0x30046073),
+    // addi x20,x0,1
+    (Operation::Addi, [20, 0, 0], 1, 0x00100a13),
+    // jal x0,.+0
+    (Operation::Jal, [0, 0, 0], 0, 0x0000006f),
+    // lw x10,4(x5)
+    (Operation::Lw, [10, 5, 0], 4, 0x0042a503),
+    // csrrs x11,mepc,x0
+    (Operation::Csrrs, [11, 0, 0], 833, 0x341025f3),
+    // csrrs x16,mstatus,x0
+    (Operation::Csrrs, [16, 0, 0], 768, 0x30002873),
+    // addi x7,x0,2
+    (Operation::Addi, [7, 0, 0], 2, 0x00200393),
+    // sw x7,0(x5)
+    (Operation::Sw, [0, 5, 7], 0, 0x0072a023),
+    // auipc x9,0x0
+    (Operation::Auipc, [9, 0, 0], 0, 0x00000497),
+    // addi x9,x9,36
+    (Operation::Addi, [9, 9, 0], 36, 0x02448493),
+    // csrrw x0,mtvec,x9
+    (Operation::Csrrw, [0, 9, 0], 773, 0x30549073),
+    // csrrsi x0,mstatus,8
+    (Operation::Csrrsi, [0, 8, 0], 768, 0x30046073),
+    // addi x21,x0,1
+    (Operation::Addi, [21, 0, 0], 1, 0x00100a93),
+    // sw x10,4(x5)
+    (Operation::Sw, [0, 5, 10], 4, 0x00a2a223),
+    // csrrw x0,mstatus,x16
+    (Operation::Csrrw, [0, 16, 0], 768, 0x30081073),
+    // csrrw x0,mepc,x11
+    (Operation::Csrrw, [0, 11, 0], 833, 0x34159073),
+    // mret
+    (Operation::Mret, [0, 0, 0], 0, 0x30200073),
+    // lw x13,4(x5)
+    (Operation::Lw, [13, 5, 0], 4, 0x0042a683),
+    // csrrs x14,mepc,x0
+    (Operation::Csrrs, [14, 0, 0], 833, 0x34102773),
+    // csrrs x15,mcause,x0
+    (Operation::Csrrs, [15, 0, 0], 834, 0x342027f3),
+    // sw x13,4(x5)
+    (Operation::Sw, [0, 5, 13], 4, 0x00d2a223),
+    // mret
+    (Operation::Mret, [0, 0, 0], 0, 0x30200073),
+];
+
+/// The levels of its lines, each with the steps before it, the source and the level. A line falls before the
+/// completion, so that its gateway forwards no other request.
+pub const EXTERNAL_LINES: [(u32, u8, u8); 4] = [(17, 3, 1), (10, 5, 1), (4, 5, 0), (2, 3, 0)];
+
+/// Registers after 6 steps more, each with its value: mstatus had MPIE set, and MPP was machine mode.
+pub const EXTERNAL_ENDS: [(u8, u32); 8] = [
+    (10, 3),
+    (11, 0x80000044),
+    (13, 5),
+    (14, 0x8000006c),
+    (15, 0x8000000b),
+    (16, 0x1880),
+    (20, 1),
+    (21, 1),
+];
+
+/// Law: on the definition of a run, each program leaves this pc, these registers and this console after so many steps,
+/// and each of its words is that of its fields.
+#[tactic(auto, using(crate::proofs::Programs::hello, crate::proofs::Programs::trap, crate::proofs::Programs::user, crate::proofs::Programs::timer, crate::proofs::Programs::changes, crate::proofs::Programs::call, crate::proofs::Programs::call_inside, crate::proofs::Programs::external))]
 pub fn runs_are_defined()
-    ensures hello { is_at 0x8000001c HELLO_ENDS (72 ∷ []) (ran_for HELLO 7) ≡ true }
-    ensures trap { is_at 0x80000018 TRAP_ENDS ([]) (ran_for TRAP 16) ≡ true }
-    ensures user { is_at 0x8000003c USER_ENDS ([]) (ran_for USER 16) ≡ true }
-    ensures timer { is_at 0x8000003c TIMER_ENDS ([]) (ran_for TIMER 17) ≡ true }
-    ensures changes { is_at 0x80000014 CHANGES_ENDS ([]) (ran_for CHANGES 5) ≡ true }
-    ensures call { is_at 0x80000044 CALL_ENDS ([]) (ran_for CALL 17) ≡ true }
+    ensures hello { leaves HELLO 0x8000001c HELLO_ENDS (72 ∷ []) (ran_for HELLO 7) ≡ true }
+    ensures trap { leaves TRAP 0x80000018 TRAP_ENDS ([]) (ran_for TRAP 16) ≡ true }
+    ensures user { leaves USER 0x8000003c USER_ENDS ([]) (ran_for USER 16) ≡ true }
+    ensures timer { leaves TIMER 0x8000003c TIMER_ENDS ([]) (ran_for TIMER 17) ≡ true }
+    ensures changes { leaves CHANGES 0x80000014 CHANGES_ENDS ([]) (ran_for CHANGES 5) ≡ true }
+    ensures call { leaves CALL 0x80000044 CALL_ENDS ([]) (ran_for CALL 17) ≡ true }
     ensures inside { list_all (has_word (ran_for CALL 11)) CALL_INSIDE ≡ true }
+    ensures external { leaves EXTERNAL 0x80000044 EXTERNAL_ENDS ([]) (ran_with EXTERNAL EXTERNAL_LINES 6) ≡ true }
 {
     one_meaning();
 }
@@ -244,25 +342,58 @@ mod tests {
     use super::*;
     use rv_board::{BootedBoard, Event};
     use rv_isa::Reg;
+    use rv_plic::Source;
     use std::alloc::Global;
     use std::test::Fail;
 
     type Row = (Operation, [u8; 3], i32, u32);
 
-    /// Boots a board with the words of a program, and takes steps.
-    fn ran_for(alloc: Global, rows: &[Row], steps: u64) -> Result<BootedBoard, &'static str> {
+    /// Boots a board with the words of a program.
+    fn booted(alloc: Global, rows: &[Row]) -> Result<BootedBoard, &'static str> {
         let mut image = Vec::new(alloc);
         for &(_, _, _, word) in rows.iter() {
             for byte in word.to_le_bytes() {
                 image.push(byte).ok().ok_or("no memory")?;
             }
         }
-        let mut board = BootedBoard::boot(alloc, &image, 1, 64)
+        BootedBoard::boot(alloc, &image, 1, 64)
             .ok()
-            .ok_or("no board")?;
+            .ok_or("no board")
+    }
+
+    /// Takes steps.
+    fn run(board: &mut BootedBoard, steps: u32) -> Result<(), &'static str> {
         for _ in 0..steps {
             board.apply(Event::Step).ok().ok_or("no memory")?;
         }
+        Ok(())
+    }
+
+    /// Boots a board with the words of a program, and takes steps.
+    fn ran_for(alloc: Global, rows: &[Row], steps: u32) -> Result<BootedBoard, &'static str> {
+        let mut board = booted(alloc, rows)?;
+        run(&mut board, steps)?;
+        Ok(board)
+    }
+
+    /// Boots a board with the words of a program, sets lines after steps, and takes steps.
+    fn ran_with(
+        alloc: Global,
+        rows: &[Row],
+        lines: &[(u32, u8, u8)],
+        steps: u32,
+    ) -> Result<BootedBoard, &'static str> {
+        let mut board = booted(alloc, rows)?;
+        for &(before, source, level) in lines.iter() {
+            run(&mut board, before)?;
+            let source = Source::new(source).ok_or("no source")?;
+            let high = level == 1;
+            board
+                .apply(Event::Line { source, high })
+                .ok()
+                .ok_or("no memory")?;
+        }
+        run(&mut board, steps)?;
         Ok(board)
     }
 
@@ -300,6 +431,13 @@ mod tests {
         assert!(rt; is_at(&board, 0x80000044, CALL_ENDS.as_slice(), b"".as_slice()));
         let board = ran_for(rt.alloc(), CALL.as_slice(), 11)?;
         assert!(rt; has_words(&board, CALL_INSIDE.as_slice()));
+        let board = ran_with(
+            rt.alloc(),
+            EXTERNAL.as_slice(),
+            EXTERNAL_LINES.as_slice(),
+            6,
+        )?;
+        assert!(rt; is_at(&board, 0x80000044, EXTERNAL_ENDS.as_slice(), b"".as_slice()));
         Ok(())
     }
 }

@@ -3,16 +3,18 @@
 use Rattle.std.specs.Prelude.{◌≡◌, ℕ, Bool, true, false, List, length, Option, Some, None}
 use Rattle.std.specs.Option.{option_map}
 use Rattle.rv_base.specs.Limits.{ram_base}
+use Rattle.rv_base.specs.Registers.{Register}
 use Rattle.rv_isa.specs.declared.op.Width.{Width}
 use Rattle.rv_isa.specs.Width.{bytes_of}
 use Rattle.rv_ram.specs.Bytes.{put, value_at}
-use Rattle.rv_plic.specs.Plic as plic
-use Rattle.rv_mmio.specs.Timer as timer
+use Rattle.rv_plic.specs.Plic.{plic_register}
+use Rattle.rv_mmio.specs.Timer.{timer_register}
 use Rattle.rv_mmio.specs.Halt.{halted_by}
 use Rattle.rv_mmio.specs.declared.serial.SerialReg.TheVariants.{Tx}
 use Rattle.rv_bus.specs.State.{BusState}
+use Rattle.rv_bus.specs.Access.{keeps_stores}
 use Rattle.rv_bus.specs.Access as access
-use Rattle.rv_bus.specs.Table.{reach, serial_at}
+use Rattle.rv_bus.specs.Table.{serial_at}
 use Rattle.rv_bus.specs.Support.Locations.{has, location_of}
 use Rattle.rv_bus.specs.declared.locations.Location.{Location}
 use Rattle.rv_bus.specs.declared.locations.Location.TheVariants.{Ram, Halt, Timer, Plic, Serial, Nowhere}
@@ -25,12 +27,20 @@ in_memory ram a = has ram_base (length ram) a
 abbrev pub location : BusState → ℕ → Width → Location
 location b a w = location_of (length b.ram) a w
 
+-- what an access reaches: the value that a load returns with the bus after it, and the bus after a store of a value
+abbrev pub Reached : Type 0
+Reached = (ℕ × BusState) × (ℕ → BusState)
+
+-- a register of a device, by that device and the bus with another in its place
+abbrev pub reach : {D : Type 0} → Register D → D → (D → BusState) → Reached
+reach reg d bus_of = ((reg.word d, bus_of (reg.loaded d)), λ v. bus_of (reg.stored d v))
+
 -- what an access of n bytes reaches at a location, as in the address table
-abbrev pub reach_at : BusState → Location → ℕ → Option ((ℕ × BusState) × (ℕ → BusState))
+abbrev pub reach_at : BusState → Location → ℕ → Option Reached
 reach_at b (Ram off) n = Some ((value_at b.ram off n, b), λ v. record b { ram = put b.ram off n v })
 reach_at b Halt n = Some ((0, b), λ v. record b { halt = halted_by b.halt v })
-reach_at b (Timer reg) n = Some (reach (timer.at reg) b.timer (λ t. record b { timer = t }))
-reach_at b (Plic off) n = Some (reach (plic.at off) b.plic (λ p. record b { plic = p }))
+reach_at b (Timer reg) n = Some (reach (timer_register reg) b.timer (λ t. record b { timer = t }))
+reach_at b (Plic off) n = Some (reach (plic_register off) b.plic (λ p. record b { plic = p }))
 reach_at b (Serial reg) n = Some (reach (serial_at n reg) b.serial (λ s. record b { serial = s }))
 reach_at b Nowhere n = None
 
@@ -56,5 +66,5 @@ fetch_at ram p = None
 pub record IsFor (b : BusState) (a : ℕ) (w : Width) (p : Location) : Type 0 where
   pub load : access.load b a w ≡ load_at b p w
   pub store : (v : ℕ) → access.store b a w v ≡ store_at b p w v
-  pub writes : access.writes b a ≡ is_written p
+  pub writes : keeps_stores b a ≡ is_written p
   pub fetch : access.fetch b.ram a ≡ fetch_at b.ram p

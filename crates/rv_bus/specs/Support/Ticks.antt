@@ -6,8 +6,7 @@ use Rattle.rv_plic.specs.Plic.{PlicState}
 use Rattle.rv_plic.specs.Plic as plic
 use Rattle.rv_plic.specs.Sources.{Sources}
 use Rattle.rv_plic.specs.Support.Withdrawn.{withdrawn}
-use Rattle.rv_mmio.specs.Timer.{TimerState}
-use Rattle.rv_mmio.specs.Timer as timer
+use Rattle.rv_mmio.specs.Timer.{TimerState, timer_ticked}
 use Rattle.rv_bus.specs.State.{BusState}
 
 -- the timer and the interrupt controller, which a tick changes
@@ -31,4 +30,4 @@ mark_before b tick =
 
 -- the bus after a tick
 abbrev pub ticked : BusState → BusState
-ticked b = record b { timer = timer.ticked b.timer; plic = plic.forwarded b.plic }
+ticked b = record b { timer = timer_ticked b.timer; plic = plic.forwarded b.plic }

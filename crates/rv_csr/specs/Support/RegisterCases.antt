@@ -1,14 +1,13 @@
 -- The control registers by cases: the register at an address, its value, and the state after a write to it.
 -- Not to audit: private contracts alone cite this. proofs/ proves that it is what the table says.
-use Rattle.std.specs.Prelude.{ℕ, ◌+◌, ◌%◌, ◌/◌, ◌^◌, Bool, ◌==◌, ◌&&◌, ◌||◌, nat_le, false, if◌then◌else◌, List, [], ◌∷◌, find, unwrap_or, Option, Some, None}
+use Rattle.std.specs.Prelude.{ℕ, ◌+◌, ◌%◌, ◌/◌, ◌^◌, Bool, ◌==◌, ◌&&◌, ◌||◌, nat_le, false, if◌then◌else◌, unwrap_or, Option, Some, None}
 use Rattle.std.specs.Option.{option_map, option_map_or}
 use Rattle.rv_base.specs.Halves.{with_low, with_high}
 use Rattle.rv_isa.specs.declared.Lines.{Lines}
 use Rattle.rv_pmp.specs.Pmp as protection
 use Rattle.rv_pmp.specs.declared.mode.Mode.{Mode}
-use Rattle.rv_pmp.specs.declared.mode.Mode.TheVariants.{User, Machine}
 use Rattle.rv_csr.specs.State.{CsrState}
-use Rattle.rv_csr.specs.Registers.{level, status_word, with_status, lines_word, word_lines, aligned}
+use Rattle.rv_csr.specs.Registers.{mode_of, status_word, with_status, lines_word, word_lines, aligned}
 use Rattle.rv_csr.specs.declared.register.Register.{Register}
 use Rattle.rv_csr.specs.declared.register.Register.TheVariants.{Mstatus, Misa, Mie, Mtvec, Mscratch, Mepc, Mcause, Mtval, Mip, Mcycle, Mcycleh, Minstret, Minstreth, Zero}
 
@@ -27,7 +26,7 @@ is_zero addr =
 
 -- the mode of a field of MPP, which keeps the old mode if the field is no mode
 unfoldable pub mode_kept : Mode → ℕ → Mode
-mode_kept old field = unwrap_or (find (λ mode. field == level mode) (User ∷ Machine ∷ [])) old
+mode_kept old field = unwrap_or (mode_of field) old
 
 -- the register at an address, if there is one that isn't of physical memory protection
 unfoldable pub register_at : ℕ → Option Register
@@ -91,12 +90,6 @@ abbrev pub with_value_at : CsrState → ℕ → ℕ → Option Register → Opti
 with_value_at state addr word (Some register) = Some (with_value state register word)
 with_value_at state addr word None =
     option_map (λ pmp. record state { pmp = pmp }) (protection.write_register state.pmp addr word)
-
--- ---- the parts of the table and of its accesses
-
--- a row of the table
-abbrev pub Row : Type 0
-Row = List ℕ × (CsrState → Lines → ℕ) × (CsrState → ℕ → CsrState)
 
 -- whether an instruction that wrote the register at an address, if any, wrote a half of a counter, whose low
 -- half is at another

@@ -3,7 +3,7 @@
 use Rattle.std.specs.Prelude.{◌≡◌, ℕ, Bool, true, false, ◌<◌, ◌≤◌, Option, Some, None, ◌&&◌}
 use Rattle.std.specs.FinSet.{contains}
 use Rattle.rv_plic.specs.Gateways.{PlicState}
-use Rattle.rv_plic.specs.Plic.{outranks, priority_of}
+use Rattle.rv_plic.specs.Plic.{asks_above, priority_of}
 
 -- `source` is `other`, or goes before it: its priority is higher, or the same with a lower number
 pub record IsFirst (priority : ℕ → ℕ) (source other : ℕ) : Type 0 where
@@ -23,4 +23,4 @@ is_waiting plic source = contains plic.pending source && contains plic.enabled s
 
 -- the best of the candidates, or none where there is no candidate
 abbrev pub IsBest : PlicState → Option ℕ → Type 0
-IsBest plic found = IsBestBelow 32 (outranks plic 0) (priority_of plic) found
+IsBest plic found = IsBestBelow 32 (asks_above plic 0) (priority_of plic) found

@@ -10,7 +10,7 @@ use Rattle.rv_pmp.specs.declared.active_entries.ActiveEntry.{ActiveEntry}
 use Rattle.rv_pmp.specs.declared.permission_cache.PermissionCache.{PermissionCache}
 use Rattle.rv_pmp.specs.declared.access.Access.{Access}
 use Rattle.rv_pmp.specs.declared.mode.Mode.{Mode}
-use Rattle.rv_pmp.specs.Entry.{entry_grants}
+use Rattle.rv_pmp.specs.Entry.{permits}
 use Rattle.rv_pmp.specs.Support.Span.{holds, meets, span_of}
 use Rattle.rv_pmp.specs.Support.PermissionCache.{AreKept}
 
@@ -58,7 +58,7 @@ pub record IsConsistent (entries : List Entry) (actives : List ActiveEntry) (any
 abbrev pub entry_answer : Mode → Access → ℕ → ℕ → ActiveEntry → Option Bool
 entry_answer mode access first end active =
     if meets active.span first end
-    then Some (holds active.span first end && entry_grants active.entry mode access)
+    then Some (holds active.span first end && permits active.entry mode access)
     else None
 
 -- the answer of the first entry that has one
@@ -66,5 +66,5 @@ unfoldable pub decision : Mode → Access → ℕ → ℕ → List ActiveEntry �
 decision mode access first end [] = None
 decision mode access first end (active ∷ actives) =
     if meets active.span first end
-    then Some (holds active.span first end && entry_grants active.entry mode access)
+    then Some (holds active.span first end && permits active.entry mode access)
     else decision mode access first end actives

@@ -6,7 +6,7 @@ use Rattle.std.specs.List.{list_any, list_all, range_with_len}
 use Rattle.rv_pmp.specs.declared.access.Access.{Access}
 use Rattle.rv_pmp.specs.declared.entry.Entry.{Entry}
 use Rattle.rv_pmp.specs.declared.mode.Mode.{Mode}
-use Rattle.rv_pmp.specs.Entry.{entry_grants, matched}
+use Rattle.rv_pmp.specs.Entry.{matched, permits}
 use Rattle.rv_pmp.specs.Mode.{is_machine}
 
 -- the region of an entry, where `lower` is the address register of the entry before
@@ -28,7 +28,7 @@ guards_from lower (entry ∷ entries) =
 abbrev pub answer : Mode → Access → List ℕ → Option Guard → Bool
 answer mode access bytes None = is_machine mode
 answer mode access bytes (Some guard) =
-    list_all guard.region bytes && entry_grants guard.entry mode access
+    list_all guard.region bytes && permits guard.entry mode access
 
 -- the answer of the first of the entries that has any of the bytes
 abbrev pub answer_of : Mode → Access → ℕ → ℕ → ℕ → List Entry → Bool

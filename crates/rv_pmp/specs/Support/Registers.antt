@@ -1,22 +1,13 @@
 -- The registers as the code reads and writes them: one entry after another. proofs/ proves that these are the
 -- entries by number.
 -- Not to audit: private contracts alone cite this.
-use Rattle.std.specs.Prelude.{◌≡◌, ℕ, ◌+◌, ◌-◌, ◌*◌, ◌/◌, ◌%◌, ◌^◌, Bool, false, ◌==◌, ◌&&◌, nat_le, if◌then◌else◌, List, [], ◌∷◌, slice_index_or, slice_get, slice_set, Option, Some, None, MatchOption}
+use Rattle.std.specs.Prelude.{◌≡◌, ℕ, ◌+◌, ◌-◌, ◌*◌, ◌/◌, ◌%◌, ◌^◌, Bool, false, ◌==◌, ◌&&◌, if◌then◌else◌, List, slice_get, slice_set, Option, Some, None, MatchOption}
 use Rattle.std.specs.Option.{option_map_or}
 use Rattle.rv_pmp.specs.declared.entry.Entry.{Entry}
-use Rattle.rv_pmp.specs.declared.entry.Matching.{Matching}
-use Rattle.rv_pmp.specs.declared.entry.Matching.TheVariants.{Off, Tor, Na4, Napot}
 use Rattle.rv_pmp.specs.declared.register.PmpRegister.{PmpRegister}
 use Rattle.rv_pmp.specs.declared.register.PmpRegister.TheVariants.{Config, Address}
 use Rattle.rv_pmp.specs.Entry.{matching_code, config_byte, configured, addressed}
-use Rattle.rv_pmp.specs.Pmp.{PmpState}
-
--- whether a configuration register is at an address, and whether an address register is
-abbrev pub is_config : ℕ → Bool
-is_config addr = nat_le 0x3A0 addr && nat_le addr 0x3A3
-
-abbrev pub is_address : ℕ → Bool
-is_address addr = nat_le 0x3B0 addr && nat_le addr 0x3BF
+use Rattle.rv_pmp.specs.Pmp.{PmpState, is_address, is_config}
 
 -- the register at an address of the control registers, if there is one
 unfoldable pub register_at : ℕ → Option PmpRegister
@@ -30,10 +21,6 @@ config_at pmp place = option_map_or config_byte (slice_get pmp.entries place) 0
 
 abbrev pub address_at : PmpState → ℕ → ℕ
 address_at pmp place = option_map_or (λ entry. entry.address) (slice_get pmp.entries place) 0
-
--- the way to match that a value of the field A stands for
-unfoldable pub matching_of : ℕ → Matching
-matching_of code = slice_index_or (Off ∷ Tor ∷ Na4 ∷ Napot ∷ []) code Napot
 
 -- the value of a register
 abbrev pub word_of : PmpState → PmpRegister → ℕ

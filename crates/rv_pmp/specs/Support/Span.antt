@@ -5,12 +5,7 @@ use Rattle.rv_pmp.specs.declared.entry.Entry.{Entry}
 use Rattle.rv_pmp.specs.declared.entry.Matching.{Matching}
 use Rattle.rv_pmp.specs.declared.entry.Matching.TheVariants.{Off, Tor, Na4, Napot}
 use Rattle.rv_pmp.specs.declared.span.Span.{Span}
-use Rattle.std.specs.List.{prefix_len, range_with_len}
-use Rattle.rv_isa.specs.Number.{flag}
-
--- the number of trailing ones of an address register, of 32 bits
-abbrev pub trailing_ones : ℕ → ℕ
-trailing_ones address = prefix_len (λ i. flag address i) (range_with_len 0 32)
+use Rattle.rv_pmp.specs.Entry.{trailing_ones}
 
 -- whether a byte is one of those from `first` up to but not including `end`
 abbrev pub is_between : ℕ → ℕ → ℕ → Bool

@@ -3,7 +3,7 @@
 use Rattle.std.specs.Prelude.{ℕ, Bool, true, ◌==◌, ◌&&◌, List, [], ◌∷◌}
 use Rattle.std.specs.Bool.{beq}
 use Rattle.rv_plic.specs.Gateways.{PlicState, forwarded, with_line}
-use Rattle.rv_plic.specs.Plic.{at, is_notified}
+use Rattle.rv_plic.specs.Plic.{plic_register, is_notified}
 use Rattle.test_definitions.specs.declared.controller.Act.{Act}
 use Rattle.test_definitions.specs.declared.controller.Act.TheVariants.{Line, Tick, Store, Load, External}
 
@@ -11,13 +11,13 @@ use Rattle.test_definitions.specs.declared.controller.Act.TheVariants.{Line, Tic
 abbrev pub after : PlicState → Act → ℕ → ℕ → PlicState
 after p Line source level = with_line p source (level == 1)
 after p Tick _ _ = forwarded p
-after p Store off word = (at off).stored p word
-after p Load off word = (at off).loaded p
+after p Store off word = (plic_register off).stored p word
+after p Load off word = (plic_register off).loaded p
 after p External _ _ = p
 
 -- whether it shows what is asked of it
 abbrev pub shows : PlicState → Act → ℕ → ℕ → Bool
-shows p Load off word = (at off).word p == word
+shows p Load off word = (plic_register off).word p == word
 shows p External _ level = beq (is_notified p) (level == 1)
 shows p act _ _ = true
 

@@ -1,17 +1,19 @@
 -- Not to audit: rows of tests alone cite this.
 -- What the rows of src/runs.rt say of the definition of a run.
-use Rattle.std.specs.Prelude.{ℕ, ℤ, Bool, false, ◌==◌, ◌&&◌, List, flat_map, replicate, slice_index}
+use Rattle.std.specs.Prelude.{ℕ, ℤ, Bool, false, ◌==◌, ◌&&◌, List, [], ◌∷◌, ◌++◌, flat_map, replicate, slice_index}
 use Rattle.std.specs.Int.{to_le_bytes, w32}
 use Rattle.std.specs.List.{list_all}
 use Rattle.std.specs.Str.{bytes_eq}
 use Rattle.rv_isa.specs.declared.op.Operation.{Operation}
 use Rattle.rv_isa.specs.declared.fields.Fields.{Fields}
+use Rattle.rv_isa.specs.Encoded.{encoded}
 use Rattle.rv_isa.specs.Fields.{with_fields}
 use Rattle.std.specs.Option.{option_map_or}
 use Rattle.rv_board.specs.BoardState.{BoardState, csr_of}
-use Rattle.rv_board.specs.Boot.{reset}
+use Rattle.rv_board.specs.Boot.{board_at_reset}
 use Rattle.rv_board.specs.Move.{run}
-use Rattle.rv_board.specs.declared.event.Event.TheVariants.{Step}
+use Rattle.rv_board.specs.declared.event.Event.{Event}
+use Rattle.rv_board.specs.declared.event.Event.TheVariants.{Line, Step}
 
 -- a row of a program: an operation; rd, rs1 and rs2; the immediate; and the word
 abbrev pub Row : Type 0
@@ -26,7 +28,19 @@ image rows = flat_map (λ row. to_le_bytes w32 row.3) rows
 
 -- a board with a page of memory, after it ran a program for a number of steps from its reset on
 abbrev pub ran_for : List Row → ℕ → BoardState
-ran_for rows steps = run (reset (image rows) 4096) (replicate steps Step)
+ran_for rows steps = run (board_at_reset (image rows) 4096) (replicate steps Step)
+
+-- the events of rows, each of which has a number of steps, and then a source whose line gets a level
+abbrev pub events_of : List (ℕ × ℕ × ℕ) → List Event
+events_of rows = flat_map (λ row. replicate row.0 Step ++ Line row.1 (row.2 == 1) ∷ []) rows
+
+-- a board after the events of rows, and a number of steps more
+abbrev pub ran_with : List Row → List (ℕ × ℕ × ℕ) → ℕ → BoardState
+ran_with rows lines steps = run (board_at_reset (image rows) 4096) (events_of lines ++ replicate steps Step)
+
+-- each word of a program is that of its fields
+abbrev pub has_its_words : List Row → Bool
+has_its_words rows = list_all (λ row. encoded (fields row) == row.3) rows
 
 -- a register has a value
 abbrev pub has : BoardState → ℕ × ℕ → Bool
@@ -35,6 +49,10 @@ has b row = slice_index b.machine.registers row.0 == row.1
 -- a board stands at an address, with values in registers, and has sent a text
 abbrev pub is_at : ℕ → List (ℕ × ℕ) → List ℕ → BoardState → Bool
 is_at pc values sent b = (b.machine.pc == pc) && list_all (has b) values && bytes_eq b.machine.bus.serial.sent sent
+
+-- a program has the words of its fields, and what it leaves is this
+abbrev pub leaves : List Row → ℕ → List (ℕ × ℕ) → List ℕ → BoardState → Bool
+leaves rows pc values sent b = has_its_words rows && is_at pc values sent b
 
 -- a control register has a word, as machine mode reads it
 abbrev pub has_word : BoardState → ℕ × ℕ → Bool

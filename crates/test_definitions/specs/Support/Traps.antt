@@ -6,7 +6,7 @@ use Rattle.rv_pmp.specs.declared.mode.Mode.{Mode}
 use Rattle.rv_pmp.specs.declared.mode.Mode.TheVariants.{Machine}
 use Rattle.rv_pmp.specs.Mode.{level}
 use Rattle.rv_csr.specs.Registers.{write, status_word}
-use Rattle.rv_csr.specs.State.{reset, CsrState}
+use Rattle.rv_csr.specs.State.{csrs_at_reset, CsrState}
 use Rattle.rv_csr.specs.Traps.{entered, left, trap_pc, pending}
 
 -- the control registers after machine mode wrote a word to a register that is there
@@ -16,7 +16,7 @@ with_word s addr word = unwrap_or (write s addr Machine word) s
 -- the state inside of the handler of a row
 abbrev pub inside : List ℕ × Mode × ℕ × ℕ × List ℕ × ℕ × Mode → CsrState
 inside row =
-    entered (with_word (with_word reset 0x300 (slice_index row.0 0)) 0x305 (slice_index row.0 1)) row.2 row.3 0 row.1
+    entered (with_word (with_word csrs_at_reset 0x300 (slice_index row.0 0)) 0x305 (slice_index row.0 1)) row.2 row.3 0 row.1
 
 -- a trap sets mstatus, mepc and mcause, goes to its handler, and leads back
 abbrev pub is_trap : List ℕ × Mode × ℕ × ℕ × List ℕ × ℕ × Mode → Bool
@@ -37,5 +37,5 @@ lines_of levels = record {
 -- the cause of the interrupt that is taken, or 0
 abbrev pub is_interrupt : List ℕ × Mode × List Bool × ℕ → Bool
 is_interrupt row =
-    let s = with_word (with_word reset 0x300 (slice_index row.0 0)) 0x304 (slice_index row.0 1) in
+    let s = with_word (with_word csrs_at_reset 0x300 (slice_index row.0 0)) 0x304 (slice_index row.0 1) in
     unwrap_or (pending s row.1 (lines_of row.2)) 0 == row.3

@@ -1,5 +1,5 @@
 use Rattle.std.proofs.Common.{◌*◌, ◌∙◌, ap, length}
-use Rattle.rv_board.specs.Boot.{reset}
+use Rattle.rv_board.specs.Boot.{board_at_reset}
 use Rattle.rv_program.specs.Program.{Assembly}
 use Rattle.rv_recording.specs.Recording.{first_board}
 use Rattle.rv_recording.proofs.Keeping.{has_slots, none_taken}
@@ -8,7 +8,7 @@ use Rattle.rv_recording.proofs.recording.Recording.board_before.Goals as goal
 pub returns-in-Ok-clause-run : goal.returns-in-Ok-clause-run
 returns-in-Ok-clause-run c =
     c.in-Ok.ensures.ok.1
-    ∙ (ap (λ (a : Assembly). reset a.bytes (4096 * c.self.inside.pages)) c.program-program.ensures
+    ∙ (ap (λ (a : Assembly). board_at_reset a.bytes (4096 * c.self.inside.pages)) c.program-program.ensures
     ∙ (ap first_board c.self.view_is ∙ none_taken (first_board c.args.self.now) _))
 
 pub new-requires : goal.new-requires
