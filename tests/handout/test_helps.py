@@ -4,7 +4,7 @@ import unittest
 
 from elf.refusal import Refused
 from handout.completion import zsh
-from handout.contents import with_known_links
+from handout.contents import with_known_links, without_marks
 from handout.helps import (
     Argument,
     Command,
@@ -174,6 +174,12 @@ class Made(unittest.TestCase):
             with_known_links(text, ["docs/A.md"]),
             "[A](A.md#x), B, [C](#c) and [D](https://d.org/)",
         )
+
+    def test_what_is_not_there_is_left_out_of_the_readme(self) -> None:
+        text = "a <!-- page -->b\n<!-- end --><!-- rvgdb -->c <!-- end -->d"
+        self.assertEqual(without_marks(text, {"page"}), "a b\nd")
+        self.assertEqual(without_marks(text, {"rvgdb"}), "a c d")
+        self.assertEqual(without_marks(text, set()), "a d")
 
 
 if __name__ == "__main__":

@@ -17,6 +17,8 @@ from handout.programs import Program, read_program
 
 BEGAN = time.monotonic()
 NAMES = ["rvboard", "rvlab"]
+# Programs that are handed out too where they are there: a script at the top of the repository builds each.
+OTHERS = ["rvas", "rvgdb"]
 OUT = os.path.join(TOP, "out")
 BUILT_PAGE = os.path.join(OUT, "web/index.html")
 PAGE_SOURCES = ["web", ":!web/test*", "docs/ASSEMBLER.md", "examples", "crates/rv_*/src/*"]
@@ -129,13 +131,16 @@ def default_version(commit: tree.Commit, changes: list[str]) -> str:
 
 
 def named(paths: list[str]) -> list[Program]:
-    """The programs that the call names."""
-    return [read_program(name, path) for name, path in zip(NAMES, paths)]
+    """The programs that the call names, and those of the others that stand beside the first."""
+    beside = [os.path.join(os.path.dirname(paths[0]), name) for name in OTHERS]
+    others = [(name, path) for name, path in zip(OTHERS, beside) if os.path.exists(path)]
+    return [read_program(name, path) for name, path in [*zip(NAMES, paths), *others]]
 
 
 def built() -> list[Program]:
     """The programs of out/. Their scripts build them, unless they are built of the present sources already."""
-    for name in NAMES:
+    others = [name for name in OTHERS if os.path.exists(os.path.join(TOP, name))]
+    for name in [*NAMES, *others]:
         script = os.path.join(TOP, name)
         done = subprocess.run(
             [script, "--help"],

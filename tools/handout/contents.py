@@ -15,8 +15,14 @@ from handout.manual import manual
 from handout.programs import Program, Running, kit_of, oldest_glibc
 
 DOCUMENTS = "GUIDE LAB JSON BOARD ASSEMBLER MONITOR C GRADING ISOLATION LIMITS".split()
-# By program the document that has the table of its exit statuses.
-MANUALS = {"rvboard": "docs/BOARD.md", "rvlab": "docs/LAB.md"}
+# By program the document that has the table of its exit statuses. Of those that the archive needn't have it is handed
+# out with the program.
+MANUALS = {
+    "rvboard": "docs/BOARD.md",
+    "rvlab": "docs/LAB.md",
+    "rvas": "docs/GDB.md",
+    "rvgdb": "docs/GDB.md",
+}
 # The tools that work on the repository itself, and so aren't handed out.
 OWN_TOOLS = set("build counts definitions dist handout need".split())
 README = "tools/handout/README.md"
@@ -75,6 +81,7 @@ def file_of_tree(name: str) -> Entry:
 def documents(making: Making) -> dict[str, Entry]:
     """The documents for users, and those that the archive alone has."""
     names = [f"docs/{name}.md" for name in DOCUMENTS]
+    names += sorted({MANUALS[it.name] for it in making.programs} - set(names))
     made = {name: text(with_known_links(read(name), names)) for name in names}
     made["README.md"] = text(readme(making))
     made["PROVED"] = text(proved(making))
@@ -91,11 +98,9 @@ def with_known_links(content: str, names: list[str]) -> str:
 
 
 def readme(making: Making) -> str:
-    """The README of the archive. What stands between the two marks is left out where there is no page."""
-    content = read(README)
-    if making.page is None:
-        content = re.sub(r"<!-- page -->.*?<!-- end -->", "", content, flags=re.DOTALL)
-    content = re.sub(r"<!-- (page|end) -->", "", content)
+    """The README of the archive."""
+    has = {program.name for program in making.programs}
+    content = without_marks(read(README), has | ({"page"} if making.page else set()))
     parts = {
         "VERSION": making.version,
         "GLIBC": oldest_glibc(making.programs),
@@ -104,6 +109,15 @@ def readme(making: Making) -> str:
     for place, part in parts.items():
         content = content.replace(f"@{place}@", part)
     return content
+
+
+def without_marks(content: str, has: set[str]) -> str:
+    """A text without its marks. What stands between two is left out where the archive hasn't what the first names."""
+
+    def kept(part: re.Match[str]) -> str:
+        return part[2] if part[1] in has else ""
+
+    return re.sub(r"<!-- (\w+) -->(.*?)<!-- end -->", kept, content, flags=re.DOTALL)
 
 
 def proved(making: Making) -> str:
@@ -143,7 +157,8 @@ def from_helps(making: Making) -> dict[str, Entry]:
     made = {}
     with tempfile.TemporaryDirectory(prefix="dist") as room:
         running = Running(making.programs, room, os.path.join(TOP, "examples/hello.s"))
-        for name, document in MANUALS.items():
+        for name in (program.name for program in making.programs):
+            document = MANUALS[name]
             words = read_help(name, running.help_of(name))
             commands, note = commands_of(running) if name == "rvlab" else ([], [])
             page = manual_of(making, words, document, commands, note)
