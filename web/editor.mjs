@@ -1,116 +1,107 @@
-// The editor: a text area over its coloured lines, and a gutter with the numbers and the marks of lines. Only
-// the lines in sight are drawn, so a long source costs no more than a short one.
-import { $, targetOf } from "./dom.mjs";
-import { cutAt, lineHtml } from "./drawn.mjs";
-import { sameLines } from "./lines.mjs";
-import { change, state, view } from "./state.mjs";
-
-const BEYOND = 20; // lines that are drawn above and below those in sight
-const TAB = 8;
-const INDENT = " ".repeat(TAB);
+// The editor of the source: CodeMirror, with the language's colours, the marks of lines, and a breakpoint at each line
+// whose number is clicked.
+import CodeMirror from "codemirror/lib/codemirror.js";
+import "codemirror/addon/comment/comment.js";
+import "codemirror/addon/hint/show-hint.js";
+import { $ } from "./dom.mjs";
+import { assembly } from "./language.mjs";
+import { byteOf, cutAt } from "./lines.mjs";
+import { GUTTER, Marks } from "./marks.mjs";
+import { view } from "./state.mjs";
 
 /**
- * Has breakpoints stay at their lines where lines come or go above them; those of lines that went go too.
- * @param {string[]} before
- * @param {string[]} now
+ * @typedef {import("codemirror/lib/codemirror.js").Mode} Mode
+ * @typedef {import("codemirror/lib/codemirror.js").Stream} Stream
  */
-function moveBreakpoints(before, now) {
-    const more = now.length - before.length;
-    if (!more || !state.breakpoints.size) return;
-    const same = sameLines(before, now), [old, cut] = [before[same.first], now[same.first]];
-    const isCut = old && cut && (old.startsWith(cut) || cut.startsWith(old));
-    const last = same.first + (isCut ? 1 : 0); // that stays
-    const stays = [...state.breakpoints].filter((line) => line <= last || line > before.length - same.last);
-    change({ breakpoints: new Set(stays.map((line) => (line <= last ? line : line + more))) });
+
+const INDENT = 8;
+// Characters that nobody sees as they are: controls, blanks of other kinds, what turns the direction of a text, and the
+// stand-ins of bytes.
+const ODD = new RegExp(
+    "[\\0-\\x08\\x0b-\\x1f\\x7f-\\xa0\\xad\\u061c\\u200b-\\u200f\\u2028-\\u202e\\u2066-\\u2069\\ufeff\\ufff9-\\ufffc]"
+        + "|(?<![\\ud800-\\udbff])[\\udc00-\\udfff]",
+);
+
+/**
+ * What is shown of a character that nobody sees as it is: its byte or its number.
+ * @param {string} character
+ */
+function oddHtml(character) {
+    const box = document.createElement("span"), byte = byteOf(character), code = character.charCodeAt(0);
+    box.className = "cm-odd";
+    box.textContent = byte === undefined ? `U+${code.toString(16).padStart(4, "0")}` : `\\x${byte.toString(16)}`;
+    box.title = byte === undefined ? "a character that isn't seen" : "a byte that is no text";
+    return box;
+}
+
+/**
+ * Begins a line with the indentation of the last.
+ * @param {CodeMirror} cm
+ */
+function breakLine(cm) {
+    const { line, ch } = cm.getCursor("from"), [blanks] = cm.getLine(line)?.slice(0, ch).match(/^[ \t]*/) ?? [""];
+    cm.replaceSelection(`\n${blanks}`, "end", "+input");
+    cm.scrollIntoView(null);
 }
 
 class Editor {
-    text = /** @type {HTMLTextAreaElement} */ ($("text"));
-    colours = $("colours");
-    gutter = $("gutter");
-    lines = [""];
-    here = 0; // the line at pc, or 0
-    breakpoints = state.breakpoints;
-    faults = state.faults;
-    found = ""; // the text that is searched
-    isWhole = false; // whether all lines are drawn, for a print
+    cm = CodeMirror($("editor"), {
+        mode: "rvboard",
+        theme: "rvboard",
+        inputStyle: "contenteditable", // a screen reader reads the lines themselves
+        lineNumbers: true,
+        gutters: [GUTTER, "CodeMirror-linenumbers"],
+        tabSize: INDENT,
+        indentUnit: INDENT,
+        lineSeparator: "\n",
+        specialChars: ODD,
+        specialCharPlaceholder: oddHtml,
+        maxHighlightLength: 2000,
+        workTime: 10, // milliseconds: no line's colours depend on those before it
+        // Tab moves the focus on, as everywhere.
+        extraKeys: { Tab: false, "Shift-Tab": false, Enter: breakLine, "Ctrl-/": "toggleComment" },
+    });
+    text = this.cm.getInputField();
+    marks = new Marks(this.cm);
+    /** @type {string | null} */
+    kept = null; // the source, until it changes
+    /** @type {Mode | null} */
+    found = null; // marks a text that is searched
 
     get source() {
-        return this.text.value;
+        return (this.kept ??= this.cm.getValue());
     }
 
+    /** Another source: what was typed before can't be brought back by undoing. */
     set source(source) {
-        this.text.value = source;
-        this.text.scrollTop = 0;
-        this.changed();
-    }
-
-    changed() {
-        const before = this.lines;
-        this.lines = this.text.value.split("\n");
-        moveBreakpoints(before, this.lines);
-        this.draw();
-    }
-
-    /** The blanks at the beginning of the caret's line. */
-    get indentation() {
-        const [blanks] = this.beforeCaret.match(/^[ \t]*/) ?? [""];
-        return blanks;
+        this.marks.forget();
+        this.cm.setValue(source);
+        this.cm.clearHistory();
+        this.cm.scrollTo(0, 0);
     }
 
     /** The caret's line up to the caret. */
     get beforeCaret() {
-        const { value, selectionStart } = this.text;
-        return value.slice(value.lastIndexOf("\n", selectionStart - 1) + 1, selectionStart);
-    }
-
-    /**
-     * Puts a text in the place of what is selected, as if it were typed: so the browser can undo it.
-     * @param {string} text
-     */
-    insert(text) {
-        if (document.execCommand("insertText", false, text)) return;
-        this.text.setRangeText(text, this.text.selectionStart, this.text.selectionEnd, "end");
-        this.text.dispatchEvent(new Event("input"));
+        const { line, ch } = this.cm.getCursor();
+        return this.textOf(line + 1).slice(0, ch);
     }
 
     /** The number of the line with the caret. */
     get line() {
-        return this.text.value.slice(0, this.text.selectionStart).split("\n").length;
+        return this.cm.getCursor().line + 1;
     }
 
-    get lineHeight() {
-        return parseFloat(getComputedStyle(this.text).lineHeight);
-    }
-
-    /** The column of the caret as it is shown, from 0. */
-    get column() {
-        return [...this.beforeCaret].reduce((sum, it) => (it === "\t" ? sum - (sum % TAB) + TAB : sum + 1), 0);
-    }
-
-    get letterWidth() {
-        const context = document.createElement("canvas").getContext("2d");
-        if (!context) return 8;
-        context.font = getComputedStyle(this.text).font;
-        return context.measureText("0").width;
+    /** How many lines there are. */
+    get count() {
+        return this.cm.lastLine() + 1;
     }
 
     /**
-     * Marks a text wherever it is.
-     * @param {string} text
+     * The text of a line.
+     * @param {number} line
      */
-    find(text) {
-        this.found = text;
-        this.draw();
-    }
-
-    /**
-     * Draws all lines, for a print, or those in sight.
-     * @param {boolean} is
-     */
-    drawWhole(is) {
-        this.isWhole = is;
-        this.draw();
+    textOf(line) {
+        return this.cm.getLine(line - 1) ?? "";
     }
 
     /**
@@ -118,102 +109,81 @@ class Editor {
      * @param {number} y
      */
     lineAt(y) {
-        const top = this.text.getBoundingClientRect().top + parseFloat(getComputedStyle(this.text).paddingTop);
-        const line = Math.floor((y - top + this.text.scrollTop) / this.lineHeight) + 1;
-        return line <= this.lines.length ? line : 0;
+        const line = this.cm.lineAtHeight(y, "window"), last = this.cm.heightAtLine(this.cm.lastLine() + 1, "window");
+        return y < last ? line + 1 : 0;
+    }
+
+    /** Where what is selected begins and ends in the source. */
+    get selection() {
+        const [from, to] = ["from", "to"].map((end) => this.cm.indexFromPos(this.cm.getCursor(end)));
+        return { from, to, text: this.cm.getSelection() };
     }
 
     /**
-     * Where a line begins in the source.
-     * @param {number} line
-     */
-    startOf(line) {
-        return this.lines.slice(0, line - 1).reduce((sum, it) => sum + it.length + 1, 0);
-    }
-
-    /**
-     * Selects a part of the source, puts the focus on the text, and scrolls it into sight.
+     * Selects a part of the source, and scrolls it into sight.
      * @param {number} from
-     * @param {number} length
+     * @param {number} to
      */
-    select(from, length) {
-        this.text.focus();
-        this.text.setSelectionRange(from, from + length);
+    select(from, to) {
+        this.cm.setSelection(this.cm.posFromIndex(from), this.cm.posFromIndex(to));
         this.show(this.line);
     }
 
     /**
-     * Selects the place of a line's fault, or the whole line.
+     * Selects the place of a line's fault, or the whole line, and puts the focus on the text.
      * @param {number} line
      */
     goTo(line) {
-        const text = this.lines[line - 1] ?? "", fault = this.faults.find((it) => it.line === line);
-        const [before, place] = fault ? cutAt(text, fault) : ["", text];
-        this.select(this.startOf(line) + before.length, place.length);
+        const text = this.textOf(line), fault = this.marks.faults.find((it) => it.line === line);
+        const [before, place] = fault ? cutAt(text, fault) : ["", text], ch = before.length;
+        this.cm.focus();
+        this.cm.setSelection({ line: line - 1, ch }, { line: line - 1, ch: ch + place.length });
+        this.show(line);
     }
 
     /**
-     * Scrolls a line into sight.
+     * Scrolls a line into sight, if it isn't there.
      * @param {number} line
      */
     show(line) {
-        const top = (line - 1) * this.lineHeight, { scrollTop, clientHeight } = this.text;
-        const isSeen = scrollTop <= top && top <= scrollTop + clientHeight - 2 * this.lineHeight;
-        if (!isSeen) this.text.scrollTop = top - clientHeight / 3;
-        this.draw();
-    }
-
-    /** The first line that is drawn, from 0, and the one after the last. */
-    get range() {
-        if (this.isWhole) return [0, this.lines.length];
-        const { scrollTop, clientHeight } = this.text, height = this.lineHeight;
-        const end = Math.ceil((scrollTop + clientHeight) / height) + BEYOND;
-        return [Math.max(0, Math.floor(scrollTop / height) - BEYOND), Math.min(this.lines.length, end)];
+        const top = this.cm.heightAtLine(line - 1, "local"), { top: from, clientHeight } = this.cm.getScrollInfo();
+        const isSeen = from <= top && top <= from + clientHeight - 2 * this.cm.defaultTextHeight();
+        if (!isSeen) this.cm.scrollTo(null, top - clientHeight / 3);
     }
 
     /**
-     * @param {number} here
-     * @param {Set<number>} breakpoints
-     * @param {Fault[]} faults
+     * Marks a text wherever it is, whatever the case.
+     * @param {string} text
      */
-    mark(here, breakpoints, faults) {
-        Object.assign(this, { here, breakpoints, faults });
-        this.draw();
+    find(text) {
+        const wanted = text.toLowerCase();
+        if (this.found) this.cm.removeOverlay(this.found);
+        this.found = null;
+        if (!wanted) return;
+        this.found = {
+            token(/** @type {Stream} */ stream) {
+                const at = stream.string.toLowerCase().indexOf(wanted, stream.pos), isHere = at === stream.pos;
+                if (at < 0) stream.skipToEnd();
+                else stream.pos = isHere ? at + wanted.length : at;
+                return isHere ? "found" : null;
+            },
+        };
+        this.cm.addOverlay(this.found);
     }
 
-    draw() {
-        const [first, end] = this.range, { here, breakpoints } = this, rows = [], numbers = [];
-        const faults = new Map(this.faults.map((fault) => [fault.line, fault]));
-        for (let line = first + 1; line <= end; line++) {
-            const fault = faults.get(line), isHere = here === line, isSet = breakpoints.has(line);
-            const kind = [isHere && "here", fault && "fault"].filter(Boolean).join(" ");
-            const mark = fault ? "✗" : isHere ? (isSet ? "◉" : "➤") : isSet ? "●" : "";
-            const text = this.lines[line - 1];
-            rows.push(`<div class="${kind}">${lineHtml(text, fault, this.found)}\n</div>`);
-            numbers.push(`<li value="${line}" class="${kind}"><i>${mark}</i>${line}</li>`);
-        }
-        this.colours.innerHTML = rows.join("");
-        this.gutter.innerHTML = numbers.join("");
-        const { scrollTop, scrollLeft } = this.text, top = this.isWhole ? 0 : first * this.lineHeight - scrollTop;
-        this.colours.style.transform = `translate(${-scrollLeft}px, ${top}px)`;
-        this.gutter.style.transform = `translateY(${top}px)`;
+    /**
+     * Draws all lines, for a print, or those in sight.
+     * @param {boolean} isWhole
+     */
+    drawWhole(isWhole) {
+        this.cm.setOption("viewportMargin", isWhole ? Infinity : 10);
+        this.cm.refresh();
     }
 }
+
+CodeMirror.defineMode("rvboard", assembly);
 
 export const editor = new Editor();
-
-/**
- * Tab moves the focus on, as everywhere. Control+] indents, and Enter begins a line with the indentation of the last.
- * @param {KeyboardEvent} event
- */
-function indent(event) {
-    if (event.defaultPrevented || event.isComposing || event.altKey || event.metaKey) return;
-    if (event.getModifierState("AltGraph")) return;
-    const isEnter = event.key === "Enter" && !event.ctrlKey, isIndent = event.key === "]" && event.ctrlKey;
-    if (!isEnter && !isIndent) return;
-    event.preventDefault();
-    editor.insert(isEnter ? `\n${editor.indentation}` : INDENT);
-}
 
 /**
  * Begins the editor: `onChange` is called when the source has changed by hand, and `onBreakpoint` gets the line whose
@@ -221,19 +191,21 @@ function indent(event) {
  * @param {{ onChange: () => void, onBreakpoint: (line: number) => void }} calls
  */
 export function makeEditor({ onChange, onBreakpoint }) {
-    const { text, gutter } = editor;
-    text.addEventListener("input", () => {
-        editor.changed();
-        onChange();
+    const { cm, text } = editor;
+    const words = { id: "text", role: "textbox", "aria-multiline": "true", "aria-label": "Source", "aria-describedby": "faults" };
+    for (const [name, value] of Object.entries(words)) text.setAttribute(name, value);
+    cm.on("beforeChange", (_, { text: lines, update }) => {
+        const isOdd = lines.some((it) => it.includes("\r")); // a text that is pasted, with other line ends
+        if (isOdd) update?.(undefined, undefined, lines.join("\n").replace(/\r\n?/g, "\n").split("\n"));
     });
-    text.addEventListener("scroll", () => editor.draw());
-    text.addEventListener("keydown", indent);
-    gutter.addEventListener("click", (event) => {
-        const line = /** @type {HTMLLIElement | null} */ (targetOf(event, "li"))?.value;
-        if (line) onBreakpoint(line);
+    cm.on("changes", (_, changes) => {
+        editor.kept = null;
+        editor.marks.moved();
+        if (changes.some(({ origin }) => origin !== "setValue")) onChange();
     });
+    cm.on("gutterClick", (_, line) => onBreakpoint(line + 1));
     addEventListener("beforeprint", () => editor.drawWhole(true));
     addEventListener("afterprint", () => editor.drawWhole(false));
-    new ResizeObserver(() => editor.draw()).observe(text);
-    view(({ here, breakpoints, faults }) => [here, breakpoints, faults], (...marks) => editor.mark(...marks));
+    new ResizeObserver(() => cm.refresh()).observe($("editor"));
+    view(({ here, breakpoints, faults }) => [here, breakpoints, faults], (...marks) => editor.marks.show(...marks));
 }

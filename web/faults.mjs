@@ -4,6 +4,7 @@ import { editor } from "./editor.mjs";
 import { escaped } from "./language.mjs";
 import { view } from "./state.mjs";
 
+const LISTED = 100; // the most faults that are listed
 const MARK = '<span aria-hidden="true">✗</span>';
 
 let shown = ""; // the list as HTML
@@ -23,8 +24,9 @@ function faultHtml({ line, sentence, advice }) {
  * @param {Fault[]} faults
  */
 function listFaults(faults) {
-    $("text").setAttribute("aria-invalid", String(faults.length > 0));
-    const html = faults.map(faultHtml).join("");
+    editor.text.setAttribute("aria-invalid", String(faults.length > 0));
+    const left = faults.length - LISTED, more = left > 0 ? `<li>and ${left} lines more</li>` : "";
+    const html = faults.slice(0, LISTED).map(faultHtml).join("") + more;
     if (html === shown) return;
     $("faults").innerHTML = html;
     $("mended").textContent = html ? "" : "The source has no fault any more.";

@@ -29,26 +29,25 @@ function findFrom(from, isBack = false) {
     if (!places.length) return;
     const next = places.findIndex((at) => at >= from), before = (next < 0 ? places.length : next) - 1;
     const index = isBack ? (before + places.length) % places.length : Math.max(0, next);
-    editor.text.setSelectionRange(places[index], places[index] + text.length);
-    editor.show(editor.line);
+    editor.select(places[index], places[index] + text.length);
     $("find-count").textContent = `${index + 1} of ${places.length}`;
 }
 
-const findNext = () => findFrom(editor.text.selectionEnd);
-const findBack = () => findFrom(editor.text.selectionStart, true);
+const findNext = () => findFrom(editor.selection.to);
+const findBack = () => findFrom(editor.selection.from, true);
 
 function openFinder() {
-    const { selectionStart, selectionEnd, value } = editor.text, chosen = value.slice(selectionStart, selectionEnd);
+    const { from, text } = editor.selection;
     $("finder").hidden = false;
-    if (chosen && !chosen.includes("\n")) field("find-text").value = chosen;
+    if (text && !text.includes("\n")) field("find-text").value = text;
     field("find-text").select();
-    findFrom(selectionStart);
+    findFrom(from);
 }
 
 function closeFinder() {
     $("finder").hidden = true;
     editor.find("");
-    editor.text.focus();
+    editor.cm.focus();
 }
 
 export function makeFinder() {
@@ -56,7 +55,7 @@ export function makeFinder() {
     $("find-next").addEventListener("click", findNext);
     $("find-back").addEventListener("click", findBack);
     $("find-close").addEventListener("click", closeFinder);
-    $("find-text").addEventListener("input", () => findFrom(editor.text.selectionStart));
+    $("find-text").addEventListener("input", () => findFrom(editor.selection.from));
     $("finder").addEventListener("keydown", (event) => {
         if (event.key === "Escape") closeFinder();
         if (event.key !== "Enter" || event.target !== $("find-text")) return;
@@ -64,9 +63,5 @@ export function makeFinder() {
         if (event.shiftKey) findBack();
         else findNext();
     });
-    editor.text.addEventListener("keydown", (event) => {
-        if (!(event.ctrlKey || event.metaKey) || event.altKey || event.key.toLowerCase() !== "f") return;
-        event.preventDefault();
-        openFinder();
-    });
+    editor.cm.addKeyMap({ "Ctrl-F": openFinder, "Cmd-F": openFinder });
 }

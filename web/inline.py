@@ -13,13 +13,27 @@ top, out = map(pathlib.Path, sys.argv[1:])
 web = top / "web"
 
 
+# The editor, of Debian's package libjs-codemirror.
+CODEMIRROR = pathlib.Path("/usr/share/javascript/codemirror")
 # The lessons of the path, in their order.
 LESSONS = ["first", "loop", "function", "trap", "protection"]
+
+
+STYLES = [CODEMIRROR / "lib/codemirror.css", *(web / name for name in ["style.css", "layout.css"])]
+
+
+def licence():
+    """The licence of the editor, which goes with each copy of it."""
+    text = pathlib.Path("/usr/share/doc/libjs-codemirror/copyright").read_text()
+    owner = re.search(r"^Files: \*\nCopyright: (.*)$", text, re.M).group(1)
+    terms = re.search(r"^License: Expat\n((?: .*\n)+)", text, re.M).group(1)
+    return f"CodeMirror, copyright {owner}\n\n{terms}".replace("\n .\n", "\n\n").replace("-->", "")
 
 
 def script(name):
     """A module with all that it imports, as one script."""
     words = ["esbuild", str(web / f"{name}.mjs"), "--bundle", "--format=esm", "--charset=utf8", "--log-level=warning"]
+    words += [f"--alias:codemirror={CODEMIRROR}", "--minify"] if name == "page" else []
     text = subprocess.run(words, check=True, capture_output=True, text=True, encoding="utf-8").stdout
     assert "</script" not in text, name
     return text
@@ -64,7 +78,8 @@ def hash_of(text, tag):
 
 
 parts = {
-    "style": "\n".join((web / name).read_text() for name in ["style.css", "layout.css"]),
+    "licence": licence(),
+    "style": "\n".join(path.read_text() for path in STYLES),
     "worker": script("worker"),
     "page": script("page"),
     "examples": examples(),

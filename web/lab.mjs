@@ -1,12 +1,12 @@
 // The lab as the page sees it: what it is asked and told, and its answers as values. Nothing else in the page knows how
 // the lab writes them.
 import { call } from "./client.mjs";
-import { countLines } from "./lines.mjs";
+import { Listed } from "./listed.mjs";
 import {
-    breakLinesOf,
     controlOf,
     devicesOf,
     faultsOf,
+    filesOf,
     isLost,
     levelsOf,
     mayGoOn,
@@ -19,7 +19,9 @@ import {
 } from "./values.mjs";
 
 const LISTED = 1000; // lines that are listed at once
+const NEAR_PC = 9; // lines that are listed after each step
 const SHOWN = 4096; // bytes of memory that are shown at once
+const LEFT = "The page has no end but that of its tab. What is typed is kept.";
 const LESSON_STEPS = 2000000; // that the program of a lesson may take
 const MOST_STEPS = 1000000000; // of a command
 const REPLAYED = 3000000; // the most steps that are run again in one piece to go back
@@ -91,6 +93,15 @@ export async function examine({ source, inputs, pages }, names, places) {
     return { faults: [], run, names: values, words };
 }
 
+/**
+ * Where a register last changed in the run of a program, up to a step.
+ * @param {Program} program
+ * @param {number} steps
+ * @param {string} register
+ * @returns {Promise<Changed>}
+ */
+export const lastChange = ({ source, inputs, pages }, steps, register) =>
+    call("changed", source, inputs, pages, steps, register);
 
 // ---- Commands
 
@@ -100,9 +111,9 @@ export async function examine({ source, inputs, pages }, names, places) {
  * @returns {Promise<Told>}
  */
 export async function tell(line) {
-    const { answer, text, sent, isPaused } = await call("command", line);
-    const [why] = !isPaused && isLost(answer) ? await ask("why") : [""];
-    return toldOf(text + why, isPaused || mayGoOn(answer), sent);
+    const { answer, text, sent, isPaused, isLeft } = await call("command", line);
+    const [why] = !isPaused && isLost(answer) ? await ask("why") : [isLeft ? LEFT : ""];
+    return { ...toldOf(text + why, isPaused || mayGoOn(answer), sent), files: filesOf(answer) };
 }
 
 /** @param {number[]} lines */
@@ -146,40 +157,37 @@ export const paused = () => toldOf("paused", true);
 
 /**
  * The command that lists a source of up to 1,000 lines, and else the lines round pc.
- * @param {string} source
+ * @param {Listed} listed
  */
-const listCommand = (source) => (countLines(source) <= LISTED ? `l ${LISTED / 2} ${LISTED}` : `l pc ${LISTED / 2}`);
+const listCommand = ({ lines }) => (lines.length <= LISTED ? `l ${LISTED / 2} ${LISTED}` : `l pc ${LISTED / 2}`);
 
-const marked = (/** @type {Row[]} */ listing) => listing.filter(({ isMarked }) => isMarked).map(({ number }) => number);
-
-const lastMarks = { source: "", lines: "", marks: /** @type {number[]} */ ([]) };
+let listed = new Listed("");
 
 /**
- * The lines with a breakpoint at their address, of those in which one lies. In a source of more lines than `l` lists each
- * is listed, unless they are the same as before.
- * @param {string} source
- * @param {Row[]} listing
- * @param {number[]} lines
- */
-async function readMarks(source, listing, lines) {
-    if (countLines(source) <= LISTED) return marked(listing);
-    if (lastMarks.source === source && lastMarks.lines === String(lines)) return lastMarks.marks;
-    const found = await lookAt(...lines.map((line) => `l ${line} 1`));
-    Object.assign(lastMarks, { source, lines: String(lines), marks: marked(found.flatMap((it) => rowsOf(it, []))) });
-    return lastMarks.marks;
-}
-
-/**
- * All that a click may change, for a source that is on the board.
+ * All that a click may change, for a source that is on the board. Its listing is asked for once, and then the lines round
+ * pc, unless a fresh one is wanted.
  * @param {string} source
  * @returns {Promise<Look>}
  */
-export async function look(source) {
-    const { steps, console, saved, answers } = await call("look", ["r", "b", listCommand(source)]);
-    const [registers, breakpoints, list] = answers, levels = levelsOf(saved.list, steps);
-    const listing = rowsOf(list, source.split("\n")), marks = await readMarks(source, listing, breakLinesOf(breakpoints));
+export async function look(source, isFresh = false) {
+    if (listed.source !== source) listed = new Listed(source);
+    const mine = listed, isWhole = isFresh || !mine.rows.length;
+    const { steps, console, saved, answers } = await call("look", ["r", "b", isWhole ? listCommand(mine) : `l pc ${NEAR_PC}`]);
+    const [registers, { places }, list] = answers, here = registers.here.line ?? 0;
+    mine.take(rowsOf(list, mine.lines), isWhole);
+    if (!mine.has(here)) mine.take(rowsOf((await lookAt(listCommand(mine)))[0], mine.lines), true);
+    const unknown = mine.unknown(places), found = unknown.length ? await lookAt(...unknown.map((line) => `l ${line} 1`)) : [];
+    for (const it of found) mine.take(rowsOf(it, mine.lines));
+    const marks = mine.marks(places), listing = mine.listing(here, marks), levels = levelsOf(saved.list, steps);
     return { steps, ...registersOf(registers), listing, marks, saved: savedOf(saved), levels, console };
 }
+
+/**
+ * A line of the source that is on the board, with its word now.
+ * @param {number} line
+ * @returns {Promise<Row | undefined>}
+ */
+export const lookRow = async (line) => rowsOf((await lookAt(`l ${line} 1`))[0], [])[0];
 
 /**
  * Bytes of memory from a place on, which is what `m` takes.

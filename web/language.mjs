@@ -1,4 +1,4 @@
-// The colours of the language, which make a line of the source HTML, and the labels of a source.
+// The colours of the language, for the editor and as HTML, and the labels of a source.
 
 const REGISTER = /^(?:zero|ra|sp|gp|tp|fp|[tsa]\d+|x\d+)$/;
 /** @type {[string, RegExp][]} */
@@ -29,20 +29,54 @@ function kindOfWord(word, isFirst) {
 }
 
 /**
+ * What stands in a line from a place on: its kind, and its text, which has none of blanks and signs.
+ * @param {string} line
+ * @param {number} at
+ * @param {boolean} isFirst whether no word stands before it but labels
+ */
+function tokenAt(line, at, isFirst) {
+    TOKEN.lastIndex = at;
+    const found = TOKEN.exec(line);
+    if (!found || found.index > at) return { kind: "", text: line.slice(at, found?.index) };
+    const [kind] = Object.entries(found.groups ?? {}).find(([, part]) => part !== undefined) ?? [""];
+    return { kind: kind === "word" ? kindOfWord(found[0], isFirst) : kind, text: found[0] };
+}
+
+/** How the editor reads the language: each line by itself, and of a long one the beginning. */
+export function assembly() {
+    const startState = () => ({ isFirst: true });
+    /**
+     * @param {{ string: string, pos: number, sol: () => boolean }} stream
+     * @param {{ isFirst: boolean }} state
+     */
+    function token(stream, state) {
+        if (stream.sol()) state.isFirst = true;
+        if (stream.pos > COLOURED) {
+            stream.pos = stream.string.length;
+            return null;
+        }
+        const { kind, text } = tokenAt(stream.string, stream.pos, state.isFirst);
+        if (kind && kind !== "label") state.isFirst = false;
+        stream.pos += text.length;
+        return kind || null;
+    }
+    return { startState, token, lineComment: "#" };
+}
+
+/**
  * A line as HTML. What comes after so many characters that nobody reads it has no colours.
  * @param {string} line
  */
 export function colourLine(line) {
-    let html = "", at = 0, isFirst = true;
-    for (const found of line.slice(0, COLOURED).matchAll(TOKEN)) {
-        const [text] = found, parts = Object.entries(found.groups ?? {});
-        const [kind] = parts.find(([, part]) => part !== undefined) ?? [""];
-        const shown = kind === "word" ? kindOfWord(text, isFirst) : kind;
-        if (kind !== "label") isFirst = false;
-        html += `${escaped(line.slice(at, found.index))}<span class="${shown}">${escaped(text)}</span>`;
-        at = (found.index ?? 0) + text.length;
+    const end = Math.min(line.length, COLOURED);
+    let html = "", isFirst = true;
+    for (let at = 0, text = ""; at < end; at += text.length) {
+        const token = tokenAt(line.slice(0, end), at, isFirst), { kind } = token;
+        text = token.text;
+        if (kind && kind !== "label") isFirst = false;
+        html += kind ? `<span class="cm-${kind}">${escaped(text)}</span>` : escaped(text);
     }
-    return html + escaped(line.slice(at));
+    return html + escaped(line.slice(end));
 }
 
 /**

@@ -157,3 +157,22 @@ export function withEndsOf(shown, text) {
     const endOf = (/** @type {number} */ i) => (i < first ? ends[i] : i >= now.length - last ? ends[i - more] : ends[0]) ?? ends[0];
     return now.map((line, i) => (i < now.length - 1 ? line + endOf(i) : line)).join("");
 }
+
+/**
+ * The byte for which a character stands in, or nothing.
+ * @param {string} character
+ */
+export function byteOf(character) {
+    const byte = character.charCodeAt(0) - STAND_IN;
+    return 0 <= byte && byte < 256 ? byte : undefined;
+}
+
+/**
+ * A line as what precedes the place of a fault, and the place.
+ * @param {string} line
+ * @param {{ before: number, length: number }} fault
+ */
+export function cutAt(line, { before, length }) {
+    const bytes = encode(line);
+    return [decodeAll(bytes.slice(0, before)), decodeAll(bytes.slice(before, before + length))];
+}

@@ -2,6 +2,7 @@
 import { $, field } from "./dom.mjs";
 import { lookMemory } from "./lab.mjs";
 import { escaped } from "./language.mjs";
+import { meaningOf } from "./meaning.mjs";
 import { MEMORY } from "./protection.mjs";
 import { state } from "./state.mjs";
 import { hex8, table, textOf } from "./views.mjs";
@@ -39,7 +40,7 @@ export const askMemory = () => lookMemory(field("memory-where").value.trim() || 
  */
 function marksAt(first, pointers, length = ROW) {
     const here = pointers.filter(({ at }) => first <= at && at < first + length);
-    return here.map(({ name, at }) => (at > first ? `${name} +${at - first}` : name)).join(", ");
+    return here.map(({ name, at }) => (at > first ? `${name} at …${hex8(at).slice(-2)}` : name)).join(", ");
 }
 
 /** Where the stack and pc are, and the labels. */
@@ -90,6 +91,9 @@ export function showMemory(panel, memory) {
     $("memory-rows").dataset.odd = String(at % ROW);
     $("memory-rows").dataset.count = String(Math.ceil(bytes.length / ROW));
     space.style.height = isInside ? `${(size() / ROW) * height}px` : "0";
+    // Scrolled to its end, the last row is in sight.
+    const beyond = shown.offsetHeight + Math.ceil(bytes.length / ROW) * height - $("memory-rows").clientHeight;
+    space.style.marginTop = isInside ? `${-beyond}px` : "0";
     if (isInside) $("memory-rows").scrollTop = above * height;
 }
 
@@ -126,12 +130,12 @@ export function makeMemory(onChange) {
 export const askStack = () => lookMemory("sp", STACK);
 
 /**
- * What a word of the stack may be: the place after a line of the program, which a call has kept.
+ * What a word of the stack may be: a number, an address, or the place after a call, with its line.
  * @param {string} word
  */
-function placeOf(word) {
+function meaningOfWord(word) {
     const at = parseInt(word, 16), row = state.board.listing.find(({ address }) => address === at);
-    return row ? `line ${row.number}: ${row.text.trim()}` : "";
+    return row ? `line ${row.number}: ${row.text.trim()}` : meaningOf(at, state);
 }
 
 /**
@@ -148,10 +152,10 @@ export function showStack(panel, { at, bytes, refused }) {
         return;
     }
     const rows = there.map((word, i) => {
-        const offset = `sp + ${4 * i}`, value = `${parseInt(word, 16) | 0}`;
-        return [hex8(at + 4 * i), offset, word, value, escaped(placeOf(word)), marksAt(at + 4 * i, pointers, 4)];
+        const offset = `sp + ${4 * i}`;
+        return [hex8(at + 4 * i), offset, word, escaped(meaningOfWord(word)), marksAt(at + 4 * i, pointers, 4)];
     });
-    const heads = ["Address", "Place", "Word", "Signed", "An instruction's address", "Here"];
-    const attributes = rows.map(([, , , , , marks]) => (marks ? 'class="pointed"' : ""));
+    const heads = ["Address", "Place", "Word", "Meaning", "Here"];
+    const attributes = rows.map(([, , , , marks]) => (marks ? 'class="pointed"' : ""));
     panel.innerHTML = table("The stack, from its top on", heads, rows, attributes);
 }

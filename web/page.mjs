@@ -24,7 +24,8 @@ import { makeWords } from "./words.mjs";
 import { NO_PROGRAM, assemble, back, command, fail, markLines, queue, readPages } from "./work.mjs";
 import { showProgress, toggleBreakpoint } from "./work.mjs";
 
-const TYPED = 200; // milliseconds without a key before what is typed is assembled
+const TYPED = 200; // milliseconds without a key before what is typed is checked
+const LINES_CHECKED = 200; // for which it is checked a millisecond later
 
 // ---- What is typed
 
@@ -65,19 +66,19 @@ let typing; // the timer of the next check
 
 /** Marks what is typed as it is checked, which assembles it; the board stays as it is. */
 function typed() {
-    if (editor.source === state.assembled && !queue.isBusy) markLines();
-    else change({ isSame: editor.source === state.assembled, here: 0 });
+    if (state.isSame) change({ isSame: false, here: 0 });
     checkSoon();
 }
 
 function checkSoon() {
     clearTimeout(typing);
-    typing = setTimeout(() => checkSource().catch(fail), TYPED);
+    typing = setTimeout(() => checkSource().catch(fail), TYPED + editor.count / LINES_CHECKED);
 }
 
 /** What is found of a text that has changed meanwhile is dropped: it is checked again. */
 async function checkSource() {
     files.keep();
+    if (!state.isSame && editor.source === state.assembled && !queue.isBusy) markLines({ isShown: false });
     const checked = readTexts(), faults = await checkProgram(checked.source, checked.inputs, checked.pages);
     const now = readTexts();
     const isSame = checked.source === now.source && checked.inputs === now.inputs && checked.pages === now.pages;

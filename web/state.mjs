@@ -30,7 +30,7 @@ export const state = {
     here: 0,
     breakpoints: new Set(),
     faults: [],
-    told: { parts: [], goesOn: false },
+    told: { parts: [], goesOn: false, files: {} },
     said: [],
     progress: null,
     began: { time: 0, steps: 0 },
@@ -43,7 +43,7 @@ export const state = {
     isLooking: false,
     isPressed: false,
     lesson: null,
-    format: "hex and signed",
+    format: "hex and meaning",
 };
 
 /** @type {(() => void)[]} */

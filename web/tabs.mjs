@@ -43,6 +43,11 @@ class Tabs {
         return number !== this.number;
     }
 
+    /** Whether the open tab shows the words of the program. */
+    get isListing() {
+        return this.name === "listing" || this.name === "instruction";
+    }
+
     /** Whether what is asked isn't shown yet. */
     get isWaiting() {
         return this.shown !== this.number;

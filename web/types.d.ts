@@ -11,8 +11,11 @@ interface Place { address: number; label: string | null; distance: number | null
 /** A part of what is said: the page's or the lab's own words, or what the program has sent. */
 interface Said { text: string; isSent: boolean }
 
-/** The answer to a command, and whether it left a run that may go on. */
-interface Told { parts: Said[]; goesOn: boolean }
+/** The answer to a command, whether it left a run that may go on, and files that are to be saved, by name. */
+interface Told { parts: Said[]; goesOn: boolean; files: Record<string, string> }
+
+/** With which step a register last changed, where pc was before it, and the value then; or that a run is too long. */
+interface Changed { isLong: boolean; step?: number; here?: Place; value?: number }
 
 interface Register { name: string; value: number; isChanged: boolean }
 

@@ -37,12 +37,6 @@ export function rowsOf({ kind, rows }, lines) {
 }
 
 /**
- * The lines in whose bytes a breakpoint lies, from `b`.
- * @param {{ places: Place[] }} answer
- */
-export const breakLinesOf = ({ places }) => places.flatMap(({ line }) => line ?? []);
-
-/**
  * Bytes of memory, from `m`, or why it was refused.
  * @param {any} answer
  * @param {string} text what the lab says of a refusal
@@ -142,7 +136,7 @@ export function faultsOf(refused) {
  */
 export function toldOf(text, goesOn, sent = "") {
     const parts = [{ text: barred(sent), isSent: true }, { text: text.trimEnd(), isSent: false }];
-    return { parts: parts.filter((part) => part.text), goesOn };
+    return { parts: parts.filter((part) => part.text), goesOn, files: {} };
 }
 
 /**
@@ -170,6 +164,15 @@ export function isLost({ kind, standing }) {
 export function savedOf({ list, commands, steps, limit, pages }) {
     const left = steps > limit ? ` # without the last ${steps - limit} steps` : "";
     return { inputs: list, commands, options: `--steps ${limit} --pages ${pages}${left}` };
+}
+
+/**
+ * The files that `save NAME` is to write, by name.
+ * @param {any} answer
+ * @returns {Record<string, string>}
+ */
+export function filesOf({ kind, name, list, commands }) {
+    return kind === "saved" && name !== null ? { [`${name}.input`]: list, [`${name}.commands`]: commands } : {};
 }
 
 /**

@@ -1,5 +1,5 @@
 // The views of the board as HTML: registers, control registers, the listing, and what an interrupt source says.
-import { escaped } from "./language.mjs";
+import { colourLine, escaped } from "./language.mjs";
 
 /** @param {number} number */
 export const hex8 = (number) => number.toString(16).padStart(8, "0");
@@ -53,27 +53,28 @@ export const FORMATS = {
     characters,
     binary,
 };
-export const BOTH = "hex and signed";
+export const BOTH = "hex and meaning";
 
 /**
- * A register in a format; its title has it in all of them.
+ * A register in a format: by itself in hexadecimal, beside what that means.
  * @param {Register} register
  * @param {string} format
+ * @param {string} meaning
  */
-function registerHtml({ name, value, isChanged }, format) {
+export function registerHtml({ name, value, isChanged }, format, meaning) {
     const mark = isChanged ? '*<span class="unseen">changed</span>' : "";
-    const all = Object.entries(FORMATS).map(([title, write]) => `${title} ${write(value)}`).join("\n");
-    const title = `${name}\n${all}`.replaceAll('"', "&quot;");
-    const values = (format === BOTH ? ["hexadecimal", "signed"] : [format]).map((it) => escaped(FORMATS[it](value)));
-    const shown = values.map((it) => `<span>${it}</span>`).join(" ");
-    return `<li class="${isChanged ? "changed" : ""}" title="${escaped(title)}"><b>${name}</b> ${shown}<i>${mark}</i></li>`;
+    const values = (format === BOTH ? [hex8(value), meaning] : [FORMATS[format](value)]).map(escaped);
+    return `<b>${name}</b> ${values.map((it) => `<span>${it}</span>`).join(" ")}<i>${mark}</i>`;
 }
 
 /**
- * @param {Register[]} registers
- * @param {string} format
+ * A place in the program: its address, the label before it, and its line.
+ * @param {Place} place
  */
-export const registersHtml = (registers, format) => registers.map((it) => registerHtml(it, format)).join("");
+export function placeText({ address, label, distance, line }) {
+    const near = label === null ? "" : `&lt;${escaped(label)}${distance ? `+${distance}` : ""}&gt;`;
+    return joined([hex8(address), near, line && `line ${line}`], " ");
+}
 
 /** @param {Control[]} registers */
 export function controlHtml(registers) {
@@ -93,7 +94,7 @@ const hexOf = (word) => (word === undefined ? "" : hex8(word));
 export function listingHtml(rows) {
     const cells = rows.map(({ isHere, isMarked, address, word, number, text }) => {
         const marks = joined([isHere && "➤", isMarked && "●"], "");
-        return [marks, hexOf(address), hexOf(word), number, escaped(text)];
+        return [marks, hexOf(address), hexOf(word), number, colourLine(text)];
     });
     const attributes = rows.map(({ isHere, number }) => {
         return `data-line="${number}" ${isHere ? 'class="here" aria-current="true"' : ""}`;

@@ -5,6 +5,7 @@ import { editor } from "./editor.mjs";
 import { COMMANDS, findLabels, goBack, loadProgram, look, paused, setBreakpoints, tell } from "./lab.mjs";
 import { labelsOf } from "./language.mjs";
 import { countLines } from "./lines.mjs";
+import { download } from "./links.mjs";
 import { Queue } from "./queue.mjs";
 import { say, sayParts, showSent } from "./said.mjs";
 import { change, state } from "./state.mjs";
@@ -35,26 +36,37 @@ export function showProgress(steps, sent) {
 /** @param {Error} error */
 export function fail(error) {
     if (error instanceof BoardLost) change({ assembled: null });
-    change({ told: { parts: [], goesOn: false } });
+    change({ told: { parts: [], goesOn: false, files: {} } });
     say(error.message);
 }
 
 // ---- Looks
 
-/** Asks for all that is in sight, and shows it. */
-async function refresh() {
-    if (state.assembled === null) return;
-    change({ board: await look(state.assembled) });
+/**
+ * Asks for all that a command may change, right behind it, and so without waiting for its answer.
+ * @returns {Promise<Look> | null}
+ */
+function lookSoon() {
+    if (state.assembled === null) return null;
+    const looked = look(state.assembled, tabs.isListing);
+    looked.catch(() => {}); // is told where it is waited for
+    return looked;
+}
+
+/** Asks for all that is in sight, unless that was asked already, and shows it. */
+async function refresh(looked = lookSoon()) {
+    if (!looked) return;
+    change({ board: await looked });
     markLines();
     await showTab();
 }
 
-/** Marks pc's line and the breakpoints, if the source is still the one on the board. */
-export function markLines() {
+/** Marks pc's line, which is scrolled into sight, and the breakpoints, if the source is still the one on the board. */
+export function markLines({ isShown = true } = {}) {
     const { listing, marks } = state.board, isSame = editor.source === state.assembled;
     const here = isSame ? (listing.find(({ isHere }) => isHere)?.number ?? 0) : 0;
     change({ isSame, here, ...(isSame ? { breakpoints: new Set(marks) } : {}) });
-    if (here) editor.show(here);
+    if (here && isShown) editor.show(here);
 }
 
 /** Asks what the open tab shows, and shows it. Answers that come after the tab has another question are dropped. */
@@ -82,16 +94,17 @@ async function work(act) {
 
 /**
  * Executes a command of the lab, says its answer, and shows the board. Undo goes back to the step `from`, and what goes
- * on with a run is noted as a part of it.
+ * on with a run is noted as a part of it. `act` does it, by one call or more.
  * @param {string} line
  * @param {{ from?: number, goesOn?: boolean }} going
  */
-export function command(line, going = {}, act = () => tell(line)) {
+export function command(line, going = {}, act = () => tell(line), isOne = true) {
     const asked = state.holds;
     return work(async () => {
         if (state.assembled === null) return say(NO_PROGRAM);
         if (state.holds !== asked) return sayTold(paused()); // before it began
-        await showDone(line, await act(), going);
+        const done = act(), looked = isOne ? lookSoon() : undefined;
+        await showDone(line, await done, going, looked);
     });
 }
 
@@ -101,7 +114,7 @@ export function command(line, going = {}, act = () => tell(line)) {
  */
 export function back(to) {
     const from = state.board.steps;
-    return command(COMMANDS.back(from - to), {}, () => goBack(from, to));
+    return command(COMMANDS.back(from - to), {}, () => goBack(from, to), false);
 }
 
 /**
@@ -109,11 +122,12 @@ export function back(to) {
  * @param {string} line
  * @param {Told} told
  * @param {{ from?: number, goesOn?: boolean }} going
+ * @param {Promise<Look> | null} [looked]
  */
-async function showDone(line, told, { from = state.board.steps, goesOn = false }) {
+async function showDone(line, told, { from = state.board.steps, goesOn = false }, looked) {
     const before = state.board.steps;
     if (!goesOn) change({ done: [...state.done, line] });
-    await refresh();
+    await refresh(looked);
     const { steps } = state.board;
     if (steps !== before) change({ undone: Math.min(from, steps) });
     sayTold(told);
@@ -126,6 +140,7 @@ async function showDone(line, told, { from = state.board.steps, goesOn = false }
 function sayTold(told) {
     change({ told });
     if (!state.isLooking || !told.goesOn) sayParts(told.parts);
+    for (const [name, text] of Object.entries(told.files)) download(name, text);
 }
 
 export const readPages = () => Math.min(MOST_PAGES, Math.max(0, Math.trunc(field("pages").valueAsNumber) || 0));

@@ -1,10 +1,12 @@
 // The page's worker: one lab that is run and asked, and one that only assembles what is typed. A long run
 // goes in pieces, between which the pause and the page's questions come through.
-import { Board, RUNNING, decode } from "./board.mjs";
+import { Board, QUIT, RUNNING, decode } from "./board.mjs";
+import { lastChange } from "./changes.mjs";
 import { encode, joinBytes } from "./lines.mjs";
 
 const PROGRESS = 100; // milliseconds between two reports of a long run
 const TURN = 12; // milliseconds that a piece of a run shall take
+const ASIDE = ["check", "examine", "changed"]; // what is done in labs of its own, beside the queue
 const PIECES = { least: 1000, most: 10000000 }; // steps of a piece
 
 /** @type {WebAssembly.Module} */
@@ -92,7 +94,7 @@ const acts = {
             sent.push(reply.sent);
         }
         const isPaused = reply.next === RUNNING, text = isPaused ? `paused\n${lab.ask("w")}` : reply.text;
-        return { answer: reply.answer, text, sent: decode(joinBytes(sent)), isPaused };
+        return { answer: reply.answer, text, sent: decode(joinBytes(sent)), isPaused, isLeft: reply.next === QUIT };
     },
 
     /**
@@ -112,6 +114,23 @@ const acts = {
             ({ next } = own.goOn());
         }
         return { answers: own.look(lines), console: decode(own.console()), steps: own.steps() };
+    },
+
+    /**
+     * Where a register last changed in the run of a program, up to a step.
+     * @param {string} source
+     * @param {string} inputs
+     * @param {number} pages
+     * @param {number} steps
+     * @param {string} register
+     */
+    changed: (source, inputs, pages, steps, register) => {
+        const open = () => {
+            const own = new Board(module);
+            own.load(encode(source), encode(inputs), pages);
+            return own;
+        };
+        return lastChange(open, steps, register, breathe);
     },
 
     // The steps, what was sent and is saved so far, and what commands that only look answer, as values.
@@ -152,7 +171,7 @@ let last = Promise.resolve(), started = last;
 
 onmessage = ({ data }) => {
     if (data.act === "pause") paused = true;
-    else if (data.act === "check" || data.act === "examine") started.then(() => answer(data));
+    else if (ASIDE.includes(data.act)) started.then(() => answer(data));
     else last = last.then(() => answerNext(data));
     if (data.act === "start") started = last;
 };

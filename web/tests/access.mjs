@@ -4,6 +4,7 @@
 import { fileURLToPath } from "node:url";
 import { check, finish, same } from "./checks.mjs";
 import { openPage } from "./chromium.mjs";
+import { text } from "./source.mjs";
 
 const url = `file://${fileURLToPath(new URL("../../out/web/index.html", import.meta.url))}`;
 const ROLES = ["banner", "main", "toolbar", "tablist", "tabpanel", "log", "status"];
@@ -61,8 +62,7 @@ async function focusOrder(page) {
     same("arrows move among the tabs", await page.run("document.activeElement.id"), "tab-memory");
 }
 
-// The least contrast of a text on what is behind it, over all texts in sight. (The text area's own text is
-// transparent over its coloured lines.)
+// The least contrast of a text on what is behind it, over all texts in sight.
 function leastContrast() {
     const parse = (colour) => colour.match(/[\d.]+/g).map(Number);
     const linear = (it) => (it <= 0.03928 ? it / 12.92 : ((it + 0.055) / 1.055) ** 2.4);
@@ -75,7 +75,7 @@ function leastContrast() {
     };
     const isText = (node) => node.nodeType === Node.TEXT_NODE && node.textContent.trim();
     const isSeen = (element) => element.checkVisibility() && [...element.childNodes].some(isText);
-    const all = [...document.querySelectorAll("body *:not(#text)")].filter(isSeen).map((element) => {
+    const all = [...document.querySelectorAll("body *")].filter(isSeen).map((element) => {
         const both = [light(parse(getComputedStyle(element).color)), light(behind(element))];
         const ratio = (Math.max(...both) + 0.05) / (Math.min(...both) + 0.05);
         return { ratio, what: element.outerHTML.slice(0, 80) };
@@ -117,7 +117,7 @@ const page = await openPage(url);
 await ready(page);
 await page.run(`document.getElementById("example").value = "interrupt"`);
 await page.run(`document.getElementById("load").click()`);
-await page.until(`document.getElementById("text").value.startsWith("# External interrupts")`);
+await page.until(`${text}.startsWith("# External interrupts")`);
 await roles(page);
 await focusOrder(page);
 await inEachTab(page, async (tab) => {

@@ -5,6 +5,7 @@ import os from "node:os";
 import path from "node:path";
 
 const ANSWERED = 30000; // milliseconds in which a call is answered
+const KEYS = { Tab: 9, Enter: 13, Escape: 27, " ": 32, ArrowLeft: 37, ArrowUp: 38, ArrowRight: 39, ArrowDown: 40 };
 const TRIES = 1200, PAUSE = 25; // how often, and how many milliseconds apart, a condition is tried
 
 const textOf = ({ exception, text }) => exception?.description ?? text;
@@ -158,7 +159,7 @@ async function openTab(browser, tabs, url, { width = 1280, height = 720, dark = 
 
         // Presses a key: its name, its code, and whether Alt is held.
         async press(key, code = key, alt = false) {
-            const windowsVirtualKeyCode = { Enter: 13, Escape: 27, Tab: 9, ArrowRight: 39 }[key];
+            const windowsVirtualKeyCode = KEYS[key];
             const words = { key, code, modifiers: alt ? 1 : 0, windowsVirtualKeyCode };
             const text = key === "Enter" ? "\r" : undefined;
             await call("Input.dispatchKeyEvent", { type: "keyDown", text, ...words });

@@ -2,12 +2,12 @@
 import fs from "node:fs";
 import path from "node:path";
 import { check, contains, same } from "./checks.mjs";
-import { answer, answers, choose, idle, lab, learn, native, open, page } from "./user.mjs";
+import * as source from "./source.mjs";
+import { answer, answers, choose, clickLine, idle, lab, learn, mark, native, open, page, text } from "./user.mjs";
 import { pauseWhenRunning, press, printed, quoted, room, sourceOf, top, typeOver, where } from "./user.mjs";
 
 const lineOf = (name, text) => sourceOf(name).split("\n").findIndex((it) => it.includes(text)) + 1;
 const isRunning = () => page.until(`!document.getElementById("progress").hidden`);
-const text = () => page.run(`document.getElementById("text").value`);
 
 async function overAndOut() {
     await choose("recursion");
@@ -116,22 +116,14 @@ async function speeds() {
 async function breakpointsStay() {
     await choose("session");
     const line = lineOf("session", "add:");
-    await page.click(`#gutter li[value="${line}"]`);
+    await clickLine(line);
     await answers(`breakpoint at line ${line}`);
     await typeOver("# ", "# one line more\n# ");
-    await page.until(`document.querySelector('#gutter li[value="${line + 1}"] i').textContent === "●"`);
+    await page.until(`${source.mark(line + 1)} === "●"`);
     check("a breakpoint stays at its line as lines come above it", true);
     await press("A", "Assembled");
     await press("R", "breakpoint after 4 steps");
 }
-
-// Scrolls to a line, and returns the mark beside it.
-const markAt = (line) => page.run(`(async () => {
-    const text = document.getElementById("text");
-    text.scrollTop = (${line} - 3) * parseFloat(getComputedStyle(text).lineHeight);
-    await new Promise((done) => setTimeout(done, 50));
-    return document.querySelector('#gutter li[value="${line}"] i').textContent;
-})()`);
 
 // A source of more lines than the lab lists at once, with bytes at odd addresses, too.
 async function longSource() {
@@ -139,24 +131,24 @@ async function longSource() {
     await open([...lines, "1:      j 1b", "        .byte 1", "        .byte 2"].join("\n"));
     await idle();
     for (const line of [1400, 2993]) {
-        await markAt(line);
-        await page.click(`#gutter li[value="${line}"]`);
+        await mark(line);
+        await clickLine(line);
         await answers(`breakpoint at line ${line}`);
         await idle();
-        same(`line ${line} of a long source has its mark`, await markAt(line), "●");
+        same(`line ${line} of a long source has its mark`, await mark(line), "●");
     }
     await lab("b 2600", "breakpoint at line 2600");
-    same("also by a command", await markAt(2600), "●");
+    same("also by a command", await mark(2600), "●");
     await press("A", "Assembled");
-    same("Assemble keeps it", [await markAt(1400), await markAt(2600), await markAt(2993)].join(""), "●●●");
+    same("Assemble keeps it", [await mark(1400), await mark(2600), await mark(2993)].join(""), "●●●");
     await press("R", "breakpoint after 1399 steps");
-    same("a run stops there", await markAt(1400), "◉");
-    await page.click('#gutter li[value="1400"]');
+    same("a run stops there", await mark(1400), "◉");
+    await clickLine(1400);
     await answers("no more breakpoint");
     await idle();
-    same("a click clears it", await markAt(1400), "➤");
+    same("a click clears it", await mark(1400), "➤");
     await lab("d 2993", "no more breakpoint");
-    same("and so does a command", [await markAt(2600), await markAt(2993)].join(""), "●");
+    same("and so does a command", [await mark(2600), await mark(2993)].join(""), "●");
 }
 
 const inPanel = (name, part) => `document.getElementById("panel-${name}").querySelector(${quoted(part)})`;
@@ -185,7 +177,7 @@ async function views() {
     await page.click(`#panel-listing tr[data-line="${line}"]`);
     await answers(`breakpoint at line ${line}`);
     await idle();
-    contains("a click in the listing sets a breakpoint", await page.text("#gutter"), new RegExp(`●${line}`));
+    same("a click in the listing sets a breakpoint", await mark(line), "●");
     await showMemory("table");
     await panelHas("memory", "8000003c");
     const row = () => page.run(`${inPanel("memory", "tbody tr")}.innerText`);
@@ -221,7 +213,7 @@ async function refused() {
     await page.alt("P");
     await answers("Nothing runs");
     await open("        nop\n");
-    await page.run(`document.getElementById("text").value = "li t0"`);
+    await page.run(source.put("li t0"));
     await page.alt("A");
     await answers("E");
     await page.alt("S");

@@ -5,6 +5,7 @@ import http from "node:http";
 import { fileURLToPath } from "node:url";
 import { check, contains, finish, same } from "./checks.mjs";
 import { openPage } from "./chromium.mjs";
+import { put, text } from "./source.mjs";
 
 const top = fileURLToPath(new URL("../..", import.meta.url));
 const sourceOf = (name) => fs.readFileSync(`${top}/examples/${name}.s`, "utf8");
@@ -25,7 +26,6 @@ const server = http.createServer(({ url }, response) => {
 await new Promise((done) => server.listen(0, "127.0.0.1", done));
 const site = `http://127.0.0.1:${server.address().port}`;
 
-const text = `document.getElementById("text").value`;
 const answer = `document.getElementById("answer").textContent`;
 const ready = `document.body.dataset.ready === "yes"`;
 const click = (id) => `document.getElementById("${id}").click()`;
@@ -48,7 +48,7 @@ async function framed() {
 }
 
 async function question() {
-    await run(type("text", "# mine\n        nop\n"));
+    await run(put("# mine\n        nop\n"));
     await run(`document.getElementById("example").value = "hello"`);
     await run(click("load"));
     await until(`document.getElementById("question")?.open`);
@@ -77,7 +77,7 @@ async function forms() {
 }
 
 async function shownLink() {
-    await run(type("text", "# in a frame\n"));
+    await run(put("# in a frame\n"));
     await run(click("link"));
     await until(`document.getElementById("shown-link")?.open`);
     const link = await run(`document.getElementById("link-shown").value`);
@@ -92,16 +92,12 @@ async function besides() {
     const isReady = `[0, 1].every((it) => frames[it].document.body.dataset.ready === "yes")`;
     await page.call("Page.navigate", { url: `${site}/two.html` });
     await page.until(isReady);
-    await page.run(`(() => {
-        const text = frames[0].document.getElementById("text");
-        text.value = "# one\\n";
-        text.dispatchEvent(new Event("input"));
-    })()`);
+    await page.run(`frames[0].${put("# one\n").replaceAll(" document.", " frames[0].document.")}`);
     await page.until(`Object.values(localStorage).some((it) => it.includes("# one"))`);
     await page.run("window.isOld = true");
     await page.call("Page.reload");
     await page.until(`!window.isOld && ${isReady}`);
-    const texts = await page.run(`[0, 1].map((it) => frames[it].document.getElementById("text").value).join()`);
+    const texts = await page.run(`[0, 1].map((it) => frames[it].${text}).join()`);
     same("each of two frames keeps its own text", texts, `# one\n,${sourceOf("timer")}`);
 }
 

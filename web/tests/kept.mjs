@@ -1,9 +1,10 @@
 // node web/tests/kept.mjs PROGRAM: what is typed outlives a reload and a closed tab, and where it can't be kept the
 // browser asks before the page is left.
 import { check, contains, same } from "./checks.mjs";
-import { agree, answers, choose, idle, learn, page, press, sourceOf, typeOver, url } from "./user.mjs";
+import * as source from "./source.mjs";
+import { agree, answers, choose, clickLine, idle, learn, mark, page, press, sourceOf, typeOver, url } from "./user.mjs";
 
-const text = (tab = page) => tab.run(`document.getElementById("text").value`);
+const text = (tab = page) => tab.run(source.text);
 const said = (tab = page) => tab.text("#answer");
 const value = (id) => page.run(`document.getElementById("${id}").value`);
 
@@ -16,7 +17,7 @@ const put = (id, it) => page.run(`(() => {
 
 async function reloaded() {
     await choose("hello");
-    await page.click('#gutter li[value="4"]');
+    await clickLine(4);
     await answers("breakpoint at line");
     await idle();
     await typeOver("# H", "# mine");
@@ -27,7 +28,7 @@ async function reloaded() {
     contains("a line says so", await said(), /^Assembled: .*\nRestored: hello\.s as it was typed in this tab, and not saved\.$/s);
     same("the timed list stays, too", await value("inputs"), "5 rx 41\n");
     same("and the size of memory", await value("pages"), "300");
-    contains("and the breakpoint", await page.text("#gutter"), /●4/);
+    same("and the breakpoint", await mark(4), "●");
     const asked = page.asked.length;
     await page.click("#load");
     await agree();
@@ -59,11 +60,7 @@ async function closedTab() {
     const first = await page.beside(url);
     await first.ready();
     same("a new tab doesn't get what is typed in another", await text(first), sourceOf("hello"));
-    await first.run(`(() => {
-        const text = document.getElementById("text");
-        text.value = "# typed and lost\\n";
-        text.dispatchEvent(new Event("input"));
-    })()`);
+    await first.run(source.put("# typed and lost\n"));
     await first.until(`Object.values(localStorage).some((it) => it.includes("typed and lost"))`);
     await first.leave();
     await page.click("#link");

@@ -1,7 +1,8 @@
 // node web/tests/lessons.mjs PROGRAM: lessons by clicks and keys, beside what the built program prints.
 import fs from "node:fs";
 import { check, contains, same } from "./checks.mjs";
-import { answer, answers, choose, idle, lab, learn, native, open, page, printed } from "./user.mjs";
+import { editor, mark } from "./source.mjs";
+import { answer, answers, choose, clickLine, idle, lab, learn, marks, native, open, page, printed, text } from "./user.mjs";
 import { sourceOf, top, typeOver, where } from "./user.mjs";
 
 async function allExamples() {
@@ -52,41 +53,37 @@ async function fault() {
     await typeOver("li", "LI");
     await page.until(`document.querySelectorAll("#faults li").length > 0`);
     const line = source.split("\n").findIndex((it) => /\bli /.test(it)) + 1;
-    same("a fault is marked at its line as one types", await page.text("#gutter .fault"), `✗${line}`);
-    same("the word that is meant is underlined", await page.text("#colours .fault u"), "LI");
+    same("a fault is marked at its line as one types", await marks(), `✗${line}`);
+    same("the word that is meant is underlined", await page.text(".cm-fault"), "LI");
     contains("its sentence and advice stand below", await page.text("#faults"), /`LI` is neither .* write `li`/);
     await page.run(`document.querySelector("#faults button").click()`);
-    const selected = await page.run(`(() => {
-        const text = document.getElementById("text");
-        return text.value.slice(text.selectionStart, text.selectionEnd);
-    })()`);
+    const selected = await page.run(`${editor}.getSelection()`);
     same("its button selects that word", selected, "LI");
     await typeOver("LI", "li");
     await page.until(`document.querySelectorAll("#faults li").length === 0`);
-    check("mended, no line is marked", !(await page.run(`!!document.querySelector("#gutter .fault")`)));
+    check("mended, no line is marked", !(await marks()).includes("✗"));
 }
 
 async function breakpoint() {
     await choose("session");
     const line = sourceOf("session").split("\n").findIndex((it) => /^add:/.test(it)) + 1;
-    await page.click(`#gutter li[value="${line}"]`);
+    await clickLine(line);
     await answers(`breakpoint at line ${line}`);
     await page.alt("R");
     await answers("breakpoint after 4 steps");
     await idle();
-    await page.until(`document.querySelector("#gutter .here")?.value === ${line}`);
+    await page.until(`${mark(line)} === "◉"`);
     check("the run stops at the breakpoint's line", true);
-    const tops = (id) => `[...document.getElementById("${id}").children].map((it) => it.getBoundingClientRect().top)`;
-    same("each line stands beside its number", await page.run(tops("colours")), await page.run(tops("gutter")));
+    same("and has the colour of that", await page.text(".CodeMirror-code .here .CodeMirror-line"), sourceOf("session").split("\n")[line - 1]);
     await page.alt("S");
     await answers("step 5");
     await page.until(`/step 5$/.test(document.getElementById("where").textContent)`);
     contains("a step shows the register that it changed", await page.text("#registers .changed"), /t2/);
     await page.alt("B");
     await answers("back at step 4");
-    await page.until(`document.querySelector("#gutter .here")?.value === ${line}`);
+    await page.until(`${mark(line)} === "◉"`);
     check("back is the line before", true);
-    await page.click(`#gutter li[value="${line}"]`);
+    await clickLine(line);
     await answers("no more breakpoint");
     await page.alt("T");
     await answers("trap 4");
@@ -167,15 +164,15 @@ async function protection() {
 
 async function link() {
     await choose("lab/task");
-    await page.click(`#gutter li[value="4"]`);
+    await clickLine(4);
     await answers("breakpoint at line");
     await page.run(`document.getElementById("pages").value = 512`);
     await page.click("#link");
     await page.until(`location.hash.length > 10`);
     const address = await page.run("location.href");
     await page.visit(address);
-    same("a link holds the source", await page.run(`document.getElementById("text").value`), sourceOf("lab/task"));
-    contains("and the breakpoint", await page.text("#gutter"), /◉/);
+    same("a link holds the source", await text(), sourceOf("lab/task"));
+    contains("and the breakpoint", await marks(), /◉/);
     same("and the size of memory", await page.run(`document.getElementById("pages").value`), "512");
 }
 

@@ -4,7 +4,8 @@ import fs from "node:fs";
 import { fieldsOf, offersFor, statementWord } from "../reference.mjs";
 import { check, contains, same } from "./checks.mjs";
 import { openPage } from "./chromium.mjs";
-import { choose, lab, learn, open, page, press, quoted, sourceOf, url } from "./user.mjs";
+import { editor, select } from "./source.mjs";
+import { choose, lab, learn, open, page, press, quoted, sourceOf, text, type, url } from "./user.mjs";
 
 const element = (id) => `document.getElementById(${quoted(id)})`;
 const boxOf = `(({ x, y, width, height }) => ({ x, y, width, height }))`;
@@ -83,12 +84,46 @@ async function formats() {
     await page.reload();
     same("the format is remembered", await page.run(`${element("format")}.value`), "binary");
     await page.run(`{
-        ${element("format")}.value = "hex and signed";
+        ${element("format")}.value = "hex and meaning";
         ${element("format")}.dispatchEvent(new Event("change"));
     }`);
-    const title = await page.run(`document.querySelector("#registers li:nth-child(11)").title`);
-    const titles = title.split("\n").map((line) => line.split(" ")[0]).join();
-    same("and all formats stand in a register's title", titles, "a0,hexadecimal,signed,unsigned,characters,binary");
+}
+
+const hintText = () => page.run(`${element("hint")}.innerText`);
+
+// Waits until the hint says where a register last changed.
+const changed = () => page.until(`/hanged/.test(${element("hint")}.innerText)`);
+
+async function registers() {
+    await open("        li a0,5\nloop:   addi a0,a0,-1\n        bnez a0,loop\n        la a1,end\n        nop\nend:    nop\n");
+    await lab("s 13", "stopped after");
+    const [a0, a1] = [await register("a0"), await register("a1")].map((it) => it.replace("*changed", ""));
+    same("beside the hexadecimal stands the number", a0, "a0 00000000 0");
+    same("or the label at an address", a1, "a1 80000018 end");
+    await page.click("#registers li:nth-child(11)");
+    await changed();
+    const got = (await hintText()).split(/\s+/).join(" ");
+    contains("a click on a register shows all formats", got, /hexadecimal 00000000 signed 0 unsigned 0 characters 0 binary 0{8} /);
+    contains("and where it last changed", got, /Last changed with step 10, from 00000001: 80000004 <loop> line 2 loop: addi a0,a0,-1/);
+    await page.press("Escape");
+    await page.run(`document.querySelector("#registers li").focus()`);
+    await page.press("ArrowRight");
+    await page.press("Enter");
+    await changed();
+    contains("so do arrows and Enter", await hintText(), /^ra x1.*hasn't changed since reset/s);
+    const { x, y } = await page.run(`document.querySelector("#registers li:nth-child(12)").getBoundingClientRect().toJSON()`);
+    await page.call("Input.dispatchMouseEvent", { type: "mouseMoved", x: x + 40, y: y + 5 });
+    await page.until(`/a1 x11.*step 1[23]/s.test(${element("hint")}.innerText)`);
+    check("and a pointer that rests there", true);
+    await press("S", "step 14");
+    same("a step takes it away", await page.run(`${element("hint")}.hidden`), true);
+    await page.call("Input.dispatchMouseEvent", { type: "mouseMoved", x: 5, y: 5 });
+    await open("        li a0,1\n        li s1,200000\nagain:  addi s1,s1,-1\n        bnez s1,again\n        nop\n");
+    await lab("c 400000", "still running");
+    await page.click("#registers li:nth-child(11)");
+    await changed();
+    contains("a change far back is found, too", await hintText(), /Last changed with step 1, from 00000000/);
+    await page.press("Escape");
 }
 
 const showFrom = (where) => page.run(`{
@@ -164,9 +199,8 @@ async function decoded() {
 async function hint() {
     await choose("hello");
     const line = sourceOf("hello").split("\n").findIndex((it) => /\bsw\b/.test(it)) + 1;
-    const shown = `document.querySelectorAll("#colours > div")[${line - 1}]`;
-    const { x, y, height } = await page.run(`${boxOf}(${shown}.getBoundingClientRect())`);
-    await page.call("Input.dispatchMouseEvent", { type: "mouseMoved", x: x + 90, y: y + height / 2 });
+    const { left, top, bottom } = await page.run(`${editor}.charCoords({ line: ${line - 1}, ch: 9 }, "window")`);
+    await page.call("Input.dispatchMouseEvent", { type: "mouseMoved", x: left, y: (top + bottom) / 2 });
     await page.until(`!${element("hint")}.hidden`);
     const text = await page.run(`${element("hint")}.innerText`);
     const got = text.split(/\s+/).join(" ");
@@ -187,27 +221,25 @@ async function key(name, code, modifiers, windowsVirtualKeyCode) {
     await page.call("Input.dispatchKeyEvent", { type: "keyUp", ...words });
 }
 
-const selected = () => page.run(`(({ value, selectionStart, selectionEnd }) => value.slice(selectionStart, selectionEnd))(
-    ${element("text")})`);
-const caret = () => page.run(`${element("text")}.selectionStart`);
+const selected = () => page.run(`${editor}.getSelection()`);
+const caret = () => page.run(`${editor}.indexFromPos(${editor}.getCursor("from"))`);
 
 async function search() {
     await choose("hello");
-    await page.run(`${element("text")}.focus()`);
-    await page.run(`${element("text")}.setSelectionRange(0, 0)`);
+    await page.run(select(0, 0));
     await key("f", "KeyF", 2, 70);
     await page.type("SW");
     const source = sourceOf("hello"), first = source.indexOf("sw"), second = source.indexOf("sw", first + 1);
     same("Control+F searches as one types, whatever the case", `${await selected()} ${await caret()}`, `sw ${first}`);
     same("all places are counted", await page.text("#find-count"), "1 of 2");
-    same("and marked", await page.run(`document.querySelectorAll("#colours mark").length`), 2);
+    same("and marked", await page.run(`document.querySelectorAll(".cm-found").length`), 2);
     await page.press("Enter");
     same("Enter goes on", await caret(), second);
     await page.press("Enter");
     same("and round", await caret(), first);
     await page.press("Escape");
     same("Escape ends it in the source", await page.run("document.activeElement.id"), "text");
-    same("without marks", await page.run(`document.querySelectorAll("#colours mark").length`), 0);
+    same("without marks", await page.run(`document.querySelectorAll(".cm-found").length`), 0);
 }
 
 async function words() {
@@ -215,40 +247,20 @@ async function words() {
     same("registers and labels are offered as operands", offers("x:  lw t0,t"), "t0,t1,table,text");
     same("none in a comment", offers("        nop # t"), "");
     await open("table:  .word 1\n        \n");
-    await page.run(`${element("text")}.focus()`);
-    await page.run(`${element("text")}.setSelectionRange(24, 24)`);
-    await page.type("csrr");
+    await page.run(select(24, 24));
+    await type("csrr");
     await key(" ", "Space", 2, 32);
-    await page.until(`!${element("words")}.hidden`);
-    const offered = await page.run(`[...document.querySelectorAll("#words li")].map((it) => it.textContent).join()`);
+    await page.until(`document.querySelector(".CodeMirror-hint")`);
+    const offered = await page.run(`[...document.querySelectorAll(".CodeMirror-hint")].map((it) => it.textContent).join()`);
     same("Control and the space bar offer words", offered, "csrrc,csrrci,csrrs,csrrsi,csrrw,csrrwi");
     await page.press("ArrowDown");
     const chosen = `document.getElementById(${element("text")}.getAttribute("aria-activedescendant")).textContent`;
     same("a screen reader gets the chosen one", await page.run(chosen), "csrrci");
     await page.press("Enter");
-    same("Enter takes it", await page.run(`${element("text")}.value`), "table:  .word 1\n        csrrci\n");
-    await page.type(" t0,ta");
+    same("Enter takes it", await text(), "table:  .word 1\n        csrrci\n");
+    await type(" t0,ta");
     await key(" ", "Space", 2, 32);
-    const value = await page.run(`${element("text")}.value`);
-    same("a word that alone fits is put in", value, "table:  .word 1\n        csrrci t0,table\n");
-}
-
-// What the page does at each key in a source of 100,000 lines. What the browser's text area takes for it comes before.
-async function latency() {
-    const line = "        addi t0,t0,1            # a line as others are\n";
-    await page.run(`void (${element("text")}.value = ${quoted(line)}.repeat(100000))`);
-    await page.until(`${element("text")}.scrollHeight > 1e6`, 4);
-    const times = await page.run(`(() => {
-        const text = ${element("text")}, times = Array.from({ length: 7 }, () => {
-            const began = performance.now();
-            text.dispatchEvent(new Event("input"));
-            return performance.now() - began;
-        });
-        text.value = "        nop\\n"; // so that the long source isn't assembled
-        text.dispatchEvent(new Event("input"));
-        return times.sort((a, b) => a - b);
-    })()`);
-    check(`at a key in 100,000 lines the page takes ${Math.round(times[0])} ms`, times[0] < 50, times.join(" "));
+    same("a word that alone fits is put in", await text(), "table:  .word 1\n        csrrci t0,table\n");
 }
 
 const phone = { width: 390, height: 844 };
@@ -277,7 +289,7 @@ async function print() {
     await page.run(`${element("panels")}.scrollTop; dispatchEvent(new Event("beforeprint"))`);
     await page.call("Emulation.setEmulatedMedia", { media: "print" });
     await settle();
-    same("a print has all lines", await page.run(`document.querySelectorAll("#colours > div").length`), 401);
+    same("a print has all lines", await page.run(`document.querySelectorAll(".CodeMirror-line").length`), 401);
     const shown = `["controls", "load", "ask", "tabs"].filter((id) => document.getElementById(id).checkVisibility())`;
     same("and no controls", (await page.run(shown)).join(), "");
     const { data } = await page.call("Page.printToPDF", {});
@@ -285,7 +297,7 @@ async function print() {
     check(`on ${count} pages`, count > 4 && count < 40);
     await page.call("Emulation.setEmulatedMedia", { media: "" });
     await page.run(`dispatchEvent(new Event("afterprint"))`);
-    check("after it the lines in sight", (await page.run(`document.querySelectorAll("#colours > div").length`)) < 200);
+    check("after it the lines in sight", (await page.run(`document.querySelectorAll(".CodeMirror-line").length`)) < 200);
 }
 
-await learn(panes, controls, formats, memory, stack, decoded, hint, search, words, onPhone, print, latency);
+await learn(panes, controls, formats, registers, memory, stack, decoded, hint, search, words, onPhone, print);

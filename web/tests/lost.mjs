@@ -1,9 +1,8 @@
 // node web/tests/lost.mjs PROGRAM: whatever is under way, Pause and Assemble work, and a worker that is lost is replaced.
 import fs from "node:fs";
 import { check, contains, same } from "./checks.mjs";
-import { answer, answers, choose, idle, lab, learn, native, open, page, press, printed, sourceOf, top } from "./user.mjs";
-
-const text = () => page.run(`document.getElementById("text").value`);
+import { answer, answers, choose, clickLine, idle, lab, learn, mark, native, open, page, press, printed } from "./user.mjs";
+import { sourceOf, text, top } from "./user.mjs";
 
 // Gives a command of the lab that goes on for long, and pauses it.
 async function paused(line) {
@@ -34,7 +33,7 @@ async function monitorRuns() {
 // The instance never ends a call.
 async function hung() {
     await choose("hello");
-    await page.click('#gutter li[value="4"]');
+    await clickLine(4);
     await answers("breakpoint at line");
     await idle();
     await page.runInWorker("lab.command = () => { for (;;); }");
@@ -49,7 +48,7 @@ async function hung() {
 async function works(when) {
     same(`${when} the text is still there`, await text(), sourceOf("hello"));
     await press("A", "Assembled");
-    contains(`${when} the breakpoint is still there`, await page.text("#gutter"), /●4/);
+    same(`${when} the breakpoint is still there`, await mark(4), "●");
     await press("R", "breakpoint after");
     await press("R", "halted with code 0");
     check(`${when} the board runs again`, (await printed()).startsWith("H\n"));

@@ -30,6 +30,8 @@ async function latin1() {
     const all = bytes(SEND, HALT, 'text:   .asciz "d', [0xe9], 'j', [0xe0], '"   # ', [0xfc], "\n");
     await openBytes(all, "Bytes that are no text");
     contains("bytes that are no UTF-8 are told, with their place", await answer(), /line 12, column 18: 3\./);
+    const shown = await page.run(`[...document.querySelectorAll(".cm-odd")].map((it) => it.textContent).join()`);
+    same("they are shown as what they are", shown, "\\xe9,\\xe0,\\xfc");
     await press("R", "halted with code");
     same("they are sent as they are", await printed(), native(all));
     await saves("and saved", all);

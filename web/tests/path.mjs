@@ -5,7 +5,8 @@ import fs from "node:fs";
 import path from "node:path";
 import { judge, readLesson } from "../lesson.mjs";
 import { check, contains, same } from "./checks.mjs";
-import { agree, answer, answers, idle, learn, page, press, room, top, url } from "./user.mjs";
+import * as source from "./source.mjs";
+import { agree, answer, answers, idle, learn, page, press, room, text, top, url } from "./user.mjs";
 
 const lessons = `${top}/web/lessons`;
 const textOf = (name) => fs.readFileSync(`${lessons}/${name}.lesson`, "utf8");
@@ -53,11 +54,7 @@ async function files() {
 }
 
 const results = `[...document.querySelectorAll("#lesson-results li")].map((it) => it.className).join()`;
-const put = (source) => page.run(`(() => {
-    const text = document.getElementById("text");
-    text.value = ${JSON.stringify(source)};
-    text.dispatchEvent(new Event("input"));
-})()`);
+const put = (it) => page.run(source.put(it));
 
 // Checks the lesson once the board is at rest: what is said of a program that is still being assembled would come
 // after the check's own answer, and hide it.
@@ -73,7 +70,7 @@ async function each() {
     await page.until(`!document.getElementById("lesson").hidden`);
     for (const [i, [name, changes]] of Object.entries(ANSWERS).entries()) {
         const lesson = readLesson(textOf(name));
-        await page.until(`document.getElementById("text").value === ${JSON.stringify(lesson.program)}`);
+        await page.until(`${source.text} === ${JSON.stringify(lesson.program)}`);
         await idle();
         same(`lesson ${i + 1} is ${name}`, await page.text("#lesson-text h2"), lesson.title);
         const all = "document.documentElement.scrollHeight <= innerHeight";
@@ -104,7 +101,7 @@ async function refused() {
     check("a source that is refused is told as one", true);
     await page.click("#lesson-again");
     await agree();
-    await page.until(`document.getElementById("text").value === ${JSON.stringify(readLesson(textOf("protection")).program)}`);
+    await page.until(`${source.text} === ${JSON.stringify(readLesson(textOf("protection")).program)}`);
     check("Start again brings the program back", true);
     await page.runInWorker(`{
         self.kept = acts.examine;
@@ -128,14 +125,14 @@ async function linked() {
     check("web/lesson makes a link of a file", stdout.startsWith(`${url}#lesson=`), stdout);
     await page.visit(stdout.trim());
     same("a teacher's own lesson comes by a link, as text", await page.text("#lesson-text h2"), "My <b>own</b> lesson");
-    same("with its program", await page.run(`document.getElementById("text").value`), "        li a0,3\n        nop\n");
+    same("with its program", await text(), "        li a0,3\n        nop\n");
     await checked("Not yet");
     await put("        li a0,4\n        nop\n");
     await checked("Done");
     check("and its check", true);
     await page.reload();
     same("it outlives a reload", await page.text("#lesson-text h2"), "My <b>own</b> lesson");
-    same("with what is typed", await page.run(`document.getElementById("text").value`), "        li a0,4\n        nop\n");
+    same("with what is typed", await text(), "        li a0,4\n        nop\n");
     for (const wrong of ["nowhere", "constructor", "%zz"]) {
         await page.visit(`${url}?x#lesson=${wrong}`);
         contains(`${wrong} is told as no lesson`, await answer(), /The link holds no lesson/);

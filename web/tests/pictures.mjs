@@ -2,6 +2,7 @@
 // that has stopped at a breakpoint, and a lesson. Four of them stand in docs/pictures, with fewer colours.
 import { fileURLToPath } from "node:url";
 import { openPage } from "./chromium.mjs";
+import { clickLine } from "./source.mjs";
 
 const folder = process.argv[2];
 const url = `file://${fileURLToPath(new URL("../../out/web/index.html", import.meta.url))}`;
@@ -13,9 +14,7 @@ const click = (id) => `document.getElementById("${id}").click()`;
 // Opens an example, sets a breakpoint, runs up to it, and takes a step.
 async function stop(page, width) {
     await page.visit(`${url}#example=recursion`);
-    await page.run(`document.getElementById("text").scrollTop = 300`);
-    await page.until(`document.querySelector('#gutter li[value="25"]')`);
-    await page.run(`document.querySelector('#gutter li[value="25"]').click()`);
+    await clickLine(page, 25);
     await page.until(`document.getElementById("answer").textContent.includes("breakpoint at line 25")`);
     await page.run(click("run"));
     await page.until(`document.getElementById("answer").textContent.includes("breakpoint after")`);

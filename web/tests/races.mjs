@@ -1,6 +1,7 @@
 // node web/tests/races.mjs PROGRAM: what is asked while something is under way. Tabs that are opened one right after
 // another, in a step and in a run; answers that come late; controls that are pressed again and again.
 import { check, same } from "./checks.mjs";
+import { text } from "./source.mjs";
 import { answer, answers, choose, idle, learn, open, page, press, quoted, typeOver, where } from "./user.mjs";
 
 const TABS = ["control", "memory", "stack", "listing", "instruction", "traps", "devices", "protection", "repeat"];
@@ -152,10 +153,10 @@ async function lateFaults() {
     await choose("hello");
     await slow("checker", "load", 500);
     await page.run(`(() => {
-        const text = document.getElementById("text"), faults = document.getElementById("faults");
+        const faults = document.getElementById("faults");
         window.isLate = false;
         new MutationObserver(() => {
-            if (faults.querySelector("button") && !text.value.includes("LI")) window.isLate = true;
+            if (faults.querySelector("button") && !${text}.includes("LI")) window.isLate = true;
         }).observe(faults, { childList: true, subtree: true });
     })()`);
     await typeOver("li ", "LI ");

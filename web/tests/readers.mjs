@@ -1,6 +1,7 @@
 // node web/tests/readers.mjs PROGRAM: what a screen reader reads, and when; and keys, also of other keyboards.
 import { check, contains, same } from "./checks.mjs";
-import { answer, answers, choose, idle, learn, open, page, press, sourceOf, typeOver } from "./user.mjs";
+import * as source from "./source.mjs";
+import { answer, answers, choose, idle, learn, open, page, press, sourceOf, text, type, typeOver } from "./user.mjs";
 
 const CONTROLS = ["Assemble", "Run", "Pause", "Step", "Step over", "Step out", "Step back", "Undo", "Reset", "Run to trap"];
 CONTROLS.push("Why? Explain the trap", "Breakpoint");
@@ -101,8 +102,6 @@ async function keyboards() {
     }
 }
 
-const text = () => page.run(`document.getElementById("text").value`);
-
 // Presses Control and a key; `commands` are those of the browser's editor.
 async function control(key, code, windowsVirtualKeyCode, commands = []) {
     const words = { key, code, modifiers: 2, windowsVirtualKeyCode };
@@ -110,6 +109,7 @@ async function control(key, code, windowsVirtualKeyCode, commands = []) {
     await page.call("Input.dispatchKeyEvent", { type: "keyUp", ...words });
 }
 
+const pause = () => new Promise((done) => setTimeout(done, 1500));
 const undo = () => control("z", "KeyZ", 90, ["undo"]);
 
 async function editing() {
@@ -117,20 +117,28 @@ async function editing() {
     const before = sourceOf("hello");
     await typeOver("# H", "# abc");
     const typed = await text();
+    await pause(); // what is typed without one is undone as one
     await control("]", "BracketRight", 221);
-    same("Control and ] indents", await text(), typed.replace("# abc", `# abc${" ".repeat(8)}`));
+    same("Control and ] indents", await text(), typed.split("\n").map((it) => it.replace(/^(.*# abc)/, "        $1")).join("\n"));
     await undo();
     same("it can be undone", await text(), typed);
     await undo();
     same("and what was typed before, too", await text(), before);
-    await typeOver("# H", "# H");
+    const end = before.indexOf("# H") + 3;
+    await page.run(source.select(end, end));
     await page.press("Enter");
-    await page.type("nop");
+    await type("nop");
     same("Enter keeps the indentation", await text(), before.replace("# H", "# H\n        nop"));
     await undo();
     await undo();
-    await page.until(`document.getElementById("text").value === ${JSON.stringify(before)}`);
+    await page.until(`${source.text} === ${JSON.stringify(before)}`);
     check("and can be undone", true);
+    await page.run(`${source.editor}.replaceSelection("# a\\r\\n# b\\r", "end", "paste")`);
+    same("what is pasted gets the line ends of the source", (await text()).match(/# a.*?# b./s)[0], "# a\n# b\n");
+    await choose("timer");
+    await page.run(`${source.editor}.focus()`);
+    await undo();
+    same("Undo doesn't go back to another program", await text(), sourceOf("timer"));
 }
 
 await learn(faults, console_, names, keyboards, editing);

@@ -8,7 +8,7 @@ import { check, contains, same } from "./checks.mjs";
 import { answer, choose, lab, learn, open, page, top, url } from "./user.mjs";
 
 // What has a colour in a line, each with its kind.
-const coloured = (line) => [...colourLine(line).matchAll(/class="(\w+)">(.*?)</g)].map(([, kind, text]) => `${kind} ${text}`);
+const coloured = (line) => [...colourLine(line).matchAll(/class="cm-(\w+)">(.*?)</g)].map(([, kind, text]) => `${kind} ${text}`);
 
 const COLOURS = [
     ["end :", "label end :"],
@@ -58,7 +58,7 @@ async function labelled() {
     })()`);
     const row = `document.querySelector("#panel-memory tbody td:last-child")?.textContent`;
     await page.until(`${row}?.includes("first")`);
-    same("all labels of a line stand in memory", await page.run(row), "◀ pc, first, second, end +4");
+    same("all labels of a line stand in memory", await page.run(row), "◀ pc, first, second, end at …04");
 }
 
 // Opens a link with these breakpoints, and returns how many are set.

@@ -7,6 +7,7 @@ import path from "node:path";
 import { fileURLToPath } from "node:url";
 import { check, finish, same } from "./checks.mjs";
 import { openPage } from "./chromium.mjs";
+import * as source_ from "./source.mjs";
 
 const program = path.resolve(process.argv[2]);
 export const top = fileURLToPath(new URL("../..", import.meta.url));
@@ -53,9 +54,7 @@ const isAtReset = () => page.until(`/step 0$/.test(document.getElementById("wher
 export async function open(source, inputs = "", pages = 256) {
     await idle();
     await page.run(`(() => {
-        const text = document.getElementById("text");
-        text.value = ${quoted(source)};
-        text.dispatchEvent(new Event("input"));
+        ${source_.put(source)};
         document.getElementById("inputs").value = ${quoted(inputs)};
         document.getElementById("pages").value = ${pages};
         document.getElementById("answer").textContent = "";
@@ -88,14 +87,20 @@ export async function agree() {
     await page.click("#agree");
 }
 
+// The source, the mark beside a line, and all marks.
+export const text = () => page.run(source_.text);
+export const mark = (line) => page.run(source_.mark(line));
+export const marks = () => page.run(source_.marks);
+
+// Clicks the number of a line.
+export const clickLine = (line) => source_.clickLine(page, line);
+
 // Types over the first place of a text in the source.
-export async function typeOver(old, text) {
-    await page.run(`(() => {
-        const text = document.getElementById("text"), at = text.value.indexOf(${quoted(old)});
-        text.focus();
-        text.setSelectionRange(at, at + ${old.length});
-    })()`);
-    await page.type(text);
+export const typeOver = (old, text) => source_.typeOver(page, old, text);
+
+// Types some characters, each by its key.
+export async function type(text) {
+    for (const it of text) await page.call("Input.dispatchKeyEvent", { type: "char", text: it });
 }
 
 const forget = () => page.run(`document.getElementById("answer").textContent = ""`);
