@@ -146,23 +146,32 @@ async function send(text) {
 }
 
 /**
- * A form with a line: its button and Enter do something with that. Nothing is submitted: a frame may not.
+ * A form with a line: its button and Enter do something with that, and arrows bring back what was given. Nothing is
+ * submitted: a frame may not.
  * @param {string} form
  * @param {string} line
  * @param {(text: string) => unknown} act
  */
 function makeForm(form, line, act) {
+    /** @type {string[]} */
+    const given = [];
+    let at = 0; // the place of what is shown among what was given
     const give = async () => {
         const text = field(line).value;
+        if (text && text !== given[given.length - 1]) given.push(text);
+        at = given.length;
         field(line).value = "";
         if (!(await interrupt(() => act(text)))) field(line).value = text;
     };
     $(form).addEventListener("submit", (event) => event.preventDefault());
     $(form).querySelector("button")?.addEventListener("click", give);
     $(line).addEventListener("keydown", (event) => {
-        if (event.key !== "Enter" || event.isComposing) return;
+        const move = { ArrowUp: -1, ArrowDown: 1 }[event.key] ?? 0;
+        if (event.isComposing || (event.key !== "Enter" && !move)) return;
         event.preventDefault();
-        give();
+        if (!move) return give();
+        at = Math.min(given.length, Math.max(0, at + move));
+        field(line).value = given[at] ?? "";
     });
 }
 
@@ -193,10 +202,10 @@ async function start() {
     makeWords();
     makeEditor({ onChange: typed, onBreakpoint: (line) => interrupt(() => setOrClear(line)) });
     makeFinder();
-    makeHint();
     makeFaults();
     makeRegisters();
     makeTabs(changeTab);
+    makeHint();
     makeLines();
     makeMemory(() => tabs.changed());
     makeDialogs();
