@@ -9,14 +9,22 @@ const OTHERS = ["Load the example", "Send the text", "Do the command"];
 
 const nodes = async () => (await page.call("Accessibility.getFullAXTree")).nodes.filter((node) => !node.ignored);
 
-// What is read of an element that is found by its role, with all that is in it.
-async function readOf(role) {
-    const all = await nodes(), byId = new Map(all.map((node) => [node.nodeId, node]));
-    const texts = ({ role, name, childIds }) => {
-        if (role.value === "StaticText") return [name.value];
+// What is read of the first element of a role, or of that with a name, with all that is in it.
+async function readOf(role, name) {
+    const { nodes: all } = await page.call("Accessibility.getFullAXTree");
+    const byId = new Map(all.map((node) => [node.nodeId, node]));
+    const texts = ({ ignored, role, name, childIds }) => {
+        if (role?.value === "StaticText" && !ignored) return [name.value];
         return (childIds ?? []).flatMap((id) => (byId.has(id) ? texts(byId.get(id)) : []));
     };
-    return texts(all.find((node) => node.role?.value === role)).join("");
+    const isIt = (node) => !node.ignored && node.role?.value === role && (!name || node.name?.value === name);
+    return texts(all.find(isIt)).join("");
+}
+
+async function lines() {
+    await choose("hello");
+    const read = (await readOf("textbox", "Source")).replaceAll("\u200b", "");
+    same("the source is read as its lines, without their numbers", read, sourceOf("hello").replaceAll("\n", ""));
 }
 
 // Notes each text that comes into an element, and how many go, from now on.
@@ -141,4 +149,4 @@ async function editing() {
     same("Undo doesn't go back to another program", await text(), sourceOf("timer"));
 }
 
-await learn(faults, console_, names, keyboards, editing);
+await learn(lines, faults, console_, names, keyboards, editing);
