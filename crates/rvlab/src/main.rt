@@ -7,6 +7,7 @@
 
 mod json;
 mod save;
+mod stop;
 mod talk;
 mod words;
 

@@ -1,5 +1,6 @@
 //! The talk with a lab: reads commands and writes their answers.
 use crate::save::saved;
+use crate::stop::StopFile;
 use rv_base::NoMemory;
 use rv_lab::{Lab, Next, Printer, Reply};
 use std::io::{BufRead, IsTerminal, StdinLock, Write};
@@ -79,18 +80,36 @@ fn finish(
     Ok(reply.next)
 }
 
-/// Executes a command, and writes its answers as they come. Returns what follows once no run goes on.
+/// Tells where a run was stopped by hand. Another command follows.
+fn tell_interrupted(
+    rt: &HostRuntime,
+    lab: &mut Lab,
+    text: &mut Printer,
+) -> Result<Next, TalkFault> {
+    print(rt, b"interrupted; c goes on\n")?;
+    let reply = lab.answer(b"w");
+    finish(rt, lab, reply, text)
+}
+
+/// Executes a command, and writes its answers as they come. Returns what follows once no run goes on, or
+/// once it was stopped by hand.
 fn execute(
     rt: &HostRuntime,
     lab: &mut Lab,
     line: &[u8],
+    stop: &StopFile,
     text: &mut Printer,
 ) -> Result<Next, TalkFault> {
+    // What was asked before this command stops nothing.
+    let _ = stop.take(rt);
     let reply = lab.answer(line);
     let mut next = finish(rt, lab, reply, text)?;
     for _ in 0..u64::MAX {
         if !matches!(next, Next::Running) {
             break;
+        }
+        if stop.take(rt) {
+            return tell_interrupted(rt, lab, text);
         }
         let before = lab.steps();
         let reply = lab.go_on();
@@ -115,6 +134,7 @@ fn talk_once(
     lab: &mut Lab,
     reader: &mut StdinLock<'_>,
     line: &mut Vec<u8>,
+    stop: &StopFile,
     answer: &mut Printer,
 ) -> Result<bool, TalkFault> {
     print(rt, b"> ")?;
@@ -123,7 +143,7 @@ fn talk_once(
         return Ok(false);
     }
     echo(rt, line)?;
-    let next = execute(rt, lab, line, answer)?;
+    let next = execute(rt, lab, line, stop, answer)?;
     Ok(!matches!(next, Next::Quit))
 }
 
@@ -132,10 +152,11 @@ fn talk_once(
 pub fn talk(rt: &HostRuntime, lab: &mut Lab, answer: &mut Printer) -> Result<(), TalkFault> {
     let mut reader = rt.reader();
     let mut line = Vec::new(rt.alloc());
+    let stop = StopFile::from_env(rt);
     let mut goes_on = Ok(true);
     for _ in 0..u64::MAX {
         match goes_on {
-            Ok(true) => goes_on = talk_once(rt, lab, &mut reader, &mut line, answer),
+            Ok(true) => goes_on = talk_once(rt, lab, &mut reader, &mut line, &stop, answer),
             _ => break,
         }
     }
