@@ -1,8 +1,10 @@
-//! Tests of the lines of a source, their tokens, and their statements.
+//! Tests of the lines of a source, their tokens, their statements, and the listings of sources.
 #![tactic(auto)]
 
 #[cfg(test)]
 mod lines;
+#[cfg(test)]
+mod listings;
 #[cfg(test)]
 mod statements;
 #[cfg(test)]

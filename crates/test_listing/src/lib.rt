@@ -1,5 +1,0 @@
-//! Tests of the listings of sources.
-#![tactic(auto)]
-
-#[cfg(test)]
-mod listings;
