@@ -1,7 +1,7 @@
 //! Boards: an image that is too large, and steps that are refused. Rows of test_rows have the other boot
 //! faults.
-use crate::memories::OwnMemory;
-use crate::programs::program;
+use super::memories::OwnMemory;
+use super::programs::program;
 use rv_asm::Program;
 use rv_board::{Board, BootFault, BootedBoard, Event};
 use rv_cache::{DecodeCache, Decoded, NoCache};

@@ -1,6 +1,6 @@
 //! Sessions whose steps are refused because memory ran out, and sessions that go back.
-use crate::memories::OwnMemory;
-use crate::programs::program;
+use super::memories::OwnMemory;
+use super::programs::program;
 use rv_asm::Program;
 use rv_board::Board;
 use rv_cache::{Decoded, NoCache};

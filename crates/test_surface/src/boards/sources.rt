@@ -1,6 +1,6 @@
 //! Sources that can't be rows of test_rows, for their line ends, their bytes or their size. Rows there have
 //! the image of each mnemonic and directive, and each fault.
-use crate::programs::{assemble_source, program};
+use super::programs::{assemble_source, program};
 use rv_asm::{AsmFault, FaultKind, Program};
 use std::alloc::Global;
 use std::test::Fail;

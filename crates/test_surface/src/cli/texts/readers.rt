@@ -1,7 +1,7 @@
 //! Readers of the source, the timed list and the commands that fail.
 ghost use Rattle.std.specs.Prelude.{◌≡◌, false};
 
-use crate::runs::{DEFAULTS, HELLO};
+use crate::cli::runs::{DEFAULTS, HELLO};
 use rv_cli::{CliFault, Ending, MemoryIn, MemoryOut, TextOut, run_text};
 use std::alloc::Global;
 

@@ -3,7 +3,7 @@ ghost use Rattle.std.specs.Prelude.{◌≡◌, false};
 
 mod readers;
 
-use crate::runs::{DEFAULTS, HELLO};
+use crate::cli::runs::{DEFAULTS, HELLO};
 use rv_cli::{
     CliFault, Ending, FileIn, FileOut, InFailed, MemoryIn, MemoryOut, Options, TextIn, TextOut,
     exit_status, run_text,

@@ -1,8 +1,8 @@
 //! The words of the command line: those that are accepted, those that are refused, and the help.
 mod rows;
 
-use crate::runs::DEFAULTS;
-use crate::words::rows::{ALL_FIELDS, FIVE_STEPS, Gives, ONE_FIELD, REFUSED};
+use crate::cli::runs::DEFAULTS;
+use crate::cli::words::rows::{ALL_FIELDS, FIVE_STEPS, Gives, ONE_FIELD, REFUSED};
 use clap::error::ErrorKind;
 use rv_cli::{Options, Origin, Words, read_words, refusal_status};
 use std::alloc::{AllocError, Global};
