@@ -2,7 +2,7 @@
 //! sizes.
 use crate::calls::{calls_agree, more_calls_agree};
 use crate::devices::append_devices;
-use crate::row::{Row, argument};
+use crate::row::{Row, argument, copy_line};
 use rv_asm::{Program, assemble};
 use rv_base::{NoMemory, cut_lines};
 use rv_board::{Board, BootedBoard};
@@ -82,29 +82,28 @@ pub fn paged_session(
     Ok(Session::new(alloc, board, timeline, program, limit(row)))
 }
 
+/// Appends the answer to a command.
+fn append_answer<M: ByteMemory, C: Decoded>(
+    session: &mut Session<M, C>,
+    command: &[u8],
+    text: &mut Vec<u8>,
+) -> Result<(), NoMemory> {
+    let next = session.command(command, text)?;
+    if next == Next::Quit {
+        text.extend_from_slice(b"no more commands\n")?;
+    }
+    Ok(())
+}
+
 /// Appends a line of a row with the answer to it, or nothing where the line is an answer itself.
 fn answer_line<M: ByteMemory, C: Decoded>(
     session: &mut Session<M, C>,
     line: &[u8],
     text: &mut Vec<u8>,
 ) -> Result<(), NoMemory> {
-    let Some(&mark) = line.first() else {
-        return Ok(());
-    };
-    if !matches!(mark, b'#' | b' ' | b'@' | b'=' | b'^' | b'>' | b'!') {
-        return Ok(());
-    }
-    text.extend_from_slice(line)?;
-    text.extend_from_slice(b"\n")?;
-    match mark {
-        b'>' => {
-            let next = session.command(argument(line), text)?;
-            if next == Next::Quit {
-                text.extend_from_slice(b"no more commands\n")?;
-            }
-            Ok(())
-        }
-        b'!' => append_devices(session.board(), text),
+    match copy_line(line, b"# @=^>!", text)? {
+        Some(b'>') => append_answer(session, argument(line), text),
+        Some(b'!') => append_devices(session.board(), text),
         _ => Ok(()),
     }
 }

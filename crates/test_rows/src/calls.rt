@@ -22,21 +22,46 @@ fn next_random(random: u32) -> u32 {
     random.wrapping_mul(1_664_525).wrapping_add(1_013_904_223)
 }
 
+/// Appends an input before a step, by its words and the digit after them.
+fn append_input(
+    alloc: Global,
+    time: u64,
+    words: &str,
+    digit: u32,
+    timed: &mut Vec<u8>,
+) -> Result<(), NoMemory> {
+    let line = format!(in alloc; "{time} {words}{digit}\n")?;
+    timed.extend_from_slice(line.as_bytes())?;
+    Ok(())
+}
+
+/// Appends the inputs before a step that a random number says.
+fn append_inputs(
+    alloc: Global,
+    time: u64,
+    random: u32,
+    timed: &mut Vec<u8>,
+) -> Result<(), NoMemory> {
+    let level = random >> 30 & 1;
+    match random >> 26 & 31 {
+        0 => append_input(alloc, time, "rx 4", level, timed),
+        1 => append_input(alloc, time, "line 3 ", level, timed),
+        2 => append_input(alloc, time, "line 25 ", level, timed),
+        3 => {
+            append_input(alloc, time, "line 4 ", 1, timed)?;
+            append_input(alloc, time, "line 4 ", 0, timed)
+        }
+        _ => Ok(()),
+    }
+}
+
 /// Returns a timed list in which about each eighth step has an input.
 fn random_inputs(alloc: Global, seed: u32) -> Result<Vec<u8>, NoMemory> {
     let mut timed = Vec::new(alloc);
     let mut random = seed;
     for time in 0..STEPS {
         random = next_random(random);
-        let level = random >> 30 & 1;
-        let lines = match random >> 26 & 31 {
-            0 => format!(in alloc; "{time} rx 4{level}\n")?,
-            1 => format!(in alloc; "{time} line 3 {level}\n")?,
-            2 => format!(in alloc; "{time} line 25 {level}\n")?,
-            3 => format!(in alloc; "{time} line 4 1\n{time} line 4 0\n")?,
-            _ => format!(in alloc; "")?,
-        };
-        timed.extend_from_slice(lines.as_bytes())?;
+        append_inputs(alloc, time, random, &mut timed)?;
     }
     Ok(timed)
 }

@@ -11,10 +11,20 @@ const PENDING: u32 = 0x1000;
 const CLAIM: u32 = 0x20_0004;
 
 /// Appends a name and a number.
-fn append_number(name: &[u8], number: u32, text: &mut Vec<u8>) -> Result<(), NoMemory> {
-    text.extend_from_slice(name)?;
+fn append_number(name: &str, number: u32, text: &mut Vec<u8>) -> Result<(), NoMemory> {
+    text.extend_from_slice(name.as_bytes())?;
     text.extend_from_slice(b"=")?;
     text.extend_from_slice(&word_digits(number))?;
+    Ok(())
+}
+
+/// Appends the bytes that were sent, and the end of the line.
+fn append_sent(console: &[u8], text: &mut Vec<u8>) -> Result<(), NoMemory> {
+    text.extend_from_slice(b" sent=")?;
+    for byte in console {
+        text.extend_from_slice(&byte_digits(*byte))?;
+    }
+    text.extend_from_slice(b"\n")?;
     Ok(())
 }
 
@@ -25,16 +35,17 @@ pub fn append_devices<M: ByteMemory, C: Decoded>(
     board: &Board<M, C>,
     text: &mut Vec<u8>,
 ) -> Result<(), NoMemory> {
-    append_number(b"waiting", board.serial().waiting() as u32, text)?;
-    append_number(b" lost", board.serial().overrun() as u32, text)?;
-    append_number(b" pending", board.plic().peek(PENDING), text)?;
-    append_number(b" claim", board.plic().peek(CLAIM), text)?;
-    append_number(b" time", low_word(board.timer().time()), text)?;
-    append_number(b" compared", low_word(board.timer().compare()), text)?;
-    text.extend_from_slice(b" sent=")?;
-    for byte in board.console() {
-        text.extend_from_slice(&byte_digits(*byte))?;
+    let (serial, plic, timer) = (board.serial(), board.plic(), board.timer());
+    let numbers = [
+        ("waiting", serial.waiting() as u32),
+        (" lost", serial.overrun() as u32),
+        (" pending", plic.peek(PENDING)),
+        (" claim", plic.peek(CLAIM)),
+        (" time", low_word(timer.time())),
+        (" compared", low_word(timer.compare())),
+    ];
+    for (name, number) in numbers {
+        append_number(name, number, text)?;
     }
-    text.extend_from_slice(b"\n")?;
-    Ok(())
+    append_sent(board.console(), text)
 }

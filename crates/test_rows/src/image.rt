@@ -1,6 +1,6 @@
 //! The image of a row, and its names.
 use crate::boards::program;
-use crate::row::{Row, argument, number};
+use crate::row::{Row, argument, copy_line, number};
 use rv_asm::Program;
 use rv_base::{NoMemory, RAM_BASE, byte_digits, cut_lines, word_digits};
 use std::alloc::Global;
@@ -30,6 +30,13 @@ fn append_line(
     Ok(())
 }
 
+/// Appends the size of an image.
+fn append_size(alloc: Global, size: usize, text: &mut Vec<u8>) -> Result<(), NoMemory> {
+    let line = format!(in alloc; "{size} bytes\n")?;
+    text.extend_from_slice(line.as_bytes())?;
+    Ok(())
+}
+
 /// Appends the size of an image, and then all its bytes, `size` of them as one number; none where `size` is
 /// 0.
 fn append_image(
@@ -38,8 +45,7 @@ fn append_image(
     size: usize,
     text: &mut Vec<u8>,
 ) -> Result<(), NoMemory> {
-    let total = format!(in alloc; "{} bytes\n", bytes.len())?;
-    text.extend_from_slice(total.as_bytes())?;
+    append_size(alloc, bytes.len(), text)?;
     if size == 0 {
         return Ok(());
     }
@@ -70,20 +76,12 @@ fn answer_line(
     line: &[u8],
     text: &mut Vec<u8>,
 ) -> Result<(), NoMemory> {
-    let Some(&mark) = line.first() else {
-        return Ok(());
-    };
-    if !matches!(mark, b'#' | b' ' | b'%' | b'&') {
-        return Ok(());
-    }
-    text.extend_from_slice(line)?;
-    text.extend_from_slice(b"\n")?;
-    match mark {
-        b'%' => {
+    match copy_line(line, b"# %&", text)? {
+        Some(b'%') => {
             let size = usize::try_from(number(argument(line))).unwrap_or(0);
             append_image(alloc, program.bytes(), size, text)
         }
-        b'&' => append_value(alloc, program.symbol(argument(line)), text),
+        Some(b'&') => append_value(alloc, program.symbol(argument(line)), text),
         _ => Ok(()),
     }
 }

@@ -1,5 +1,5 @@
 //! What is printed of rows.
-use crate::row::Row;
+use crate::row::{Row, append_line};
 use std::alloc::{AllocError, Global};
 
 /// How many rows were answered, and how many of them differently.
@@ -40,13 +40,6 @@ pub struct Report {
     pub answers: Vec<u8>,
     /// A few lines for each row that has other answers, and the counts.
     pub differences: Vec<u8>,
-}
-
-/// Appends a word and a part of a text on a line of their own.
-fn append_line(word: &[u8], part: &[u8], text: &mut Vec<u8>) -> Result<(), AllocError> {
-    text.extend_from_slice(word)?;
-    text.extend_from_slice(part)?;
-    text.extend_from_slice(b"\n")
 }
 
 /// Returns the line of a text that has the byte at `index`.

@@ -1,6 +1,6 @@
 //! Rows and their lines.
 use rv_base::{NoMemory, cut_lines, decimal};
-use std::alloc::Global;
+use std::alloc::{AllocError, Global};
 
 /// The text of a row: its title, what it asks, and the answers.
 #[derive(Clone, Copy)]
@@ -22,6 +22,26 @@ pub fn first_row(text: &[u8]) -> Option<(Row<'_>, &[u8])> {
 /// Returns what stands in a line after its first byte and the blank that follows it.
 pub fn argument(line: &[u8]) -> &[u8] {
     line.get(2..).unwrap_or(b"")
+}
+
+/// Appends a line with a text in front of it.
+pub fn append_line(front: &[u8], line: &[u8], text: &mut Vec<u8>) -> Result<(), AllocError> {
+    text.extend_from_slice(front)?;
+    text.extend_from_slice(line)?;
+    text.extend_from_slice(b"\n")
+}
+
+/// Appends a line that begins with one of these bytes, and returns that byte. It appends no other line: that is an
+/// answer, which is given anew.
+pub fn copy_line(line: &[u8], marks: &[u8], text: &mut Vec<u8>) -> Result<Option<u8>, AllocError> {
+    let Some(&mark) = line.first() else {
+        return Ok(None);
+    };
+    if !marks.contains(&mark) {
+        return Ok(None);
+    }
+    append_line(b"", line, text)?;
+    Ok(Some(mark))
 }
 
 /// Returns the value of up to ten decimal digits, or 0 for any other text.
@@ -48,8 +68,7 @@ impl<'a> Row<'a> {
         let mut part = Vec::new(alloc);
         for line in cut_lines(self.text) {
             if line.first() == Some(&mark) {
-                part.extend_from_slice(argument(line))?;
-                part.extend_from_slice(b"\n")?;
+                append_line(b"", argument(line), &mut part)?;
             }
         }
         Ok(part)

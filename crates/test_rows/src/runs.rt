@@ -1,7 +1,7 @@
 //! Whole runs of the texts of a row, as the program `rvboard` does them.
 ghost use Rattle.std.specs.Prelude.{◌≡◌, IfSome, false};
 
-use crate::row::{Row, argument, number};
+use crate::row::{Row, argument, copy_line, number};
 use rv_base::{NoMemory, cut_lines};
 use rv_cli::{
     CliFault, Ending, MemoryIn, MemoryOut, Options, TextOut, exit_status, fault_line, run_text,
@@ -26,7 +26,7 @@ fn commands_in(commands: Option<&[u8]>) -> Option<MemoryIn<'_>>
 }
 
 /// Runs texts, and returns how the run ended and what it wrote.
-fn run_texts(
+pub fn run_texts(
     alloc: Global,
     source: &[u8],
     inputs: &[u8],
@@ -48,6 +48,22 @@ fn run_texts(
     (outcome, out)
 }
 
+/// Appends what a run printed, the line of its fault, and its status.
+fn append_outcome(
+    alloc: Global,
+    outcome: &Result<Ending, CliFault>,
+    printed: &[u8],
+    text: &mut Vec<u8>,
+) -> Result<(), NoMemory> {
+    text.extend_from_slice(printed)?;
+    if let Err(fault) = outcome {
+        fault_line(fault, text)?;
+    }
+    let status = format!(in alloc; "status {}\n", exit_status(outcome))?;
+    text.extend_from_slice(status.as_bytes())?;
+    Ok(())
+}
+
 /// Appends what a run of the row's texts prints, the line of its fault, and its status.
 fn append_run(
     alloc: Global,
@@ -60,13 +76,7 @@ fn append_run(
     let commands = row.lines_of(alloc, b':')?;
     let given = row.has(b':').then_some(commands.as_slice());
     let (outcome, out) = run_texts(alloc, source.as_slice(), inputs.as_slice(), given, options);
-    text.extend_from_slice(out.bytes())?;
-    if let Err(fault) = &outcome {
-        fault_line(fault, text)?;
-    }
-    let status = format!(in alloc; "status {}\n", exit_status(&outcome))?;
-    text.extend_from_slice(status.as_bytes())?;
-    Ok(())
+    append_outcome(alloc, &outcome, out.bytes(), text)
 }
 
 /// Appends a line of a row with the answer to it, or nothing where the line is an answer itself.
@@ -76,18 +86,10 @@ fn answer_line(
     line: &[u8],
     text: &mut Vec<u8>,
 ) -> Result<(), NoMemory> {
-    let Some(&mark) = line.first() else {
-        return Ok(());
-    };
-    if !matches!(mark, b'#' | b' ' | b'@' | b':' | b'$') {
-        return Ok(());
+    match copy_line(line, b"# @:$", text)? {
+        Some(b'$') => append_run(alloc, row, options(argument(line)), text),
+        _ => Ok(()),
     }
-    text.extend_from_slice(line)?;
-    text.extend_from_slice(b"\n")?;
-    if mark != b'$' {
-        return Ok(());
-    }
-    append_run(alloc, row, options(argument(line)), text)
 }
 
 /// Appends the row with the answers of its whole runs.

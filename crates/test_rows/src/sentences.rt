@@ -1,8 +1,25 @@
 //! What is said of the faulty source of a row, and where.
-use crate::row::{Row, argument};
+use crate::row::{Row, append_line, argument, copy_line};
 use rv_base::{NoMemory, cut_lines};
 use rv_diagnosis::{Diagnosis, append_report, diagnose, explain};
 use std::alloc::Global;
+
+/// Appends the place of a diagnosis and its number.
+fn append_place(alloc: Global, one: &Diagnosis, text: &mut Vec<u8>) -> Result<(), NoMemory> {
+    let number = one.kind.number();
+    let place = format!(in alloc; "= {}:{}+{} E{number} ", one.line, one.column, one.length)?;
+    text.extend_from_slice(place.as_bytes())?;
+    Ok(())
+}
+
+/// Appends a sentence, and advice on a line of its own.
+fn append_said(sentence: &[u8], advice: &[u8], text: &mut Vec<u8>) -> Result<(), NoMemory> {
+    append_line(b"", sentence, text)?;
+    if !advice.is_empty() {
+        append_line(b"+ ", advice, text)?;
+    }
+    Ok(())
+}
 
 /// Appends the place of a diagnosis, its number and its sentence, and its advice on a line of its own.
 fn append_diagnosis(
@@ -12,25 +29,14 @@ fn append_diagnosis(
     text: &mut Vec<u8>,
 ) -> Result<(), NoMemory> {
     let said = explain(alloc, source, one)?;
-    let number = one.kind.number();
-    let place = format!(in alloc; "= {}:{}+{} E{number} ", one.line, one.column, one.length)?;
-    text.extend_from_slice(place.as_bytes())?;
-    text.extend_from_slice(&said.sentence)?;
-    text.extend_from_slice(b"\n")?;
-    if !said.advice.is_empty() {
-        text.extend_from_slice(b"+ ")?;
-        text.extend_from_slice(&said.advice)?;
-        text.extend_from_slice(b"\n")?;
-    }
-    Ok(())
+    append_place(alloc, one, text)?;
+    append_said(&said.sentence, &said.advice, text)
 }
 
 /// Appends each line of a report with `> ` in front.
 fn append_quoted(report: &[u8], text: &mut Vec<u8>) -> Result<(), NoMemory> {
     for line in cut_lines(report) {
-        text.extend_from_slice(b"> ")?;
-        text.extend_from_slice(line)?;
-        text.extend_from_slice(b"\n")?;
+        append_line(b"> ", line, text)?;
     }
     Ok(())
 }
@@ -68,15 +74,7 @@ fn answer_line(
     line: &[u8],
     text: &mut Vec<u8>,
 ) -> Result<(), NoMemory> {
-    let Some(&mark) = line.first() else {
-        return Ok(());
-    };
-    if !matches!(mark, b'#' | b' ' | b'~') {
-        return Ok(());
-    }
-    text.extend_from_slice(line)?;
-    text.extend_from_slice(b"\n")?;
-    if mark != b'~' {
+    if copy_line(line, b"# ~", text)? != Some(b'~') {
         return Ok(());
     }
     if argument(line) == b"report".as_slice() {

@@ -1,7 +1,8 @@
 //! The answers that a source, a timed list and commands may get, whatever they say.
 use crate::hostile::texts::SENDER;
+use crate::runs::run_texts;
 use rv_asm::FaultKind;
-use rv_cli::{CliFault, Ending, MemoryIn, MemoryOut, Options, run_text};
+use rv_cli::{CliFault, Options};
 use std::alloc::Global;
 
 /// The kind of a text.
@@ -18,31 +19,6 @@ const OPTIONS: Options = Options {
     pages: 64,
     slots: 64,
 };
-
-/// Runs texts, and returns how the run ended and what it wrote.
-fn run(
-    alloc: Global,
-    source: &[u8],
-    inputs: &[u8],
-    commands: Option<&[u8]>,
-) -> (Result<Ending, CliFault>, MemoryOut) {
-    let mut source = MemoryIn::new(source);
-    let mut inputs = MemoryIn::new(inputs);
-    let mut commands = match commands {
-        Some(commands) => Some(MemoryIn::new(commands)),
-        None => None,
-    };
-    let mut out = MemoryOut::new(alloc);
-    let outcome = run_text(
-        alloc,
-        &mut source,
-        &mut inputs,
-        &mut commands,
-        OPTIONS,
-        &mut out,
-    );
-    (outcome, out)
-}
 
 /// Whether a text has a line of this number; the first is line 1.
 fn has_line(text: &[u8], line: usize) -> bool {
@@ -72,9 +48,9 @@ fn may_be_refused(kind: Text, text: &[u8], fault: CliFault) -> bool {
 /// Whether a text is answered by a whole run, or by a fault that a text of its kind may have.
 pub fn is_answered(alloc: Global, kind: Text, text: &[u8]) -> bool {
     let (outcome, out) = match kind {
-        Text::Source => run(alloc, text, b"", None),
-        Text::Inputs => run(alloc, SENDER, text, None),
-        Text::Commands => run(alloc, SENDER, b"", Some(text)),
+        Text::Source => run_texts(alloc, text, b"", None, OPTIONS),
+        Text::Inputs => run_texts(alloc, SENDER, text, None, OPTIONS),
+        Text::Commands => run_texts(alloc, SENDER, b"", Some(text), OPTIONS),
     };
     match outcome {
         Ok(_) => out.bytes().ends_with(b" steps\n"),
