@@ -15,7 +15,6 @@
 
 mod fault;
 mod input;
-mod line_refusal;
 mod number;
 mod reader;
 mod timeline;

@@ -1,39 +1,40 @@
 //! Reads the lines of a timed list.
-ghost use Rattle.std.specs.Prelude.{◌≡◌, ◌∷◌, ◌++◌, [], true, Some, nat_lt};
+ghost use Rattle.std.specs.Prelude.{◌≡◌, ◌∷◌, ◌++◌, [], true, IfOk, OnOk, nat_lt};
 ghost use Rattle.std.specs.Option.{option_map};
 ghost use Rattle.rv_base.specs.Words.{words};
 ghost use Rattle.rv_timeline.specs.Timed.{received, driven, inputs_of, timed_line, never_falls};
-ghost use Rattle.rv_timeline.specs.Support.Reading.{Becomes, latest_step, with_inputs, with_line};
+ghost use Rattle.rv_timeline.specs.Support.Reading.{Leaves, latest_step, with_inputs, with_line};
 
-use crate::line_refusal::LineRefusal;
 use crate::number::{level, source, step};
 use crate::{Input, TimedInput};
-use rv_base::{LINE_LIMIT, begins_comment, first_word, has_word, hex_byte};
+use rv_base::{LINE_LIMIT, NoMemory, begins_comment, first_word, has_word, hex_byte};
 
 /// Appends an input.
-fn append(out: &mut Vec<TimedInput>, step: u64, input: Input) -> Result<(), LineRefusal>
-    ensures { Becomes out.new.items result (Some (out.old.items ++ record { step = step; input = input } ∷ [])) }
+fn append(out: &mut Vec<TimedInput>, step: u64, input: Input) -> Result<(), NoMemory>
+    ensures { OnOk result (out.new.items ≡ out.old.items ++ record { step = step; input = input } ∷ []) }
 {
-    out.push(TimedInput { step, input })?;
+    out.extend_from_slice(&[TimedInput { step, input }])?;
     Ok(())
 }
 
-/// Reads the words following `rx`, one or more bytes, and appends an input for each.
-fn read_bytes(step: u64, text: &[u8], out: &mut Vec<TimedInput>) -> Result<(), LineRefusal>
-    ensures { Becomes out.new.items result (with_inputs out.old.items step (received (words text.now))) }
+/// Reads the words following `rx`, one or more bytes, and appends an input for each. Returns whether they can be
+/// read, as do the functions below.
+fn read_bytes(step: u64, text: &[u8], out: &mut Vec<TimedInput>) -> Result<bool, NoMemory>
+    ensures { IfOk result (λ read. Leaves out.new.items read
+        (with_inputs out.old.items step (received (words text.now)))) }
 {
     if !has_word(text) {
-        return Err(LineRefusal::BadLine);
+        return Ok(false);
     }
     let mut rest = text;
     while let Some((word, more)) = first_word(rest) {
         let Some(byte) = hex_byte(word) else {
-            return Err(LineRefusal::BadLine);
+            return Ok(false);
         };
         append(out, step, Input::Rx(byte))?;
         rest = more;
     }
-    Ok(())
+    Ok(true)
 }
 
 /// Reads the words following `line`: a source and its level.
@@ -51,28 +52,30 @@ pub fn line_input(text: &[u8]) -> Option<Input>
 }
 
 /// Reads the words following `line`, and appends the input.
-fn read_level(step: u64, text: &[u8], out: &mut Vec<TimedInput>) -> Result<(), LineRefusal>
-    ensures { Becomes out.new.items result
-        (with_inputs out.old.items step (driven (words text.now))) }
+fn read_level(step: u64, text: &[u8], out: &mut Vec<TimedInput>) -> Result<bool, NoMemory>
+    ensures { IfOk result (λ read. Leaves out.new.items read
+        (with_inputs out.old.items step (driven (words text.now)))) }
 {
     let Some(input) = line_input(text) else {
-        return Err(LineRefusal::BadLine);
+        return Ok(false);
     };
-    append(out, step, input)
+    append(out, step, input)?;
+    Ok(true)
 }
 
 /// Reads the words following a step, and appends their inputs.
 #[tactic(auto, unfolding(crate::specs::Timed::inputs_of))]
-fn read_inputs(step: u64, text: &[u8], out: &mut Vec<TimedInput>) -> Result<(), LineRefusal>
-    ensures { Becomes out.new.items result (with_inputs out.old.items step (inputs_of (words text.now))) }
+fn read_inputs(step: u64, text: &[u8], out: &mut Vec<TimedInput>) -> Result<bool, NoMemory>
+    ensures { IfOk result (λ read. Leaves out.new.items read
+        (with_inputs out.old.items step (inputs_of (words text.now)))) }
 {
     let Some((kind, rest)) = first_word(text) else {
-        return Err(LineRefusal::BadLine);
+        return Ok(false);
     };
     match kind {
         b"rx" => read_bytes(step, rest, out),
         b"line" => read_level(step, rest, out),
-        _ => Err(LineRefusal::BadLine),
+        _ => Ok(false),
     }
 }
 
@@ -96,24 +99,24 @@ fn falls(step: u64, before: &[TimedInput]) -> bool
 
 /// Reads a line, and appends its inputs.
 #[tactic(auto, unfolding(crate::specs::Timed::timed_line), using(crate::proofs::Inputs::line_steps))]
-pub fn read_line(line: &[u8], out: &mut Vec<TimedInput>) -> Result<(), LineRefusal>
+pub fn read_line(line: &[u8], out: &mut Vec<TimedInput>) -> Result<bool, NoMemory>
     requires { never_falls out.old.items ≡ true }
-    ensures { Becomes out.new.items result (with_line out.old.items (timed_line line.now)) }
+    ensures { IfOk result (λ read. Leaves out.new.items read (with_line out.old.items (timed_line line.now))) }
 {
     if line.len() > LINE_LIMIT {
-        return Err(LineRefusal::BadLine);
+        return Ok(false);
     }
     let Some((first, rest)) = first_word(line) else {
-        return Ok(());
+        return Ok(true);
     };
     if begins_comment(first) {
-        return Ok(());
+        return Ok(true);
     }
     let Some(step) = step(first) else {
-        return Err(LineRefusal::BadLine);
+        return Ok(false);
     };
     if falls(step, out) {
-        return Err(LineRefusal::BadLine);
+        return Ok(false);
     }
     read_inputs(step, rest, out)
 }

@@ -3,7 +3,6 @@ ghost use Rattle.std.specs.Prelude.{◌≡◌, ◌≤◌, length, insert};
 ghost use Rattle.rv_timeline.specs.declared.input.TimedInput.{TimedInput};
 ghost use Rattle.rv_timeline.specs.Timed.{IsRead, inserted};
 
-use crate::line_refusal::LineRefusal;
 use crate::reader::read_line;
 use crate::{TimedInput, TimelineFault};
 use rv_base::{NoMemory, cut_lines};
@@ -70,9 +69,9 @@ impl Timeline {
             number += 1;
             // No `map_err` and `?`: with the closure the proof would be half as long again.
             match read_line(line, &mut inputs) {
-                Ok(()) => {}
-                Err(LineRefusal::BadLine) => return Err(TimelineFault::BadLine(number)),
-                Err(LineRefusal::OutOfMemory) => return Err(TimelineFault::OutOfMemory),
+                Ok(true) => {}
+                Ok(false) => return Err(TimelineFault::BadLine(number)),
+                Err(NoMemory) => return Err(TimelineFault::OutOfMemory),
             }
         }
         Ok(Timeline { inputs })

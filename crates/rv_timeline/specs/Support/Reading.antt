@@ -1,13 +1,11 @@
 -- Not to audit: private contracts alone cite this.
 -- Reading a timed list, line by line, and writing one.
-use Rattle.std.specs.Prelude.{◌≡◌, ℕ, ◌<◌, ◌&&◌, Bool, true, false, nat_le, nat_lt, List, [], ◌∷◌, ◌++◌, take, if◌then◌else◌, Option, Some, None, is_some, Result, Ok, Err, codes, decimal, option_and_then}
+use Rattle.std.specs.Prelude.{◌≡◌, ℕ, ◌<◌, ◌&&◌, Bool, true, false, nat_le, nat_lt, List, [], ◌∷◌, ◌++◌, take, if◌then◌else◌, Option, Some, None, is_some, codes, decimal, option_and_then}
 use Rattle.std.specs.Option.{option_map}
 use Rattle.std.specs.List.{list_all}
 use Rattle.rv_timeline.specs.declared.input.Input.{Input}
 use Rattle.rv_timeline.specs.declared.input.Input.TheVariants.{Rx, Line}
 use Rattle.rv_timeline.specs.declared.input.TimedInput.{TimedInput}
-use Rattle.rv_timeline.specs.declared.line_refusal.LineRefusal.{LineRefusal}
-use Rattle.rv_timeline.specs.declared.line_refusal.LineRefusal.TheVariants.{BadLine, OutOfMemory}
 use Rattle.rv_base.specs.Numbers.{number_in}
 use Rattle.rv_base.specs.Tables.{lookup}
 use Rattle.rv_timeline.specs.Text.{input_text}
@@ -47,15 +45,10 @@ latest_step [] = 0
 latest_step (x ∷ []) = x.step
 latest_step (x ∷ y ∷ more) = latest_step (y ∷ more)
 
--- a line is refused as bad only if it has no meaning; memory may run out anywhere
-abbrev pub Refuses : {B : Type 0} → LineRefusal → Option B → Type 0
-Refuses BadLine meaning = meaning ≡ None
-Refuses OutOfMemory meaning = Unit {0}
-
--- the value that a call leaves is the one meant; BadLine if there is none, unless memory ran out
-abbrev pub Becomes : {A B : Type 0} → B → Result A LineRefusal → Option B → Type 0
-Becomes new (Ok _) meaning = meaning ≡ Some new
-Becomes new (Err refusal) meaning = Refuses refusal meaning
+-- what a call that can read its words leaves is what is meant; of words that it can't read nothing is meant
+abbrev pub Leaves : {B : Type 0} → B → Bool → Option B → Type 0
+Leaves new true meaning = meaning ≡ Some new
+Leaves new false meaning = meaning ≡ None
 
 -- the inputs of one step, following others
 abbrev pub with_inputs : List TimedInput → ℕ → Option (List Input) → Option (List TimedInput)

@@ -1,15 +1,7 @@
-use Rattle.std.proofs.Common.{◌≡◌, ◌∙◌, ◌∷◌, ◌++◌, ℕ, List, [], sym, refl}
-use Rattle.std.specs.Prelude.{Some}
-use Rattle.rv_timeline.specs.declared.input.Input.TheVariants.{Rx}
-use Rattle.rv_timeline.specs.declared.input.TimedInput.{TimedInput}
+use Rattle.std.proofs.Common.{◌∙◌, sym, refl}
 use Rattle.rv_base.specs.Words.{words}
 use Rattle.rv_timeline.proofs.Inputs.{received_all, received_none, received_more, received_bad, received_end}
 use Rattle.rv_timeline.proofs.reader.read_bytes.Goals as goal
-
-same : (before after : List TimedInput) (step b : ℕ)
-    → Some (before ++ record { step = step; input = Rx b } ∷ []) ≡ Some after
-    → after ≡ before ++ record { step = step; input = Rx b } ∷ []
-same before after step b e = cc
 
 pub returns-then-not-has_word : goal.returns-then-not-has_word
 returns-then-not-has_word c =
@@ -28,8 +20,7 @@ returns-in_default-hex_byte c =
 
 pub loop-word-preserved : goal.loop-word-preserved
 loop-word-preserved c =
-    rw (same c.loop-word.out.items c.append.new.out.items c.args.step c.in-Some-hex_byte.byte
-    c.in_ok-append.ensures)
+    rw c.in_ok-append.ensures
     (received_more c.loop-word.out.items c.args.step c.in-Some-hex_byte.byte c.in-Some.word.now
     (words c.in-Some.more.now) (words c.loop-word.rest.now) c.in-Some.ensures.value
     (sym c.hex_byte.ensures ∙ c.in-Some-hex_byte.is)

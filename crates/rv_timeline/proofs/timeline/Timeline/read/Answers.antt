@@ -31,14 +31,14 @@ loop-line-preserved c =
       is_finite = tt;
       so_far =
           read_more _ _ _ _ c.loop-line.invariant.so_far c.in-Some.line.now c.next.new.self cut
-          c.read_line.new.out.items c.in-Ok.ensures;
+          c.read_line.new.out.items (rw c.in-Ok-true.field-0-test at c.in-Ok-true.ensures);
       counted = omega (arith, c.loop-line.invariant.counted, ap length cut);
     }
 
-pub returns-in-Err-BadLine-clause-list : goal.returns-in-Err-BadLine-clause-list
-returns-in-Err-BadLine-clause-list c =
+pub returns-in-Ok-false-clause-list : goal.returns-in-Ok-false-clause-list
+returns-in-Ok-false-clause-list c =
     refused _ _ _ _ c.loop-line.invariant.so_far c.in-Some.line.now c.next.new.self c.in-Some.ensures.steps
-    (rw c.in-Err-BadLine.field-0-is at c.in-Err-BadLine.ensures) _ (omega arith)
+    (rw c.in-Ok-false.field-0-test at c.in-Ok-false.ensures) _ (omega arith)
 
 pub invariant_of-result : goal.invariant_of-result
 invariant_of-result c = rising _ _ c.loop-line.invariant.so_far.inputs_are
