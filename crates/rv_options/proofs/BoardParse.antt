@@ -17,7 +17,7 @@ use Rattle.clap.specs.declared.builder.command.Command.{Command}
 use Rattle.clap.specs.declared.parser.matches.ArgMatches.{ArgMatches}
 use Rattle.clap.proofs.SimpleLemmas.{plain_fields}
 use Rattle.rv_options.specs.Board.{board_app, source_rule}
-use Rattle.rv_options.specs.Support.Chain.{number_rule, pages_rule, slots_rule, steps_rule}
+use Rattle.rv_options.specs.Support.Chain.{number_rule}
 use Rattle.rv_options.specs.Support.Parse.{HasNumber, IsBoardParse}
 use Rattle.rv_options.proofs.Defaults.{HasDefaultAt, IsParseOf, are_simple_free, has_value, reads}
 
@@ -33,23 +33,6 @@ board_plain = refl
 board_simple_free : are_simple_free board_app.top.rules ≡ true
 unfolding board_app
 board_simple_free = refl
-
--- the rules of the command that have a default
-source_at : HasDefaultAt board_app.top.rules 0 source_rule
-unfolding board_app
-source_at = search (rules, arith)
-
-steps_at : HasDefaultAt board_app.top.rules 3 steps_rule
-unfolding board_app
-steps_at = search (rules, arith)
-
-pages_at : HasDefaultAt board_app.top.rules 4 pages_rule
-unfolding board_app
-pages_at = search (rules, arith)
-
-slots_at : HasDefaultAt board_app.top.rules 5 slots_rule
-unfolding board_app
-slots_at = search (rules, arith)
 
 parse_of : (c : Command) (m : ArgMatches) → app_of c ≡ board_app → IsParsedFrom c m →
     IsParseOf board_app.top.rules c m
@@ -74,14 +57,15 @@ number c m k name default low high p at =
 pub board_parse : (c : Command) (m : ArgMatches) (words : List Text) → app_of c ≡ board_app →
     IsParsedFrom c m → HasMatchesOf (app_of c) words m
     → IsBoardParse words m
+unfolding board_app
 board_parse c m words is parsed matches =
     let p = parse_of c m is parsed in
     record {
       rows = (matches (ap is_simple is ∙ board_simple)).0 ∙ ap (λ a. matches_of a words) is;
-      source = has_value board_app.top.rules c m p 0 source_rule source_at;
-      steps = number c m 3 (codes "steps") (codes "1000000") 0 1000000000 p steps_at;
-      pages = number c m 4 (codes "pages") (codes "256") 1 4096 p pages_at;
-      slots = number c m 5 (codes "slots") (codes "1024") 64 4096 p slots_at;
+      source = has_value board_app.top.rules c m p 0 source_rule (search (rules, arith));
+      steps = number c m 3 (codes "steps") (codes "1000000") 0 1000000000 p (search (rules, arith));
+      pages = number c m 4 (codes "pages") (codes "256") 1 4096 p (search (rules, arith));
+      slots = number c m 5 (codes "slots") (codes "1024") 64 4096 p (search (rules, arith));
     }
 
 -- and it says the errors of the command
