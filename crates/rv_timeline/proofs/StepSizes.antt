@@ -1,6 +1,7 @@
 -- The steps of a list that was read have ten digits at most.
 use Rattle.std.proofs.Common.{rules}
-use Rattle.std.proofs.Common.{◌≡◌, ℕ, Bool, true, false, cond, List, [], ◌∷◌, refl, ap}
+use Rattle.std.proofs.Common.{◌≡◌, ℕ, Bool, true, false, cond, List, [], ◌∷◌, refl}
+use Rattle.std.proofs.lemmas.Bool.{and_from}
 use Rattle.std.proofs.lemmas.List.Folds.{list_all-append}
 use Rattle.std.specs.List.{list_all}
 use Rattle.std.specs.Prelude.{Option, Some, None, nat_le, nat_lt, ◌&&◌, length, option_and_then}
@@ -9,11 +10,9 @@ use Rattle.rv_base.specs.Numbers.{number_in}
 use Rattle.rv_base.specs.Words.{words, begins_comment}
 use Rattle.rv_timeline.specs.declared.input.Input.{Input}
 use Rattle.rv_timeline.specs.declared.input.TimedInput.{TimedInput}
+use Rattle.rv_timeline.proofs.Whole.{listed}
 use Rattle.rv_timeline.specs.Support.Reading.{HasSteps, joined}
-use Rattle.rv_timeline.specs.Timed.{at_step, all_of, step_of, inputs_of, timed_words, timed_line, never_falls, timed}
-
-both : (a b : Bool) → a ≡ true → b ≡ true → (a && b) ≡ true
-both a b p q = rw (p, q) refl
+use Rattle.rv_timeline.specs.Timed.{at_step, all_of, step_of, inputs_of, timed_words, timed_line, timed}
 
 -- ---- a number that was read
 
@@ -42,21 +41,16 @@ step_small word n h = step_by (nat_le (length word) 10) word n h
 at_small : (step : ℕ) (is : List Input) → nat_le step 9999999999 ≡ true → HasSteps (at_step step is)
 at_small step [] h = refl
 at_small step (i ∷ is) h =
-    both (nat_le step 9999999999) (list_all (λ x. nat_le x.step 9999999999) (at_step step is)) h
+    and_from (nat_le step 9999999999) (list_all (λ x. nat_le x.step 9999999999) (at_step step is)) h
     (at_small step is h)
-
-timed_by : (step : Option ℕ) (is : Option (List Input)) (xs : List TimedInput)
-    → ((n : ℕ) → step ≡ Some n → nat_le n 9999999999 ≡ true)
-    → option_and_then (λ n. option_map (at_step n) is) step ≡ Some xs → HasSteps xs
-timed_by None is xs small h = absurd cc
-timed_by (Some n) None xs small h = absurd cc
-timed_by (Some n) (Some is) xs small h = search (rules, at_small)
 
 words_by : (comment : Bool) (step : Option ℕ) (is : Option (List Input)) (xs : List TimedInput)
     → ((n : ℕ) → step ≡ Some n → nat_le n 9999999999 ≡ true)
     → cond comment (Some []) (option_and_then (λ n. option_map (at_step n) is) step) ≡ Some xs → HasSteps xs
 words_by true step is xs small h = let same : [] ≡ xs = cc in rw (← same) refl
-words_by false step is xs small h = timed_by step is xs small h
+words_by false None is xs small h = absurd cc
+words_by false (Some n) None xs small h = absurd cc
+words_by false (Some n) (Some is) xs small h = search (rules, at_small)
 
 said_by_small : (ws : List (List ℕ)) (xs : List TimedInput) → timed_words ws ≡ Some xs → HasSteps xs
 said_by_small [] xs h = let same : [] ≡ xs = cc in rw (← same) refl
@@ -79,22 +73,12 @@ joined_small : (a b : Option (List TimedInput)) (xs : List TimedInput)
     → ((ys : List TimedInput) → b ≡ Some ys → HasSteps ys) → joined a b ≡ Some xs → HasSteps xs
 joined_small None b xs p q h = absurd cc
 joined_small (Some ys) None xs p q h = absurd cc
-joined_small (Some ys) (Some zs) xs p q h = search (rules, list_all-append, both)
+joined_small (Some ys) (Some zs) xs p q h = search (rules, list_all-append, and_from)
 
 all_small : (texts : List (List ℕ)) (xs : List TimedInput) → all_of timed_line texts ≡ Some xs → HasSteps xs
 unfolding all_of
 all_small [] xs h = let same : [] ≡ xs = cc in rw (← same) refl
 all_small (t ∷ ts) xs h = joined_small (timed_line t) (all_of timed_line ts) xs (said_small t) (all_small ts) h
 
-unless_by : (xs ys : List TimedInput) (t : Bool) → cond t (Some xs) None ≡ Some ys → xs ≡ ys
-unless_by xs ys true h = cc
-unless_by xs ys false h = absurd cc
-
-listed_by : (r : Option (List TimedInput)) (xs : List TimedInput)
-    → option_and_then (λ ys. cond (never_falls ys) (Some ys) None) r ≡ Some xs → r ≡ Some xs
-listed_by None xs h = absurd cc
-listed_by (Some ys) xs h = ap (λ zs. Some zs) (unless_by ys xs (never_falls ys) h)
-
 pub steps_small : (texts : List (List ℕ)) (xs : List TimedInput) → timed texts ≡ Some xs → HasSteps xs
-unfolding timed
-steps_small texts xs h = all_small texts xs (listed_by (all_of timed_line texts) xs h)
+steps_small texts xs h = all_small texts xs (listed texts xs h).0

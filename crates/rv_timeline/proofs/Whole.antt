@@ -33,7 +33,7 @@ listed_by : (r : Option (List TimedInput)) (before : List TimedInput)
 listed_by None before h = absurd cc
 listed_by (Some xs) before h = search rules
 
-listed : (texts : List (List ℕ)) (before : List TimedInput) → timed texts ≡ Some before
+pub listed : (texts : List (List ℕ)) (before : List TimedInput) → timed texts ≡ Some before
     → (all_of timed_line texts ≡ Some before) × (never_falls before ≡ true)
 unfolding timed
 listed texts before h = listed_by (all_of timed_line texts) before h
