@@ -45,8 +45,8 @@ struct Case<'a> {
 
 /// The last bytes of 4096 pages, before and after a write; a byte on each side of the end of a page, and
 /// bytes near it that don't change; values of each width at the ends and in the middle of pages, some of them
-/// zeros.
-static CASES: [Case<'static>; 4] = [
+/// zeros; pages that are written in another order than that of their offsets, at both ends of each.
+static CASES: [Case<'static>; 5] = [
     Case {
         pages: 4096,
         writes: &[],
@@ -90,6 +90,28 @@ static CASES: [Case<'static>; 4] = [
             (4088, 0x6655_7700),
             (4092, 0x0403_0001),
             (8192, 0x00ff_0000),
+        ],
+    },
+    Case {
+        pages: 4,
+        writes: &[
+            (16_380, Width::Four, 0x1111_1111),
+            (8192, Width::Four, 0x2222_2222),
+            (4092, Width::Four, 0x3333_3333),
+            (12_288, Width::Four, 0x4444_4444),
+            (0, Width::Four, 0x5555_5555),
+            (12_284, Width::Four, 0x6666_6666),
+        ],
+        bytes: &[(4096, 0), (8191, 0)],
+        words: &[
+            (0, 0x5555_5555),
+            (4092, 0x3333_3333),
+            (4096, 0),
+            (8188, 0),
+            (8192, 0x2222_2222),
+            (12_284, 0x6666_6666),
+            (12_288, 0x4444_4444),
+            (16_380, 0x1111_1111),
         ],
     },
 ];
@@ -205,5 +227,21 @@ fn zeros_make_no_page(rt: HostRuntime) -> Result<(), Fail> {
     let mut memory = PagedRam::new(rt.alloc(), 2)?;
     put_zero(&mut memory, 4096);
     assert!(rt; word(&rt, &memory, 4096) == 0);
+    Ok(())
+}
+
+#[test]
+fn a_copy_and_its_memory_are_apart(rt: HostRuntime) -> Result<(), Fail> {
+    let mut memory = PagedRam::new(rt.alloc(), 4)?;
+    put(&rt, &mut memory, (4096, Width::Four, 7))?;
+    let mut copy = memory.try_clone(rt.alloc())?;
+    put(&rt, &mut copy, (4100, Width::Four, 8))?;
+    put(&rt, &mut memory, (12_288, Width::Four, 9))?;
+    assert!(rt; word(&rt, &memory, 4096) == 7);
+    assert!(rt; word(&rt, &memory, 4100) == 0);
+    assert!(rt; word(&rt, &memory, 12_288) == 9);
+    assert!(rt; word(&rt, &copy, 4096) == 7);
+    assert!(rt; word(&rt, &copy, 4100) == 8);
+    assert!(rt; word(&rt, &copy, 12_288) == 0);
     Ok(())
 }
