@@ -1,9 +1,8 @@
 -- Pages of zeros.
-use Rattle.std.proofs.Common.{◌≡◌, ℕ, zero, suc, ◌+◌, ◌*◌, ◌/◌, ◌<◌, Bool, true, List, [], ◌∷◌, ◌++◌, length, get_or, slice_index, take, drop, arith, refl, ap, ◌∙◌}
-use Rattle.std.specs.Prelude.{◌==◌, ◌&&◌}
+use Rattle.std.proofs.Common.{◌≡◌, ℕ, zero, suc, ◌+◌, ◌*◌, ◌/◌, ◌<◌, true, List, [], ◌∷◌, ◌++◌, length, get_or, take, drop, arith, refl, ap, ◌∙◌}
+use Rattle.std.specs.Prelude.{◌==◌}
 use Rattle.std.specs.List.{list_all}
-use Rattle.std.proofs.lemmas.List.{take_at, length-drop, get_or-drop}
-use Rattle.std.proofs.lemmas.List.Folds.{list_all_more}
+use Rattle.std.proofs.lemmas.List.{take_at}
 use Rattle.rv_ram.specs.Bytes.{zeros}
 use Rattle.rv_ram.specs.Support.Pages.{is_zero_page}
 use Rattle.rv_ram.specs.Support.Table.{PageState, all_bytes, HasWholePages}
@@ -32,23 +31,3 @@ pub blank_page : (ps : List PageState) (off : ℕ) (d : PageState) → HasWholeP
 unfolding is_zero_page
 blank_page ps off d w l e =
     ap (list_all (λ byte. byte == 0)) (page_of_all ps d (off / 4096) w l ∙ e) ∙ all_zeros 4096
-
--- whether `count` bytes from an offset on are zero
-abbrev pub has_zeros : List ℕ → ℕ → ℕ → Bool
-has_zeros bs first count = list_all (λ byte. byte == 0) (take count (drop first bs))
-
-pub one_more_zero : (bs : List ℕ) (first count : ℕ) → first + count < length bs
-    → has_zeros bs first count ≡ true → slice_index bs (first + count) ≡ 0
-    → has_zeros bs first (count + 1) ≡ true
-one_more_zero bs first count l z e =
-    list_all_more (λ byte. byte == 0) (drop first bs) count 0 (omega (arith, length-drop first bs))
-    ∙ (ap (λ b. b && (get_or (drop first bs) count 0 == 0)) z
-    ∙ ap (λ byte. byte == 0) (get_or-drop first bs count 0 ∙ e))
-
--- a page is blank where each of its bytes is zero
-pub zero_page : (bs : List ℕ) (off first : ℕ) → first ≡ off / 4096 * 4096
-    → has_zeros bs first 4096 ≡ true → is_zero_page bs off ≡ true
-unfolding is_zero_page
-zero_page bs off first e z =
-    let k : 4096 * (off / 4096) ≡ first = omega arith in
-    ap (λ i. has_zeros bs i 4096) k ∙ z
