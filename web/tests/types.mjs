@@ -32,7 +32,8 @@ check("it finds a parameter without a type", /runs\.mjs.*TS7006/.test(faultsOf("
 const wrong = "export const odd = () => change({ board: 1 });\n";
 check("and a state of another type", /runs\.mjs.*TS2322/.test(faultsOf("runs.mjs", wrong)));
 
-const long = files.filter((it) => read(it).split("\n").length - 1 > LONGEST);
+const tests = fs.readdirSync(path.join(web, "tests")).map((it) => `tests/${it}`);
+const long = [...files, ...tests].filter((it) => read(it).split("\n").length - 1 > LONGEST);
 same(`no file has more than ${LONGEST} lines`, long.join(), "");
 const importers = (module) => scripts.filter((it) => new RegExp(`from "\\./${module}\\.mjs"`).test(read(it)));
 same("the values of the lab are read by one module", importers("values").join(), "lab.mjs");
