@@ -1,0 +1,3 @@
+-- Definitions that aren't to audit: each file says why.
+pub mod Kinds
+pub mod Written
