@@ -1,0 +1,11 @@
+//! The ELF file of an accepted source: its image, its labels and its lines.
+#![tactic(auto)]
+
+mod elf;
+mod labels;
+mod listing;
+mod placed;
+
+pub use elf::elf_file;
+pub use listing::listing_text;
+pub use rv_elf::ElfFault;

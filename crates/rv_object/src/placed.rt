@@ -1,0 +1,56 @@
+//! The lines of a source that have bytes.
+ghost use Rattle.std.specs.Prelude.{◌≡◌, ◌++◌, ◌-◌, ◌≤◌, IfOk, IfSome, OnOk, length, option_to_list};
+ghost use Rattle.rv_asm.specs.Seen.{seen};
+ghost use Rattle.rv_elf.specs.LineNumbers.{Rises};
+ghost use Rattle.rv_object.specs.Placed.{placed_from, placed_line};
+
+use rv_asm::Listing;
+use rv_elf::{ElfFault, PlacedLine};
+use std::alloc::{AllocError, Global};
+
+/// Returns a line with its address, if it has bytes.
+fn placed_line(listing: Listing<'_>, line: u32) -> Option<PlacedLine>
+    ensures { option_to_list result ≡ placed_line (seen listing.entry) line }
+{
+    if listing.bytes(line as usize).is_empty() {
+        return None;
+    }
+    let address = listing.address(line as usize).unwrap_or(0);
+    Some(PlacedLine { line, address })
+}
+
+/// Appends a line with its address, if it has bytes.
+fn append_line(listing: Listing<'_>, line: u32, out: &mut Vec<PlacedLine>) -> Result<(), ElfFault>
+    ensures { OnOk result (out.new.items ≡ out.old.items ++ placed_line (seen listing.entry) line) }
+{
+    if let Some(placed) = placed_line(listing, line) {
+        if out.push(placed).is_err() {
+            return Err(ElfFault::OutOfMemory);
+        }
+    }
+    Ok(())
+}
+
+/// Returns the number of lines, if it has 32 bits.
+fn count_of(listing: Listing<'_>) -> Option<u32>
+    ensures { IfSome result (λ n. n ≡ length (seen listing.entry).addresses - 1) }
+{
+    u32::try_from(listing.len()).ok()
+}
+
+/// Returns the lines that have bytes, in order.
+pub fn placed_lines(alloc: Global, listing: Listing<'_>) -> Result<Vec<PlacedLine>, ElfFault>
+    ensures value { IfOk result (λ v. v.items ≡ placed_from (seen listing.entry) 1 (length (seen listing.entry).addresses - 1)) }
+    ensures rises { IfOk result (λ v. Rises 1 v.items) }
+{
+    let Some(count) = count_of(listing) else {
+        return Err(ElfFault::TooLarge);
+    };
+    let mut out = Vec::new(alloc);
+    let mut line = 0;
+    while line < count {
+        line += 1;
+        append_line(listing, line, &mut out)?;
+    }
+    Ok(out)
+}
