@@ -1,0 +1,97 @@
+//! The words of the command line, read with `clap`: `rvas SOURCE [-o FILE] [--form elf|bin|hex] [--listing]`.
+use clap::builder::ValueParser;
+use clap::{Arg, ArgAction, ArgMatches, Command, Error};
+use std::alloc::{AllocError, Global};
+
+/// The names of the forms.
+const FORMS: &[&str] = &["elf", "bin", "hex"];
+
+/// What the words of the command line ask for.
+#[derive(Clone, Copy)]
+pub struct Words<'a> {
+    /// The path of the source.
+    pub source: &'a str,
+    /// The path of the file that is written, if one is given.
+    pub output: Option<&'a str>,
+    /// The name of its form, if one is given.
+    pub form: Option<&'a str>,
+    /// Whether the listing is printed.
+    pub wants_listing: bool,
+}
+
+/// Returns the positional argument SOURCE.
+fn source_arg<'a>(alloc: Global) -> Arg<'a> {
+    Arg::new(alloc, "source")
+        .value_name("SOURCE")
+        .help("the assembly source")
+        .required(true)
+        .action(ArgAction::Set)
+}
+
+/// Returns the option for the file that is written.
+fn output_arg<'a>(alloc: Global) -> Arg<'a> {
+    Arg::new(alloc, "output")
+        .short('o')
+        .long("output")
+        .value_name("FILE")
+        .help("the file to write: its form is that of its ending, .elf, .bin or .hex")
+        .action(ArgAction::Set)
+}
+
+/// Returns the option for the form of that file.
+fn form_arg<'a>(alloc: Global) -> Arg<'a> {
+    Arg::new(alloc, "form")
+        .long("form")
+        .value_name("FORM")
+        .help("the form of FILE, whatever its ending is")
+        .value_parser(ValueParser::Names(FORMS))
+        .action(ArgAction::Set)
+}
+
+/// Returns the option for the listing.
+fn listing_arg<'a>(alloc: Global) -> Arg<'a> {
+    Arg::new(alloc, "listing")
+        .long("listing")
+        .help("print each line with its number, its address and its bytes")
+        .action(ArgAction::SetTrue)
+}
+
+/// Returns the arguments of the command, in their order.
+fn args<'a>(alloc: Global) -> Result<Vec<Arg<'a>>, AllocError> {
+    Ok(vec![in alloc;
+        source_arg(alloc),
+        output_arg(alloc),
+        form_arg(alloc),
+        listing_arg(alloc),
+    ]?)
+}
+
+/// Parses the words.
+fn parse<'a>(alloc: Global, words: &'a [&'a str]) -> Result<ArgMatches<'a>, Error> {
+    let args = args(alloc)?;
+    let command = Command::new(alloc, "rvas")
+        .about("assembles a program for a small RISC-V board into a file for other tools")
+        .version("1.0")
+        .args(args)?;
+    command.try_get_matches_from(words)
+}
+
+/// Reads the words, of which the first is the program's name.
+///
+/// # Errors
+///
+/// The error that `clap` gives refused words, or `ErrorKind::OutOfMemory`. Where help or the version was asked for, it
+/// is that text.
+pub fn read_words<'a>(alloc: Global, words: &'a [&'a str]) -> Result<Words<'a>, Error> {
+    let matches = parse(alloc, words)?;
+    let source = matches.get_str("source").unwrap_or("");
+    let output = matches.get_str("output");
+    let form = matches.get_str("form");
+    let wants_listing = matches.get_flag("listing");
+    Ok(Words {
+        source,
+        output,
+        form,
+        wants_listing,
+    })
+}
