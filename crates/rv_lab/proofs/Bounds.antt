@@ -1,22 +1,25 @@
 -- How many steps a call takes.
-use Rattle.std.proofs.Common.{◌≡◌, ◌∙◌, ℕ, ◌+◌, ◌-◌, ◌≤◌, false, List, [], ◌∷◌, refl, sym, ap, arith, inl, inr}
-use Rattle.std.specs.Prelude.{fold, max, min, MatchOption, Option, Some, None}
+use Rattle.std.proofs.Common.{◌≡◌, ◌∙◌, ℕ, zero, suc, Bool, true, ◌+◌, ◌-◌, ◌≤◌, false, List, [], ◌∷◌, refl, sym, ap, arith, inl, inr}
+use Rattle.std.specs.Prelude.{fold, if◌then◌else◌, max, min, MatchOption, Option, Some, None}
 use Rattle.rv_commands.specs.declared.command.Command as commands
 use Rattle.rv_commands.specs.declared.command.Command.TheVariants as monitored_by
 use Rattle.rv_timeline.specs.declared.input.Input.{Input}
 use Rattle.rv_monitor.specs.Commands as monitor
 use Rattle.rv_monitor.specs.Commands.{command_in}
 use Rattle.rv_monitor.specs.State.{SessionState, TimedState, after, given, with_due}
-use Rattle.rv_recording.specs.Until.{step_ends, steps_of}
+use Rattle.rv_recording.specs.Recording.{RecordingState, with_timed}
+use Rattle.rv_monitor.specs.Stops.{may_step}
 use Rattle.rv_recording.proofs.Counting.{steps_within}
-use Rattle.rv_lab.specs.Commands as lab
-use Rattle.rv_lab.specs.Commands.{GoesOn, InSession, IsWithin, Starts, Steps, begun, call_limit, monitored_run, piece_steps, run_ends, run_of}
+use Rattle.rv_lab.specs.Runs.{Leaves}
+use Rattle.rv_lab.specs.Commands.{IsWithin, begun, call_limit, monitored_run, piece_steps, planned, run_ends, run_of, stepped, stepped_by, with_session}
+use Rattle.rv_lab.specs.Support.Short.{GoesOnWith, Starts, Steps}
 use Rattle.rv_lab.specs.Refusals.{Leads, RunsOut, StopsShort, by_hand, due, nowhere, steps}
-use Rattle.rv_lab.specs.State.{LabState, timed}
+use Rattle.rv_asm.specs.Lines.{Located}
+use Rattle.rv_program.specs.Program.{Assembly}
+use Rattle.rv_lab.specs.State.{LabState, setup, timed}
 use Rattle.rv_lab.specs.declared.order.Order.{Order}
 use Rattle.rv_lab.specs.declared.order.Order.TheVariants as orders
 use Rattle.rv_lab.specs.declared.plan.Plan.{Plan}
-use Rattle.rv_lab.specs.declared.plan.Goal.{Goal}
 use Rattle.rv_lab.specs.declared.plan.Goal.TheVariants as goal
 
 -- ---- states
@@ -48,46 +51,89 @@ unmoved n old new e = same_taken n old new (ap (λ (l : LabState). (timed l).tak
 
 -- ---- runs
 
-goes : (p : Plan) (old new : LabState) → GoesOn p old new → IsWithin (max old.piece 1) old new
+goes : (p : Plan) (old new : LabState) → GoesOnWith p old new → IsWithin (max old.piece 1) old new
 goes p old new g =
     let most : piece_steps p old ≤ min p.left (max old.piece 1) =
     steps_within (run_ends p.goal old.recording.session) (min p.left (max old.piece 1)) in
     let now = ap (λ (l : LabState). (timed l).taken) g ∙ taken_after (timed old) (piece_steps p old) in
     omega (arith, most, now)
 
-abbrev plan : Goal → ℕ → Plan
-plan g n = record { goal = g; left = n; is_monitored = false }
+counted : (n : ℕ) (old new : LabState) → Steps n old new → IsWithin (max old.piece 1) old new
+counted n old new s = goes (planned goal.Count n) (begun (record old { count = n })) new s
 
-stepped : (n : ℕ) (old new : LabState) → Steps n old new → IsWithin (max old.piece 1) old new
-stepped n old new s = goes (plan goal.Count n) (begun (record old { count = n })) new s
+-- ---- single steps
+
+step_within : (b : Bool) (r : RecordingState)
+    → (if b then with_timed r (after r.session.timed 1) else r).session.timed.taken ≤ r.session.timed.taken + 1
+step_within true r = omega (arith, taken_after r.session.timed 1)
+step_within false r = omega arith
+
+stepped_within : (n : ℕ) (r : RecordingState) → (stepped_by n r).session.timed.taken ≤ r.session.timed.taken + n
+stepped_within zero r = omega arith
+stepped_within (suc n) r =
+    let one : (stepped r).session.timed.taken ≤ r.session.timed.taken + 1 = step_within (may_step r.session) r in
+    let rest : (stepped_by n (stepped r)).session.timed.taken ≤ (stepped r).session.timed.taken + n =
+    stepped_within n (stepped r) in
+    omega (arith, one, rest)
+
+stepped_setup : (n : ℕ) (l : LabState) → setup (record l { recording = stepped_by n l.recording }) ≡ setup l
+stepped_setup n l = by_steps n l.recording
+  where
+    by_may : (b : Bool) (r : RecordingState) → (P : RecordingState → Type 0) → P (with_timed r (after r.session.timed 1)) → P r
+        → P (if b then with_timed r (after r.session.timed 1) else r)
+    by_may true r P a b = a
+    by_may false r P a b = b
+
+    by_steps : (n : ℕ) (r : RecordingState) → setup (record l { recording = stepped_by n r }) ≡ setup (record l { recording = r })
+    by_steps zero r = refl
+    by_steps (suc n) r =
+        by_steps n (stepped r) ∙ by_may (may_step r.session) r
+        (λ q. setup (record l { recording = q }) ≡ setup (record l { recording = r })) refl refl
 
 -- ---- a command of the monitor
 
 looks_same : (c : Option commands.Command) (limit : ℕ) (s t : SessionState) → run_of c limit ≡ None
-    → monitor.Leaves c s t → t.timed ≡ s.timed
+    → monitor.Leaves c s t → (t.timed ≡ s.timed) × (t.program ≡ s.program)
 looks_same (Some (monitored_by.Step n)) limit s t e w = absurd cc
 looks_same (Some (monitored_by.Go n)) limit s t e w = absurd cc
-looks_same (Some (monitored_by.SetBreak a)) limit s t e w = ap (λ (u : SessionState). u.timed) w
-looks_same (Some (monitored_by.ClearBreak a)) limit s t e w = ap (λ (u : SessionState). u.timed) w
-looks_same _ limit s t e w = ap (λ (u : SessionState). u.timed) w
+looks_same (Some (monitored_by.SetBreak a)) limit s t e w =
+    (ap (λ (u : SessionState). u.timed) w, ap (λ (u : SessionState). u.program) w)
+looks_same (Some (monitored_by.ClearBreak a)) limit s t e w =
+    (ap (λ (u : SessionState). u.timed) w, ap (λ (u : SessionState). u.program) w)
+looks_same _ limit s t e w = (ap (λ (u : SessionState). u.timed) w, ap (λ (u : SessionState). u.program) w)
+
+-- what a command of the monitor leaves, by the run that it asks for
+abbrev MonitorLeaves : Option commands.Command → Option Plan → LabState → LabState → Type 0
+MonitorLeaves c o old new = MatchOption o ((new ≡ with_session old new.recording.session)
+    × monitor.Leaves c old.recording.session new.recording.session) (λ p. Starts p old new)
 
 monitors : (c : Option commands.Command) (limit : ℕ) (o : Option Plan) (old new : LabState) → o ≡ run_of c limit
-    → MatchOption o (InSession (monitor.Leaves c) old new) (λ p. Starts p old new)
-    → IsWithin (max old.piece 1) old new
+    → MonitorLeaves c o old new → IsWithin (max old.piece 1) old new
 monitors c limit None old new e w =
     same_taken _ old new (ap (λ (s : TimedState). s.taken)
-    (looks_same c limit old.recording.session new.recording.session (sym e) w.1))
+    (looks_same c limit old.recording.session new.recording.session (sym e) w.1).0)
 monitors c limit (Some p) old new e w = goes p (begun old) new w
+
+monitors_setup : (c : Option commands.Command) (limit : ℕ) (o : Option Plan) (old new : LabState) → o ≡ run_of c limit
+    → MonitorLeaves c o old new → setup new ≡ setup old
+monitors_setup c limit None old new e w =
+    ap setup w.0 ∙ ap (λ (a : Assembly). (old.source, old.places, a, old.recording.pages, old.recording.slots, old.piece))
+    (looks_same c limit old.recording.session new.recording.session (sym e) w.1).1
+monitors_setup c limit (Some p) old new e w = ap setup w
 
 -- ---- an order
 
-pub within : (o : Order) (old new : LabState) → lab.Leaves o old new → IsWithin (call_limit o old.piece) old new
-within (orders.Steps n) old new w = stepped n old new w
+pub within : (o : Order) (old new : LabState) → Leaves o old new → IsWithin (call_limit o old.piece) old new
+within (orders.Steps n) old new w = counted n old new w
 within (orders.Run p) old new w = goes p (begun old) new w
+within orders.Once old new w =
+    let one : (stepped old.recording).session.timed.taken ≤ (timed old).taken + 1 =
+    step_within (may_step old.recording.session) old.recording in
+    let now : (timed new).taken ≡ (stepped old.recording).session.timed.taken = ap (λ (l : LabState). (timed l).taken) w in
+    omega (arith, one, now)
 within (orders.Trace n) old new w =
-    let k = steps_within (step_ends old.recording.session) n in
-    let now = ap (λ (l : LabState). (timed l).taken) w
-    ∙ taken_after (timed old) (steps_of (step_ends old.recording.session) n) in omega (arith, k, now)
+    let now : (timed new).taken ≡ (stepped_by n old.recording).session.timed.taken =
+    ap (λ (l : LabState). (timed l).taken) w in omega (arith, stepped_within n old.recording, now)
 within (orders.Back n) old new w =
     let is = ap (λ (l : LabState). (timed l).taken) w ∙ taken_after _ ((timed old).taken - n) in omega (arith, is)
 within (orders.List e follows) old new w = same_taken _ old new (ap (λ (l : LabState). (timed l).taken) w)
@@ -100,6 +146,15 @@ within (orders.Monitor line) old new w =
     (monitored_run line old.recording.session) old new refl w
 within _ old new w = unmoved _ old new w
 
+pub left_setup_by : (o : Order) (old new : LabState) → Leaves o old new → setup new ≡ setup old
+left_setup_by (orders.Monitor line) old new w =
+    monitors_setup (command_in line old.recording.session) old.recording.session.limit
+    (monitored_run line old.recording.session) old new refl w
+left_setup_by orders.Once old new w = ap setup w ∙ stepped_setup 1 old
+left_setup_by (orders.Trace n) old new w = ap setup w ∙ stepped_setup n old
+left_setup_by (orders.Steps n) old new w = ap setup w
+left_setup_by _ old new w = ap setup w
+
 -- ---- where memory ran out
 
 out : (n : ℕ) (Does : LabState → LabState → Type 0) (old new : LabState)
@@ -108,16 +163,26 @@ out n Does old new each (inl e) = unmoved n old new e
 out n Does old new each (inr (inl d)) = each new d
 out n Does old new each (inr (inr s)) = omega (arith, each s.0 s.1, rises (timed new) (timed s.0) s.3)
 
+abbrev Setup : Type 0
+Setup = List ℕ × Located × Assembly × ℕ × ℕ × ℕ
+
+pub out_setup_by : (o : Order) (old new : LabState) → RunsOut (Leaves o) old new → setup new ≡ setup old
+out_setup_by o old new (inl e) = ap setup e
+out_setup_by o old new (inr (inl d)) = left_setup_by o old new d
+out_setup_by o old new (inr (inr s)) =
+    ap setup s.4 ∙ ap (λ (x : Setup). (x.0, x.1, old.recording.session.program, old.recording.pages, old.recording.slots, x.5))
+    (left_setup_by o old s.0 s.1)
+
 -- ---- the calls
 
-pub short_within : (o : Order) (old new : LabState) → RunsOut (lab.Leaves o) old new
+pub short_within : (o : Order) (old new : LabState) → RunsOut (Leaves o) old new
     → IsWithin (call_limit o old.piece) old new
-short_within o old new s = out _ (lab.Leaves o) old new (λ d w. within o old d w) s
+short_within o old new s = out _ (Leaves o) old new (λ d w. within o old d w) s
 
-pub piece_within : (p : Plan) (old new : LabState) → GoesOn p old new → IsWithin (max old.piece 1) old new
+pub piece_within : (p : Plan) (old new : LabState) → GoesOnWith p old new → IsWithin (max old.piece 1) old new
 piece_within p old new g = goes p old new g
 
-pub piece_short_within : (p : Plan) (old new : LabState) → StopsShort (GoesOn p) old new
+pub piece_short_within : (p : Plan) (old new : LabState) → StopsShort (GoesOnWith p) old new
     → IsWithin (max old.piece 1) old new
 piece_short_within p old new s =
-    out _ (GoesOn p) old new (λ d g. goes p old d g) (inr (inr s))
+    out _ (GoesOnWith p) old new (λ d g. goes p old d g) (inr (inr s))

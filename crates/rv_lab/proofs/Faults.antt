@@ -18,16 +18,7 @@ module _ (source inputs : List ℕ) (pages slots : ℕ) where
       → OpensLab source inputs pages slots (Err (source_fault kind why))
   refused_by kind.OutOfMemory why h = tt
   refused_by kind.BadByte why h = h
-  refused_by kind.LineTooLong why h = h
-  refused_by kind.Syntax why h = h
-  refused_by kind.UnknownWord why h = h
-  refused_by kind.BadOperands why h = h
-  refused_by kind.DuplicateSymbol why h = h
-  refused_by kind.NotConstant why h = h
-  refused_by kind.Misplaced why h = h
-  refused_by kind.TooLarge why h = h
-  refused_by kind.Undefined why h = h
-  refused_by kind.OutOfRange why h = h
+  refused_by _ why h = h
 
   -- a source that is not assembled
   pub source_refused : (why : AsmFault) → Fails why (assembled source)

@@ -33,16 +33,7 @@ fails_by : (kind : FaultKind) (source : List ℕ) (fault : AsmFault) → FailsBy
     → FailsBy kind fault (assembled source)
 fails_by kind.OutOfMemory source fault h = h
 fails_by kind.BadByte source fault h = is_assembled source fault h
-fails_by kind.LineTooLong source fault h = is_assembled source fault h
-fails_by kind.Syntax source fault h = is_assembled source fault h
-fails_by kind.UnknownWord source fault h = is_assembled source fault h
-fails_by kind.BadOperands source fault h = is_assembled source fault h
-fails_by kind.DuplicateSymbol source fault h = is_assembled source fault h
-fails_by kind.NotConstant source fault h = is_assembled source fault h
-fails_by kind.Misplaced source fault h = is_assembled source fault h
-fails_by kind.TooLarge source fault h = is_assembled source fault h
-fails_by kind.Undefined source fault h = is_assembled source fault h
-fails_by kind.OutOfRange source fault h = is_assembled source fault h
+fails_by _ source fault h = is_assembled source fault h
 
 pub fails : (source : List ℕ) (fault : AsmFault) → Fails fault (listed source)
     → Fails fault (assembled source)

@@ -1,67 +1,135 @@
--- What a line asks for was done.
-use Rattle.std.proofs.Common.{◌≡◌, ◌∙◌, ℕ, List, [], ap, subst, arith, inl}
-use Rattle.std.specs.Prelude.{OnErr, Result, slice_get, unwrap_or}
+-- What an order, and a line, asks for was done.
+use Rattle.std.proofs.Common.{◌≡◌, ◌∙◌, ℕ, List, [], refl, sym, ap, subst, inl, inr}
+use Rattle.std.specs.Prelude.{max, IfOk, OnErr, OnOk, Result, Ok, Err, slice_get, unwrap_or}
+use Rattle.std.specs.Option.{option_map_or}
 use Rattle.rv_base.specs.Words.{words}
 use Rattle.rv_base.specs.declared.memory.NoMemory.{NoMemory}
 use Rattle.rv_operands.specs.Operands.{operand_text}
 use Rattle.rv_answers.specs.declared.answer.Answer.{Answer}
+use Rattle.rv_answers.specs.declared.answer.Answer.TheVariants as answers
 use Rattle.rv_answers.specs.declared.command.Command.{Command}
-use Rattle.rv_lab.specs.Commands.{IsWithin, Leaves, call_limit, follows, ready}
-use Rattle.rv_lab.specs.Orders.{Obeys, command_order, next_after, order_of, ordered}
-use Rattle.rv_lab.specs.Refusals.{RunsOut}
-use Rattle.rv_lab.specs.Runs.{answer_by, answer_to}
-use Rattle.rv_lab.specs.State.{LabState, timed}
+use Rattle.rv_lab.specs.Commands.{IsWithin, call_limit, next_of, ready}
+use Rattle.rv_lab.specs.Orders.{command_order, order_of, ordered}
+use Rattle.rv_lab.specs.Refusals.{RunsOut, StopsShort}
+use Rattle.rv_lab.specs.Runs.{Leaves, does, line_does, reply_on, reply_to, run_answer}
+use Rattle.rv_lab.specs.State.{LabState, sent, setup}
+use Rattle.rv_lab.specs.Support.Short.{Executes}
 use Rattle.rv_lab.specs.Words.{line_command}
+use Rattle.rv_lab.specs.declared.lab.Done.{Done}
 use Rattle.rv_lab.specs.declared.lab.Next.{Next}
+use Rattle.rv_lab.specs.declared.lab.Reply.{Reply}
 use Rattle.rv_lab.specs.declared.order.Order.{Order}
-use Rattle.rv_lab.proofs.Bounds.{short_within, within}
-use Rattle.rv_lab.proofs.Short.{on_err}
+use Rattle.rv_lab.proofs.Bounds.{left_setup_by, out_setup_by, short_within, within}
 
--- a lab that is made ready takes no step
-pub ready_within : (n : ℕ) (c : Command) (old mid : LabState) → mid ≡ ready c old → IsWithin n old mid
-ready_within n c old mid at = let same = ap (λ (l : LabState). (timed l).taken) at in omega (arith, same)
+-- ---- an order
 
-pub ready_out : {A : Type 0} (r : Result A NoMemory) (line : List ℕ) (c : Command) (old mid : LabState)
-    → c ≡ line_command line → mid ≡ ready c old
-    → OnErr r (RunsOut (Leaves (ordered line old)) (ready (line_command line) old) mid)
-ready_out r line c old mid is at = on_err r _ (inl (at ∙ ap (λ (k : Command). ready k old) is))
+pub executed : (o known : Order) (old new : LabState) (r : Result Done NoMemory) → o ≡ known
+    → OnOk r (Leaves known old new) → IfOk r (λ d. d.next ≡ (does known old new).next)
+    → IfOk r (λ d. d.answer ≡ (does known old new).answer) → OnErr r (RunsOut (Leaves known) old new)
+    → Executes o old new r
+unfolding Executes
+executed o known old new r e leaves next answers out =
+    subst (λ (q : Order). Executes q old new r) (sym e) (leaves, next, answers, out)
 
-module _ (line : List ℕ) (c : Command) (word text : List ℕ) (old mid : LabState) (o : Order) (is : c ≡ line_command line)
-    (first : word ≡ unwrap_or (slice_get (words line) 0) []) (rest : text ≡ operand_text line) (at : mid ≡ ready c old)
-    (read : o ≡ command_order c word text mid) where
-  abbrev begins : LabState
-  begins = ready (line_command line) old
+short_is_out : (Does : LabState → LabState → Type 0) (r : Result Done NoMemory) (old new : LabState)
+    → OnErr r (StopsShort Does old new) → OnErr r (RunsOut Does old new)
+short_is_out Does (Ok d) old new s = tt
+short_is_out Does (Err why) old new s = inr (inr s)
 
-  stands : mid ≡ begins
-  stands = at ∙ ap (λ (k : Command). ready k old) is
+kept_is_out : (Does : LabState → LabState → Type 0) (r : Result Done NoMemory) (old new : LabState)
+    → OnErr r (new ≡ old) → OnErr r (RunsOut Does old new)
+kept_is_out Does (Ok d) old new s = tt
+kept_is_out Does (Err why) old new s = inl s
 
-  asks : o ≡ ordered line old
-  unfolding order_of
-  asks =
-      read ∙ (ap (λ (l : LabState). command_order c word text l) stands
-      ∙ (ap (λ (k : Command). command_order k word text begins) is
-      ∙ (ap (λ (w : List ℕ). command_order (line_command line) w text begins) first
-      ∙ ap (λ (t : List ℕ). command_order (line_command line) (unwrap_or (slice_get (words line) 0) []) t begins) rest)))
+pub executed_short : (o known : Order) (old new : LabState) (r : Result Done NoMemory) → o ≡ known
+    → OnOk r (Leaves known old new) → IfOk r (λ d. d.next ≡ (does known old new).next)
+    → IfOk r (λ d. d.answer ≡ (does known old new).answer) → OnErr r (StopsShort (Leaves known) old new)
+    → Executes o old new r
+executed_short o known old new r e leaves next answers short =
+    executed o known old new r e leaves next answers (short_is_out (Leaves known) r old new short)
 
-  -- what holds of the order and the lab that was made ready holds of the line and the lab
-  told : (P : Order → LabState → Type 0) → P o mid → P (ordered line old) begins
-  told P h = subst (λ (l : LabState). P (ordered line old) l) stands (subst (λ (q : Order). P q mid) asks h)
+pub executed_kept : (o known : Order) (old new : LabState) (r : Result Done NoMemory) → o ≡ known
+    → OnOk r (Leaves known old new) → IfOk r (λ d. d.next ≡ (does known old new).next)
+    → IfOk r (λ d. d.answer ≡ (does known old new).answer) → OnErr r (new ≡ old) → Executes o old new r
+executed_kept o known old new r e leaves next answers kept =
+    executed o known old new r e leaves next answers (kept_is_out (Leaves known) r old new kept)
 
-  pub obeys : (new : LabState) → Leaves o mid new → Obeys line old new
-  obeys new h = told (λ (q : Order) (l : LabState). Leaves q l new) h
+on_ok : (r : Result Done NoMemory) (P : Type 0) → P → OnOk r P
+on_ok (Ok d) P p = p
+on_ok (Err why) P p = tt
 
-  pub follows_it : (new : LabState) (n : Next) → n ≡ follows o mid.recording.session new → n ≡ next_after line old new
-  follows_it new n h = told (λ (q : Order) (l : LabState). n ≡ follows q l.recording.session new) h
+on_err : (r : Result Done NoMemory) (P : Type 0) → P → OnErr r P
+on_err (Ok d) P p = tt
+on_err (Err why) P p = p
 
-  pub answers_it : (new : LabState) (a : Answer) → a ≡ answer_by o mid new → a ≡ answer_to line old new
-  answers_it new a h = told (λ (q : Order) (l : LabState). a ≡ answer_by q l new) h
+-- one that leaves the lab as it is
+pub executed_look : (o known : Order) (l : LabState) (r : Result Done NoMemory) → o ≡ known → Leaves known l l
+    → IfOk r (λ d. d.next ≡ (does known l l).next) → IfOk r (λ d. d.answer ≡ (does known l l).answer)
+    → Executes o l l r
+executed_look o known l r e same next answers =
+    executed o known l l r e (on_ok r (Leaves known l l) same) next answers
+    (on_err r (RunsOut (Leaves known) l l) (inl refl))
 
-  pub runs_out : (new : LabState) → RunsOut (Leaves o) mid new → RunsOut (Leaves (ordered line old)) begins new
-  runs_out new h = told (λ (q : Order) (l : LabState). RunsOut (Leaves q) l new) h
+-- ---- a line
 
-  pub is_within : (new : LabState) → Leaves o mid new → IsWithin (call_limit (ordered line old) old.piece) old new
-  is_within new h = within (ordered line old) begins new (obeys new h)
+pub unread : (line : List ℕ) (c : Command) (old mid : LabState) (why : NoMemory) → c ≡ line_command line
+    → mid ≡ ready c old → Executes (ordered line old) (ready (line_command line) old) mid (Err why)
+unfolding Executes
+unread line c old mid why is at = (tt, tt, tt, inl (at ∙ ap (λ (k : Command). ready k old) is))
 
-  pub is_within_short : (new : LabState) → RunsOut (Leaves o) mid new
-      → IsWithin (call_limit (ordered line old) old.piece) old new
-  is_within_short new h = short_within (ordered line old) begins new (runs_out new h)
+pub executed_it : (line : List ℕ) (c : Command) (word text : List ℕ) (old mid new : LabState) (o : Order)
+    (r : Result Done NoMemory) → c ≡ line_command line → word ≡ unwrap_or (slice_get (words line) 0) []
+    → text ≡ operand_text line → mid ≡ ready c old → o ≡ command_order c word text mid → Executes o mid new r
+    → Executes (ordered line old) (ready (line_command line) old) new r
+unfolding order_of
+executed_it line c word text old mid new o r is first rest at read h =
+    let begins : LabState = ready (line_command line) old in
+    let stands : mid ≡ begins = at ∙ ap (λ (k : Command). ready k old) is in
+    let asks : o ≡ ordered line old = read ∙ (ap (λ (l : LabState). command_order c word text l) stands
+    ∙ (ap (λ (k : Command). command_order k word text begins) is
+    ∙ (ap (λ (w : List ℕ). command_order (line_command line) w text begins) first
+    ∙ ap (λ (t : List ℕ). command_order (line_command line) (unwrap_or (slice_get (words line) 0) []) t begins) rest))) in
+    subst (λ (l : LabState). Executes (ordered line old) l new r) stands (subst (λ (q : Order). Executes q mid new r) asks h)
+
+-- ---- what a call leaves
+
+pub left_setup : (line : List ℕ) (old new : LabState) → Leaves (ordered line old) (ready (line_command line) old) new
+    → setup new ≡ setup old
+left_setup line old new w = left_setup_by (ordered line old) (ready (line_command line) old) new w
+
+pub out_setup : (line : List ℕ) (old new : LabState)
+    → RunsOut (Leaves (ordered line old)) (ready (line_command line) old) new → setup new ≡ setup old
+out_setup line old new w = out_setup_by (ordered line old) (ready (line_command line) old) new w
+
+pub is_within : (line : List ℕ) (old new : LabState) → Leaves (ordered line old) (ready (line_command line) old) new
+    → IsWithin (call_limit (ordered line old) old.piece) old new
+is_within line old new w = within (ordered line old) (ready (line_command line) old) new w
+
+pub is_within_short : (line : List ℕ) (old new : LabState)
+    → RunsOut (Leaves (ordered line old)) (ready (line_command line) old) new
+    → IsWithin (call_limit (ordered line old) old.piece) old new
+is_within_short line old new w = short_within (ordered line old) (ready (line_command line) old) new w
+
+-- ---- replies, by their parts
+
+abbrev reply_of : Next → Answer → ℕ → ℕ → Reply
+reply_of next answer from to = record { next = next; answer = answer; from = from; to = to }
+
+pub replied : (line : List ℕ) (old new : LabState) (n : Next) (a : Answer) (from : ℕ)
+    → n ≡ (line_does line old new).next
+    → a ≡ (line_does line old new).answer → from ≡ sent old
+    → ◌≡◌ {A = Reply} (record { next = n; answer = a; from = from; to = max from new.told }) (reply_to line old new)
+replied line old new n a from next answer begins =
+    ap (λ x. reply_of x a from (max from new.told)) next
+    ∙ (ap (λ x. reply_of ((line_does line old new).next) x from (max from new.told)) answer
+    ∙ ap (λ x. reply_of ((line_does line old new).next)
+    ((line_does line old new).answer) x (max x new.told)) begins)
+
+pub replied_on : (old new : LabState) (n : Next) (a : Answer) (from : ℕ) → n ≡ next_of new
+    → a ≡ option_map_or (λ p. run_answer p old new) old.plan answers.Nothing → from ≡ old.told
+    → ◌≡◌ {A = Reply} (record { next = n; answer = a; from = from; to = max from new.told }) (reply_on old new)
+replied_on old new n a from next answer begins =
+    ap (λ x. reply_of x a from (max from new.told)) next
+    ∙ (ap (λ x. reply_of (next_of new) x from (max from new.told)) answer
+    ∙ ap (λ x. reply_of (next_of new) (option_map_or (λ p. run_answer p old new) old.plan answers.Nothing) x
+    (max x new.told)) begins)

@@ -1,5 +1,5 @@
 -- The interrupt that is taken next, by the words of the control registers.
-use Rattle.std.proofs.Common.{◌≡◌, ◌∙◌, ℕ, ◌+◌, ◌*◌, ◌/◌, ◌%◌, ◌^◌, ◌≤◌, ◌==◌, ◌&&◌, Bool, true, false, [], ◌∷◌, find, not, refl, ap, arith}
+use Rattle.std.proofs.Common.{◌≡◌, ◌∙◌, ℕ, ◌+◌, ◌*◌, ◌/◌, ◌%◌, ◌^◌, ◌==◌, ◌&&◌, Bool, [], ◌∷◌, find, not, refl, ap, arith}
 use Rattle.std.specs.Prelude.{Option, Some, None, cond, unwrap_or}
 use Rattle.std.specs.Option.{option_map}
 use Rattle.rv_isa.specs.Number.{flag, truth}
@@ -12,15 +12,8 @@ use Rattle.rv_csr.specs.Traps.{pending}
 use Rattle.rv_isa.specs.Names.{csr_names}
 use Rattle.rv_bus.specs.Access.{lines_of}
 use Rattle.rv_board.specs.BoardState.{BoardState, csr_of}
+use Rattle.rv_why.proofs.Words.{is_one, most, mstatus_word}
 use Rattle.rv_lab.specs.Support.Rows.{first_pending}
-
-most : (b : Bool) → truth b ≤ 1
-most true = omega arith
-most false = omega arith
-
-is_one : (b : Bool) → (truth b == 1) ≡ b
-is_one true = refl
-is_one false = refl
 
 mie_is : (s : Mstatus) → flag (status_word s) 3 ≡ s.mie
 unfolding status_word
@@ -30,10 +23,6 @@ mie_is s =
     ap (λ n. n == 1) here ∙ is_one s.mie
 
 module _ (b : BoardState) where
-  mstatus_is : csr_of b 768 ≡ Some (status_word b.machine.csrs.mstatus)
-  unfolding read read_register row_at table number_of csr_names
-  mstatus_is = refl
-
   mie_word : csr_of b 772 ≡ Some (lines_word b.machine.csrs.mie)
   unfolding read read_register row_at table number_of csr_names
   mie_word = refl
@@ -51,7 +40,7 @@ pub next_is : (b : BoardState) (r : Option ℕ) → r ≡ first_pending b
     → r ≡ pending b.machine.csrs b.machine.mode (lines_of b.machine.bus)
 unfolding first_pending pending
 next_is b r e =
-    e ∙ (ap (λ (w : Option ℕ). by_words b.machine.mode (flag (unwrap_or w 0) 3) (unwrap_or (csr_of b 772) 0) (unwrap_or (csr_of b 836) 0)) (mstatus_is b)
+    e ∙ (ap (λ (w : Option ℕ). by_words b.machine.mode (flag (unwrap_or w 0) 3) (unwrap_or (csr_of b 772) 0) (unwrap_or (csr_of b 836) 0)) (mstatus_word b)
     ∙ (ap (λ (m : Bool). by_words b.machine.mode m (unwrap_or (csr_of b 772) 0) (unwrap_or (csr_of b 836) 0)) (mie_is b.machine.csrs.mstatus)
     ∙ (ap (λ (w : Option ℕ). by_words b.machine.mode b.machine.csrs.mstatus.mie (unwrap_or w 0) (unwrap_or (csr_of b 836) 0)) (mie_word b)
     ∙ ap (λ (w : Option ℕ). by_words b.machine.mode b.machine.csrs.mstatus.mie (lines_word b.machine.csrs.mie) (unwrap_or w 0)) (mip_word b))))

@@ -1,24 +1,21 @@
 -- Runs and what they leave.
 use Rattle.std.proofs.Common.{◌≡◌, ◌∙◌, ℕ, zero, suc, ◌+◌, ◌-◌, ◌<◌, Bool, true, false, List, [], ◌∷◌, refl, sym, ap, subst, arith}
 use Rattle.std.proofs.lemmas.Bool.{false≢true}
-use Rattle.std.proofs.lemmas.Bool.Decides.{nat_tests}
 use Rattle.std.specs.FinSet as set
 use Rattle.std.specs.Prelude.{◌&&◌, nat_lt, is_none, is_some, max, min, if◌then◌else◌, unwrap_or, Option, Some, None, Result, Ok, Err, OnOk}
 use Rattle.rv_base.specs.declared.memory.NoMemory.{NoMemory}
 use Rattle.rv_board.specs.Support.State.{halted_of, pc_of}
-use Rattle.rv_monitor.specs.State.{IsInTime, SessionState, TimedState, after}
+use Rattle.rv_monitor.specs.State.{SessionState, TimedState, after}
 use Rattle.rv_monitor.specs.Stops.{may_step, steps_between}
 use Rattle.rv_monitor.proofs.Sets.{no_member}
-use Rattle.rv_monitor.proofs.Steps.{after_more, after_none, in_time_after}
-use Rattle.rv_recording.specs.Recording.{RecordingState, with_timed}
+use Rattle.rv_recording.specs.Recording.{RecordingState}
 use Rattle.rv_recording.specs.Until.{HasRun, step_ends, steps_of}
 use Rattle.rv_recording.specs.declared.until.End.{End}
 use Rattle.rv_recording.specs.declared.until.End.TheVariants.{Halted, Reached, Breakpoint, Limit, Stuck}
-use Rattle.rv_recording.proofs.Counting.{all_steps, joins, joins_over, over_at, over_or_all, same_steps}
 use Rattle.rv_timeline.specs.declared.input.Input.{Input}
 use Rattle.rv_lab.specs.State.{LabState, sent, timed}
-use Rattle.rv_lab.specs.Commands.{Steps, Traces, begun, goal_after, gone_on, next_of, piece_steps, plan_after, run_ends, with_console, with_inputs, with_piece, with_session, with_steps}
-use Rattle.rv_lab.specs.Support.Short.{Traced, rest_of, stepped, stepped_by}
+use Rattle.rv_lab.specs.Commands.{begun, goal_after, stepped, stepped_by, gone_on, next_of, piece_steps, plan_after, run_ends, with_console, with_inputs, with_piece, with_session, with_steps}
+use Rattle.rv_lab.specs.Support.Short.{Traced, Traces, rest_of}
 use Rattle.rv_lab.specs.declared.lab.Next.TheVariants as next
 use Rattle.rv_lab.specs.declared.plan.Plan.{Plan}
 use Rattle.rv_lab.specs.declared.plan.Goal.{Goal}
@@ -220,141 +217,10 @@ goes_while s n =
     step_end_is (set.contains set.empty (pc_of b)) (halted_of b) (nat_lt 0 n) (nat_lt (after s.timed n).taken s.limit)
     (sym (no_member (pc_of b)))
 
-is_over : {A : Type 0} (o : Option A) (b : Bool) → is_none o ≡ b → is_some o ≡ (if b then false else true)
-is_over None true h = refl
-is_over (Some x) true h = absurd (false≢true h)
-is_over None false h = absurd (false≢true (sym h))
-is_over (Some x) false h = refl
-
-over_at_first : (s : SessionState) (b : Bool) → IsInTime s.timed → may_step s ≡ b
-    → is_some (step_ends s 0) ≡ (if b then false else true)
-over_at_first s b h e =
-    is_over (step_ends s 0) b
-    (goes_while s 0 ∙ (ap (λ (t : TimedState). may_step (record s { timed = t })) (after_none s.timed h) ∙ e))
-
--- the steps of a run of steps, one by one
-none_takes : (s : SessionState) (n : ℕ) → IsInTime s.timed → may_step s ≡ false → steps_of (step_ends s) n ≡ 0
-none_takes s n h e =
-    over_at (step_ends s) 0 n (omega arith) (λ i l. absurd (omega (arith, l))) (over_at_first s false h e)
-
-first_goes : (s : SessionState) → IsInTime s.timed → may_step s ≡ true → steps_of (step_ends s) 1 ≡ 1
-first_goes s h e =
-    all_steps (step_ends s) 1 (λ i l.
-    let same : i ≡ 0 = omega (arith, l) in ap (step_ends s) same ∙ none_of (step_ends s 0) (over_at_first s true h e))
-  where
-    none_of : (o : Option End) → is_some o ≡ false → o ≡ None
-    none_of None is = refl
-    none_of (Some end) is = absurd (false≢true (sym is))
-
--- whether the steps after the first are over
-later_ends : (s : SessionState) (i : ℕ) → IsInTime s.timed
-    → is_some (step_ends s (1 + i)) ≡ is_some (step_ends (record s { timed = after s.timed 1 }) i)
-later_ends s i h =
-    is_over (step_ends s (1 + i)) _ (goes_while s (1 + i)) ∙
-    sym (is_over (step_ends (record s { timed = after s.timed 1 }) i) _
-    (goes_while (record s { timed = after s.timed 1 }) i
-    ∙ ap (λ (t : TimedState). may_step (record s { timed = t })) (after_more s.timed 1 i h.rising)))
-
-over_first : (s : SessionState) (k : ℕ) → IsInTime s.timed → may_step s ≡ true → (b : Bool)
-    → is_some (step_ends s 1) ≡ b
-    → steps_of (step_ends s) (1 + k) ≡ 1 + steps_of (step_ends (record s { timed = after s.timed 1 })) k
-over_first s k h e true is =
-    let one : steps_of (step_ends s) 1 ≡ 1 = first_goes s h e in
-    let over : is_some (step_ends s (steps_of (step_ends s) 1)) ≡ true = rw one is in
-    let none : steps_of (step_ends (record s { timed = after s.timed 1 })) k ≡ 0 =
-    over_at (step_ends (record s { timed = after s.timed 1 })) 0 k (omega arith) (λ i l. absurd (omega (arith, l)))
-    (sym (later_ends s 0 h) ∙ is) in
-    let all : steps_of (step_ends s) (1 + k) ≡ 1 = joins_over (step_ends s) 1 k over ∙ one in
-    omega (arith, all, none)
-over_first s k h e false is =
-    let one : steps_of (step_ends s) 1 ≡ 1 = first_goes s h e in
-    let goes : is_some (step_ends s (steps_of (step_ends s) 1)) ≡ false = rw one is in
-    let all : steps_of (step_ends s) (1 + k) ≡ 1 + steps_of (λ i. step_ends s (1 + i)) k =
-    subst (λ (n : ℕ). steps_of (step_ends s) (1 + k) ≡ n + steps_of (λ i. step_ends s (n + i)) k) one
-    (joins (step_ends s) 1 k goes) in
-    all ∙ ap (λ n. 1 + n) (same_steps (λ i. step_ends s (1 + i)) (step_ends (record s { timed = after s.timed 1 }))
-    (λ i. later_ends s i h) k)
-
-one_more_step : (b : Bool) (k : ℕ) (r : RecordingState) → IsInTime r.session.timed → may_step r.session ≡ b
-    → ((q : RecordingState) → IsInTime q.session.timed
-    → stepped_by k q ≡ with_timed q (after q.session.timed (steps_of (step_ends q.session) k)))
-    → stepped_by (suc k) r ≡ with_timed r (after r.session.timed (steps_of (step_ends r.session) (1 + k)))
-one_more_step true k r h e earlier =
-    let first : stepped r ≡ with_timed r (after r.session.timed 1) = rw e refl in
-    ap (λ (q : RecordingState). stepped_by k q) first
-    ∙ (earlier (with_timed r (after r.session.timed 1)) (in_time_after r.session.timed 1 h)
-    ∙ (ap (with_timed r) (after_more r.session.timed 1 _ h.rising)
-    ∙ ap (λ (n : ℕ). with_timed r (after r.session.timed n))
-    (sym (over_first r.session k h e (is_some (step_ends r.session 1)) refl))))
-one_more_step false k r h e earlier =
-    still (suc k) r e
-    ∙ (ap (with_timed r) (sym (after_none r.session.timed h))
-    ∙ ap (λ (n : ℕ). with_timed r (after r.session.timed n)) (sym (none_takes r.session (1 + k) h e)))
-
-pub steps_ran : (n : ℕ) (r : RecordingState) → IsInTime r.session.timed
-    → stepped_by n r ≡ with_timed r (after r.session.timed (steps_of (step_ends r.session) n))
-unfolding steps_of
-steps_ran zero r h = ap (with_timed r) (sym (after_none r.session.timed h))
-steps_ran (suc k) r h =
-    let all : 1 + k ≡ suc k = omega arith in
-    one_more_step (may_step r.session) k r h refl (λ q g. steps_ran k q g)
-    ∙ ap (λ (n : ℕ). with_timed r (after r.session.timed (steps_of (step_ends r.session) n))) all
-
--- steps one by one are a run
-pub traced_runs : (n : ℕ) (old new : LabState) → IsInTime (timed old) → Traced n (begun old) new
-    → Traces n old (with_console new)
-traced_runs n old new h e =
-    ap with_console (e ∙ ap (λ (r : RecordingState). record (begun old) { recording = r }) (steps_ran n old.recording h))
-
--- ---- a plan
-
-spent_by : (q : Plan) (o : Option End) (b : Bool) → (b ≡ true → is_some o ≡ true)
-    → (if is_none o && b then Some q else None) ≡ None
-spent_by q (Some end) b h = refl
-spent_by q None false h = refl
-spent_by q None true h = absurd (false≢true (h refl))
-
--- no plan is left once as many steps were taken as the run takes
-pub spent : (p : Plan) (s : SessionState) → plan_after p s (steps_of (run_ends p.goal s) p.left) ≡ None
-unfolding plan_after
-spent p s =
-    let n = steps_of (run_ends p.goal s) p.left in
-    spent_by _ (run_ends p.goal s n) (nat_lt n p.left) (λ less. over_or_all (run_ends p.goal s) p.left (below n p.left less))
-  where
-    below : (m n : ℕ) → nat_lt m n ≡ true → m < n
-    below m n less = grind (arith, nat_tests)
-
--- a single step is a run
-pub single : (old new : LabState) → IsInTime (timed old)
-    → new ≡ with_console (record (begun (record old { count = 1; plan = None })) { recording = stepped old.recording })
-    → Steps 1 old new
-single old new h e =
-    let base = begun (record old { count = 1 }) in
-    let s = old.recording.session in
-    let p : Plan = record { goal = goal.Count; left = 1; is_monitored = false } in
-    let one : stepped old.recording ≡ with_timed old.recording (after s.timed (steps_of (step_ends s) 1)) =
-    steps_ran 1 old.recording h in
-    let most : 1 ≡ min 1 (max old.piece 1) = omega arith in
-    e ∙ (ap (λ (r : RecordingState). with_console (record base { recording = r; plan = None })) one
-    ∙ (ap (λ (q : Option Plan). with_console (record (with_steps (steps_of (step_ends s) 1) base) { plan = q })) (sym (spent p s))
-    ∙ ap (λ (m : ℕ). with_console (record (with_steps (steps_of (step_ends s) m) base) {
-      plan = plan_after p s (steps_of (step_ends s) m);
-    })) most))
-
-pub single_step : (n : ℕ) (old mid new : LabState) → n ≡ 1 → IsInTime (timed old)
-    → mid ≡ record old { count = n; plan = None }
-    → new ≡ with_console (record (begun mid) { recording = stepped mid.recording }) → Steps n old new
-single_step n old mid new one h is e =
-    subst (λ (m : ℕ). Steps m old new) (sym one)
-    (single old new h
-    (e ∙ ap (λ (l : LabState). with_console (record (begun l) { recording = stepped l.recording }))
-    (is ∙ ap (λ (m : ℕ). record old { count = m; plan = None }) one)))
-
-pub trace_runs : (n : ℕ) (old mid new told : LabState) → IsInTime (timed old) → mid ≡ begun old → Traced n mid new
+pub trace_runs : (n : ℕ) (old mid new told : LabState) → mid ≡ begun old → Traced n mid new
     → told ≡ with_console new → Traces n old told
-trace_runs n old mid new told h is t same =
-    subst (Traces n old) (sym same)
-    (traced_runs n old new h (subst (λ (l : LabState). Traced n l new) is t))
+trace_runs n old mid new told is t same =
+    same ∙ ap with_console (t ∙ ap (λ (l : LabState). record l { recording = stepped_by n l.recording }) is)
 
 -- ---- inputs
 

@@ -5,23 +5,21 @@ use Rattle.std.specs.Prelude.{min, fold, Bool, false, if◌then◌else◌, Optio
 use Rattle.rv_base.specs.declared.memory.NoMemory.{NoMemory}
 use Rattle.rv_timeline.specs.Timed.{never_falls}
 use Rattle.rv_timeline.specs.declared.input.Input.{Input}
-use Rattle.rv_monitor.specs.Commands as monitor
-use Rattle.rv_monitor.specs.Commands.{command_in}
-use Rattle.rv_monitor.specs.State.{IsInTime, SessionState, TimedState, after, given, with_due}
+use Rattle.rv_monitor.specs.State.{SessionState, TimedState, after, given, with_due}
 use Rattle.rv_monitor.specs.Stops.{TakesStep, may_step, steps_between}
 use Rattle.rv_monitor.proofs.Steps.{after_due, after_more, after_rises}
 use Rattle.rv_recording.specs.Recording.{RecordingState, with_timed}
 use Rattle.rv_recording.specs.Support.Refused.{IsRefusedIn}
 use Rattle.rv_lab.specs.Commands as lab
-use Rattle.rv_lab.specs.Commands.{Begins, InSession, Monitors, Starts, Steps, Traces, With, begun, monitored_run, run_ends, with_console, with_inputs, with_session}
+use Rattle.rv_lab.specs.Runs.{Leaves}
+use Rattle.rv_lab.specs.Commands.{begun, monitored_run, planned, run_ends, stepped, stepped_by, with_console, with_inputs, with_session}
 use Rattle.rv_lab.specs.Refusals.{Leads, RunsOut, StopsShort, by_hand, due, nowhere, steps}
-use Rattle.rv_lab.specs.Support.Short.{Gives, IsOnWay, Traced, stepped, stepped_by}
+use Rattle.rv_lab.specs.Support.Short.{Gives, GoesOnWith, IsOnWay, Looks, Monitors, Starts, Steps, Traced, Traces}
 use Rattle.rv_lab.specs.State.{LabState, timed}
-use Rattle.rv_lab.specs.declared.order.Order.{Order}
 use Rattle.rv_lab.specs.declared.order.Order.TheVariants as orders
 use Rattle.rv_lab.specs.declared.plan.Plan.{Plan}
 use Rattle.rv_lab.specs.declared.plan.Goal.TheVariants as goal
-use Rattle.rv_lab.proofs.Runs.{one_and_more, single, traced_more, traced_runs}
+use Rattle.rv_lab.proofs.Runs.{one_and_more, traced_more}
 
 -- what holds in any case holds where memory ran out
 pub on_err : {A : Type 0} (r : Result A NoMemory) (P : Type 0) → P → OnErr r P
@@ -74,7 +72,7 @@ module _ (p : Plan) (old new : LabState) (rising : never_falls (timed old).input
     told_is : old.told ≡ new.told
     told_is = sym (ap (λ (l : LabState). l.told) others)
 
-    piece_short : StopsShort (lab.GoesOn p) old new
+    piece_short : StopsShort (GoesOnWith p) old new
     piece_short = (
       lab.gone_on p old,
       refl,
@@ -89,26 +87,26 @@ pub piece_err : {A : Type 0} (r : Result A NoMemory) (p : Plan) (most : ℕ) (ol
     → never_falls (timed old).inputs ≡ true → most ≡ min p.left (max old.piece 1)
     → at_first ≡ record old { plan = None }
     → IsRefusedIn (run_ends p.goal at_first.recording.session) most at_first.recording.session new.recording.session
-    → new ≡ with_session at_first new.recording.session → OnErr r (StopsShort (lab.GoesOn p) old new)
+    → new ≡ with_session at_first new.recording.session → OnErr r (StopsShort (GoesOnWith p) old new)
 piece_err r p most old at_first new rising most_is is refused others =
     let same : at_first.recording ≡ old.recording = ap (λ (l : LabState). l.recording) is in
-    on_err r (StopsShort (lab.GoesOn p) old new)
+    on_err r (StopsShort (GoesOnWith p) old new)
     (piece_short p old new rising
     (subst (λ (n : ℕ). IsRefusedIn (run_ends p.goal old.recording.session) n old.recording.session new.recording.session) most_is
     (subst (λ (q : RecordingState). IsRefusedIn (run_ends p.goal q.session) most q.session new.recording.session) same refused))
     (others ∙ ap (λ (l : LabState). with_session l new.recording.session) is))
 
 pub starts_short : {A : Type 0} (r : Result A NoMemory) (p : Plan) (old mid new : LabState) → mid ≡ begun old
-    → OnErr r (StopsShort (lab.GoesOn p) mid new) → OnErr r (StopsShort (Starts p) old new)
+    → OnErr r (StopsShort (GoesOnWith p) mid new) → OnErr r (StopsShort (Starts p) old new)
 starts_short (Ok a) p old mid new is s = tt
-starts_short (Err why) p old mid new is s = subst (λ (l : LabState). StopsShort (lab.GoesOn p) l new) is s
+starts_short (Err why) p old mid new is s = subst (λ (l : LabState). StopsShort (GoesOnWith p) l new) is s
 
 -- a run that a line of the monitor asks for
 starts_as : (line : List ℕ) (p : Plan) (old done : LabState) → Some p ≡ monitored_run line old.recording.session
     → Starts p old done → Monitors line old done
 starts_as line p old done e s =
     subst (λ (o : Option Plan). MatchOption o
-    (InSession (monitor.Leaves (command_in line old.recording.session)) old done) (λ q. Starts q old done)) e s
+    (Looks line old done) (λ q. Starts q old done)) e s
 
 pub monitor_short : {A : Type 0} (r : Result A NoMemory) (line : List ℕ) (p : Plan) (old new : LabState)
     → Some p ≡ monitored_run line old.recording.session → OnErr r (StopsShort (Starts p) old new)
@@ -116,42 +114,12 @@ pub monitor_short : {A : Type 0} (r : Result A NoMemory) (line : List ℕ) (p : 
 monitor_short (Ok a) line p old new e s = tt
 monitor_short (Err why) line p old new e s = inr (inr (s.0, starts_as line p old s.0 e s.1, s.2, s.3, s.4))
 
-pub continued : {A : Type 0} (r : Result A NoMemory) (plan : Option Plan) (p : Plan) (old new : LabState)
-    → plan ≡ Some p → StopsShort (lab.GoesOn p) old new → OnErr r (RunsOut (With plan lab.GoesOn) old new)
-continued r plan p old new e s =
-    on_err r (RunsOut (With plan lab.GoesOn) old new)
-    (subst (λ (o : Option Plan). RunsOut (With o lab.GoesOn) old new) (sym e) (inr (inr s)))
-
--- ---- what a call leaves, by its parts
-
-reads_short : {A : Type 0} (meaning : Option A) (x : A) (Does : A → LabState → LabState → Type 0)
-    (old new : LabState) → meaning ≡ Some x → StopsShort (Does x) old new → RunsOut (With meaning Does) old new
-reads_short {A = A} meaning x Does old new e s =
-    subst (λ (o : Option A). RunsOut (With o Does) old new) (sym e) (inr (inr s))
-
-pub short_is_out : {A : Type 0} (Does : LabState → LabState → Type 0) (r : Result A NoMemory)
-    (old new : LabState) → OnErr r (StopsShort Does old new) → OnErr r (RunsOut Does old new)
-short_is_out Does (Ok a) old new s = tt
-short_is_out Does (Err why) old new s = inr (inr s)
-
-pub obeyed : {A : Type 0} (r : Result A NoMemory) (order known : Order) (old new : LabState) → order ≡ known
-    → OnErr r (RunsOut (lab.Leaves known) old new) → OnErr r (RunsOut (lab.Leaves order) old new)
-obeyed r order known old new e s =
-    subst (λ (o : Order). OnErr r (RunsOut (lab.Leaves o) old new)) (sym e) s
-
-pub given_short : {A : Type 0} (r : Result A NoMemory) (order : Order) (inputs those : List Input) (old new : LabState)
-    → order ≡ orders.Give inputs → those ≡ inputs → OnErr r (StopsShort (Gives those) old new)
-    → OnErr r (RunsOut (lab.Leaves order) old new)
-given_short r order inputs those old new e same s =
-    obeyed r order (orders.Give inputs) old new e (short_is_out (lab.Leaves (orders.Give inputs)) r old new
-    (subst (λ (is : List Input). OnErr r (StopsShort (Gives is) old new)) same s))
-
-pub monitored_short : {A : Type 0} (r : Result A NoMemory) (order : Order) (line this : List ℕ) (old new : LabState)
-    → order ≡ orders.Monitor line → this ≡ line → OnErr r (RunsOut (Monitors this) old new)
-    → OnErr r (RunsOut (lab.Leaves order) old new)
-monitored_short r order line this old new e same s =
-    obeyed r order (orders.Monitor line) old new e
-    (subst (λ (text : List ℕ). OnErr r (RunsOut (Monitors text) old new)) same s)
+pub continued : {A : Type 0} (r : Result A NoMemory) (p : Plan) (old new : LabState)
+    → old.plan ≡ Some p → StopsShort (GoesOnWith p) old new → OnErr r (RunsOut lab.GoesOn old new)
+continued r p old new e s =
+    let done : lab.GoesOn old s.0 =
+    subst (λ (o : Option Plan). MatchOption o (s.0 ≡ old) (λ q. GoesOnWith q old s.0)) (sym e) s.1 in
+    on_err r (RunsOut lab.GoesOn old new) (inr (inr (s.0, done, s.2, s.3, s.4)))
 
 -- ---- steps
 
@@ -187,41 +155,12 @@ step_refused inside old new same rising why t others =
     subst (λ (r : RecordingState). IsOnWay r new (stepped r)) same
     (step_on_way inside new rising t.0 t.1 others)
 
-once : (old new : LabState) → IsInTime (timed old)
-    → IsOnWay old.recording new.recording (stepped old.recording)
-    → new ≡ record (begun (record old { count = 1; plan = None })) { recording = new.recording }
-    → StopsShort (Steps 1) old new
-once old new h way others =
-    let base = begun (record old { count = 1; plan = None }) in
-    let done = with_console (record base { recording = stepped old.recording }) in (
-      done,
-      single old done h refl,
-      way.0,
-      way.1,
-      others ∙ (ap (λ (r : RecordingState). record base { recording = r }) way.2
-          ∙ ap (λ (n : ℕ). record base { recording = with_timed old.recording (timed new); told = n })
-          (sym (ap (λ (l : LabState). l.told) others))),
-    )
-
-pub one_short : {A : Type 0} (r : Result A NoMemory) (n : ℕ) (old mid new : LabState) → n ≡ 1
-    → IsInTime (timed old) → mid ≡ record old { count = n; plan = None }
-    → IsOnWay mid.recording new.recording (stepped mid.recording)
-    → new ≡ record (begun mid) { recording = new.recording } → OnErr r (StopsShort (Steps n) old new)
-one_short r n old mid new e h is way others =
-    let at_one : mid ≡ record old { count = 1; plan = None } =
-    is ∙ ap (λ (m : ℕ). record old { count = m; plan = None }) e in
-    on_err r (StopsShort (Steps n) old new)
-    (subst (λ (m : ℕ). StopsShort (Steps m) old new) (sym e)
-    (once old new h
-    (subst (λ (l : LabState). IsOnWay l.recording new.recording (stepped l.recording)) at_one way)
-    (others ∙ ap (λ (l : LabState). record (begun l) { recording = new.recording }) at_one)))
-
 pub many_short : {A : Type 0} (r : Result A NoMemory) (n : ℕ) (old mid new : LabState)
-    → mid ≡ record old { count = n } → OnErr r (StopsShort (Begins goal.Count n) mid new)
+    → mid ≡ record old { count = n } → OnErr r (StopsShort (Starts (planned goal.Count n)) mid new)
     → OnErr r (StopsShort (Steps n) old new)
 many_short (Ok a) n old mid new is s = tt
 many_short (Err why) n old mid new is s =
-    subst (λ (l : LabState). StopsShort (Begins goal.Count n) l new) is s
+    subst (λ (l : LabState). StopsShort (Starts (planned goal.Count n)) l new) is s
 
 -- ---- a trace
 
@@ -281,16 +220,21 @@ pub traced_further : {A : Type 0} (r : Result A NoMemory) (n : ℕ) (old mid new
 traced_further (Ok a) n old mid new h e s = tt
 traced_further (Err why) n old mid new h e s = further_short n old mid new h e s
 
--- a trace is a run
-run_of_steps : (n : ℕ) (old new : LabState) → IsInTime (timed old) → StopsShort (Traced n) (begun old) new
-    → StopsShort (Traces n) old new
-run_of_steps n old new h s = (with_console s.0, traced_runs n old s.0 h s.1, s.2, s.3, s.4)
+-- a trace, and a single step
+pub trace_short : {A : Type 0} (r : Result A NoMemory) (n : ℕ) (old mid new : LabState) → mid ≡ begun old
+    → StopsShort (Traced n) mid new → OnErr r (StopsShort (Traces n) old new)
+trace_short r n old mid new is s =
+    let t = subst (λ (l : LabState). StopsShort (Traced n) l new) is s in
+    on_err r (StopsShort (Traces n) old new) (with_console t.0, ap with_console t.1, t.2, t.3, t.4)
 
-pub trace_short : {A : Type 0} (r : Result A NoMemory) (n : ℕ) (old mid new : LabState) → IsInTime (timed old)
-    → mid ≡ begun old → StopsShort (Traced n) mid new → OnErr r (StopsShort (Traces n) old new)
-trace_short r n old mid new h is s =
-    on_err r (StopsShort (Traces n) old new)
-    (run_of_steps n old new h (subst (λ (l : LabState). StopsShort (Traced n) l new) is s))
+pub once_short : {A : Type 0} (r : Result A NoMemory) (old counted mid new : LabState) → counted ≡ record old { count = 1 }
+    → mid ≡ begun counted → old.plan ≡ None → IsOnWay mid.recording new.recording (stepped mid.recording)
+    → new ≡ record mid { recording = new.recording } → OnErr r (StopsShort (Leaves orders.Once) old new)
+once_short r old counted mid new one is none way others =
+    let at : mid ≡ begun (record old { count = 1 }) = is ∙ ap begun one in
+    let t = subst (λ (l : LabState). StopsShort (Traced 1) l new) at
+    (traced_short 1 mid new (omega arith) (ap (λ (l : LabState). l.plan) at ∙ none) way others) in
+    on_err r (StopsShort (Leaves orders.Once) old new) (with_console t.0, ap with_console t.1, t.2, t.3, t.4)
 
 -- ---- inputs by hand
 

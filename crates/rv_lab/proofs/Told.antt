@@ -1,6 +1,6 @@
 -- What commands answered.
-use Rattle.std.proofs.Common.{◌≡◌, ◌∙◌, ℕ, zero, suc, ◌-◌, ◌<◌, ◌==◌, Bool, true, false, List, [], ◌∷◌, ◌++◌, refl, sym, ap, subst, append-nil, append_assoc, arith}
-use Rattle.std.specs.Prelude.{Option, Some, None, IfOk, OnOk, OnErr, length, Result, Ok, Err, if◌then◌else◌}
+use Rattle.std.proofs.Common.{◌≡◌, ◌∙◌, ℕ, zero, suc, ◌-◌, ◌<◌, Bool, true, false, List, [], ◌∷◌, ◌++◌, refl, sym, ap, subst, append-nil, append_assoc, arith}
+use Rattle.std.specs.Prelude.{Option, Some, None, IfOk, OnOk, OnErr, Result, Ok, Err, if◌then◌else◌}
 use Rattle.std.specs.Option.{option_map_or}
 use Rattle.rv_base.specs.declared.memory.NoMemory.{NoMemory}
 use Rattle.rv_hart.specs.declared.trap.Outcome.{Outcome}
@@ -18,18 +18,15 @@ use Rattle.rv_answers.specs.declared.values.Place.{Place}
 use Rattle.rv_answers.specs.declared.values.RegisterValue.{RegisterValue}
 use Rattle.rv_answers.specs.declared.values.Standing.{Standing}
 use Rattle.rv_answers.specs.declared.values.Trap.{Trap}
-use Rattle.rv_timeline.specs.declared.input.Input.{Input}
 use Rattle.rv_monitor.specs.Commands as monitor
 use Rattle.rv_monitor.specs.Commands.{command_in}
 use Rattle.rv_lab.specs.Answers.{place_of, standing}
-use Rattle.rv_lab.specs.Commands.{GoesOn, begun, follows, gone_on, monitor_next, monitored_run, with_console, with_piece, with_steps}
+use Rattle.rv_lab.specs.Commands.{begun, gone_on, monitored_run, planned, stepped, with_console, with_piece, with_steps}
 use Rattle.rv_lab.specs.Refusals.{StopsShort, nowhere}
-use Rattle.rv_lab.specs.Runs.{aim_of, answer_by, begins_answer, changes, end_of, ending_of, given_answer, monitor_answer, next_step, next_steps, over_answer, run_answer, step_answer, step_value, steps_answer, trace_answer, trace_ending, trap_in}
+use Rattle.rv_lab.specs.Runs.{aim_of, changes, end_of, ending_of, monitor_answer, next_step, next_steps, over_answer, run_answer, step_answer, step_value, trace_answer, trace_ending, trap_in}
 use Rattle.rv_lab.specs.State.{LabState, board, registers_of, timed}
-use Rattle.rv_lab.specs.Support.Short.{IsOnWay, Traced, stepped}
+use Rattle.rv_lab.specs.Support.Short.{GoesOnWith, IsOnWay, Traced}
 use Rattle.rv_lab.specs.declared.lab.Done.{Done}
-use Rattle.rv_lab.specs.declared.order.Order.{Order}
-use Rattle.rv_lab.specs.declared.order.Order.TheVariants as orders
 use Rattle.rv_lab.specs.declared.plan.Goal.{Goal}
 use Rattle.rv_lab.specs.declared.plan.Goal.TheVariants as goal
 use Rattle.rv_lab.specs.declared.plan.Plan.{Plan}
@@ -62,11 +59,11 @@ over p end kept old mid new a now e told ended h =
 -- memory ran out after a whole run
 pub over_short : {A : Type 0} (r : Result A NoMemory) (p : Plan) (kept : Option Plan) (old mid new : LabState)
     → mid ≡ with_piece p old → kept ≡ mid.plan → kept ≡ None → new ≡ with_console mid
-    → OnErr r (StopsShort (GoesOn p) old new)
+    → OnErr r (StopsShort (GoesOnWith p) old new)
 over_short r p kept old mid new is now e told =
     let all : new ≡ gone_on p old = told_end p kept old mid new is now e told in
     let none : (gone_on p old).plan ≡ None = sym (ap (λ (l : LabState). l.plan) is) ∙ (sym now ∙ e) in
-    on_err r (StopsShort (GoesOn p) old new) (subst (StopsShort (GoesOn p) old) (sym all) (
+    on_err r (StopsShort (GoesOnWith p) old new) (subst (StopsShort (GoesOnWith p) old) (sym all) (
       gone_on p old,
       refl,
       to_steps (timed old) _,
@@ -99,8 +96,9 @@ same_steps (suc n) l rs b t c p =
     ∙ ap (λ (vs : List Step). if may_step l.recording.session then step_value l ∷ vs else [])
     (same_steps n (with_steps 1 l) rs b t c p)
 
-begun_step : (old mid : LabState) → mid ≡ begun old → next_step mid ≡ next_step old
-begun_step old mid e = ap next_step e ∙ same_step old _ _ _ old.count old.plan
+counted_step : (old counted mid : LabState) → counted ≡ record old { count = 1 } → mid ≡ begun counted
+    → next_step mid ≡ next_step old
+counted_step old counted mid one e = ap next_step (e ∙ ap begun one) ∙ same_step old _ _ _ 1 old.plan
 
 step_said : (o p : Option Step) (st : Standing) → o ≡ p
     → option_map_or (λ (x : Step). answers.Stepped (record { step = x; standing = st })) o (answers.Stuck st)
@@ -108,18 +106,18 @@ step_said : (o p : Option Step) (st : Standing) → o ≡ p
 step_said o p st e = ap (λ (q : Option Step). option_map_or
     (λ (x : Step). answers.Stepped (record { step = x; standing = st })) q (answers.Stuck st)) e
 
-pub did_step : (old mid new : LabState) (s : Option Step) (v : Step) (st : Standing) → mid ≡ begun old
-    → s ≡ next_step mid → s ≡ Some v → st ≡ standing new
+pub did_step : (old counted mid new : LabState) (s : Option Step) (v : Step) (st : Standing)
+    → counted ≡ record old { count = 1 } → mid ≡ begun counted → s ≡ next_step mid → s ≡ Some v → st ≡ standing new
     → answers.Stepped (record { step = v; standing = st }) ≡ step_answer old new
-did_step old mid new s v st e is some stands =
+did_step old counted mid new s v st one e is some stands =
     ap (λ (x : Standing). answers.Stepped (record { step = v; standing = x })) stands
-    ∙ step_said (Some v) (next_step old) (standing new) (sym some ∙ (is ∙ begun_step old mid e))
+    ∙ step_said (Some v) (next_step old) (standing new) (sym some ∙ (is ∙ counted_step old counted mid one e))
 
-pub no_step : (old mid new : LabState) (s : Option Step) (st : Standing) → mid ≡ begun old
-    → s ≡ next_step mid → s ≡ None → st ≡ standing new → answers.Stuck st ≡ step_answer old new
-no_step old mid new s st e is none stands =
+pub no_step : (old counted mid new : LabState) (s : Option Step) (st : Standing) → counted ≡ record old { count = 1 }
+    → mid ≡ begun counted → s ≡ next_step mid → s ≡ None → st ≡ standing new → answers.Stuck st ≡ step_answer old new
+no_step old counted mid new s st one e is none stands =
     ap (λ (x : Standing). answers.Stuck x) stands
-    ∙ step_said None (next_step old) (standing new) (sym none ∙ (is ∙ begun_step old mid e))
+    ∙ step_said None (next_step old) (standing new) (sym none ∙ (is ∙ counted_step old counted mid one e))
 
 -- ---- what a step did
 
@@ -296,22 +294,11 @@ traced n old mid new steps en st e is ends stands =
 
 -- ---- `s`
 
-pub one_step : (n : ℕ) (old counted mid new : LabState) (a : Answer) → n ≡ 1 → counted ≡ record old { count = n }
-    → mid ≡ record counted { plan = None } → a ≡ step_answer mid new → a ≡ steps_answer n old new
-unfolding steps_answer
-one_step n old counted mid new a one is at h =
-    let same : next_step mid ≡ next_step old =
-    ap next_step (at ∙ ap (λ (l : LabState). record l { plan = None }) is)
-    ∙ same_step old old.registers old.before old.told n None in
-    h ∙ (step_said (next_step mid) (next_step old) (standing new) same ∙ sym (rw one refl))
-
-pub some_steps : {E : Type 0} (r : Result Done E) (n : ℕ) (old mid new : LabState) → (n == 1) ≡ false
-    → mid ≡ record old { count = n } → IfOk r (λ d. d.answer ≡ begins_answer goal.Count n mid new)
-    → IfOk r (λ d. d.answer ≡ steps_answer n old new)
-unfolding steps_answer run_answer
-some_steps (Err why) n old mid new many is h = tt
-some_steps (Ok d) n old mid new many is h =
-    h ∙ (ap (λ (l : LabState). begins_answer goal.Count n l new) is ∙ sym (rw many refl))
+pub some_steps : {E : Type 0} (r : Result Done E) (n : ℕ) (old mid new : LabState) → mid ≡ record old { count = n }
+    → IfOk r (λ d. d.answer ≡ run_answer (planned goal.Count n) (begun mid) new)
+    → IfOk r (λ d. d.answer ≡ run_answer (planned goal.Count n) (begun (record old { count = n })) new)
+some_steps (Err why) n old mid new is h = tt
+some_steps (Ok d) n old mid new is h = h ∙ ap (λ (l : LabState). run_answer (planned goal.Count n) (begun l) new) is
 
 -- ---- an order
 
@@ -334,28 +321,6 @@ pub monitor_looked : {E : Type 0} (r : Result Done E) (line : List ℕ) (old new
 unfolding monitor_answer
 monitor_looked (Err why) line old new e h = tt
 monitor_looked (Ok d) line old new e h = h ∙ sym (rw (sym e) refl)
-
--- what was answered to what the order has
-pub give_said : {E : Type 0} (r : Result Done E) (order : Order) (inputs those : List Input) (old new : LabState)
-    → order ≡ orders.Give inputs → those ≡ inputs → IfOk r (λ d. d.answer ≡ given_answer (length those) new)
-    → IfOk r (λ d. d.answer ≡ answer_by order old new)
-give_said r order inputs those old new e same h =
-    subst (λ (o : Order). IfOk r (λ (d : Done). d.answer ≡ answer_by o old new)) (sym e)
-    (subst (λ (is : List Input). IfOk r (λ (d : Done). d.answer ≡ given_answer (length is) new)) same h)
-
-pub monitor_said : {E : Type 0} (r : Result Done E) (order : Order) (line this : List ℕ) (old new : LabState)
-    → order ≡ orders.Monitor line → this ≡ line → IfOk r (λ d. d.answer ≡ monitor_answer this old new)
-    → IfOk r (λ d. d.answer ≡ answer_by order old new)
-monitor_said r order line this old new e same h =
-    subst (λ (o : Order). IfOk r (λ (d : Done). d.answer ≡ answer_by o old new)) (sym e)
-    (subst (λ (text : List ℕ). IfOk r (λ (d : Done). d.answer ≡ monitor_answer text old new)) same h)
-
-pub monitor_goes_on : {E : Type 0} (r : Result Done E) (order : Order) (line this : List ℕ) (s : SessionState)
-    (new : LabState) → order ≡ orders.Monitor line → this ≡ line
-    → IfOk r (λ d. d.next ≡ monitor_next (command_in this s) new) → IfOk r (λ d. d.next ≡ follows order s new)
-monitor_goes_on r order line this s new e same h =
-    subst (λ (o : Order). IfOk r (λ (d : Done). d.next ≡ follows o s new)) (sym e)
-    (subst (λ (text : List ℕ). IfOk r (λ (d : Done). d.next ≡ monitor_next (command_in text s) new)) same h)
 
 -- ---- a run that is over
 

@@ -162,13 +162,8 @@ edges_answer l operands = option_map_or
 abbrev pub interrupts_of : BoardState → Interrupts
 interrupts_of b =
     let csr : ℕ → ℕ = λ n. unwrap_or (csr_of b n) 0 in let m = b.machine in
-    record {
-      mode = m.mode;
-      mstatus = csr 0x300;
-      mie = csr 0x304;
-      mip = csr 0x344;
-      next = pending m.csrs m.mode (lines_of m.bus);
-    }
+    let next = pending m.csrs m.mode (lines_of m.bus) in
+    record { mode = m.mode; mstatus = csr 0x300; mie = csr 0x304; mip = csr 0x344; next = next }
 
 unfoldable pub devices_of : BoardState → Devices
 devices_of b = let m = b.machine in record {

@@ -1,13 +1,13 @@
 -- To audit: public contracts cite this.
 -- What each order leaves of a lab, by which a command line asks for something (this project's own: docs/LAB.md).
-use Rattle.std.specs.Prelude.{◌≡◌, ℕ, ◌+◌, ◌-◌, ◌≤◌, ◌&&◌, true, false, if◌then◌else◌, is_none, is_some, max, min, nat_lt, List, fold, Option, Some, None, MatchOption, unwrap_or}
+use Rattle.std.specs.Prelude.{◌≡◌, ℕ, zero, suc, ◌+◌, ◌-◌, ◌≤◌, ◌&&◌, true, false, if◌then◌else◌, is_none, is_some, max, min, nat_lt, List, fold, Option, Some, None, MatchOption, unwrap_or}
 use Rattle.rv_timeline.specs.declared.input.Input.{Input}
 use Rattle.rv_monitor.specs.Commands.{command_in}
-use Rattle.rv_monitor.specs.Commands as monitor
 use Rattle.rv_commands.specs.declared.command.Command as commands
 use Rattle.rv_commands.specs.declared.command.Command.TheVariants as monitored
-use Rattle.rv_monitor.specs.State.{SessionState, TimedState, after, given, with_break, without_break}
-use Rattle.rv_recording.specs.Recording.{gone_back, with_timed}
+use Rattle.rv_monitor.specs.State.{SessionState, TimedState, after, given}
+use Rattle.rv_monitor.specs.Stops.{may_step}
+use Rattle.rv_recording.specs.Recording.{RecordingState, with_timed}
 use Rattle.rv_recording.specs.Until.{break_ends, step_ends, steps_of, until_ends}
 use Rattle.rv_recording.specs.Out.{open_at, out_ends}
 use Rattle.rv_recording.specs.declared.until.End.{End}
@@ -20,7 +20,6 @@ use Rattle.rv_lab.specs.declared.plan.Goal.TheVariants as goal
 use Rattle.rv_answers.specs.declared.command.Command.{Command}
 use Rattle.rv_lab.specs.declared.order.Order.{Order}
 use Rattle.rv_lab.specs.declared.order.Order.TheVariants as orders
-use Rattle.rv_lab.specs.Lines.{with_listed}
 use Rattle.rv_lab.specs.Words.{repeated}
 
 -- ---- changes of a session
@@ -29,12 +28,11 @@ use Rattle.rv_lab.specs.Words.{repeated}
 abbrev pub with_session : LabState → SessionState → LabState
 with_session l s = record l { recording = record l.recording { session = s } }
 
--- this was done with the session, and nothing else changed
-abbrev pub InSession : (SessionState → SessionState → Type 0) → LabState → LabState → Type 0
-InSession Does old new =
-    (new ≡ with_session old new.recording.session) × Does old.recording.session new.recording.session
-
 -- ---- runs
+
+-- a run of the lab
+abbrev pub planned : Goal → ℕ → Plan
+planned goal most = record { goal = goal; left = most; is_monitored = false }
 
 -- why a run from a session on is over after some of its steps, if it is, by what it goes on for
 abbrev pub run_ends : Goal → SessionState → ℕ → Option End
@@ -77,12 +75,9 @@ gone_on p l =
     let done = with_piece p l in
     record done { told = if p.is_monitored && is_some done.plan then l.told else sent done }
 
-abbrev pub GoesOn : Plan → LabState → LabState → Type 0
-GoesOn p old new = new ≡ gone_on p old
-
--- this was done with what there may be, and nothing where there is none
-abbrev pub With : {A : Type 0} → Option A → (A → LabState → LabState → Type 0) → LabState → LabState → Type 0
-With meaning Does old new = MatchOption meaning (new ≡ old) (λ x. Does x old new)
+-- the run that isn't over went on for a call, if there is one
+abbrev pub GoesOn : LabState → LabState → Type 0
+GoesOn old new = MatchOption old.plan (new ≡ old) (λ p. new ≡ gone_on p old)
 
 -- a run in calls of any sizes, from a lab on to one where it is over
 pub data InPieces (end : LabState) : LabState → Type 0 where
@@ -95,21 +90,6 @@ pub data InPieces (end : LabState) : LabState → Type 0 where
 -- a lab as a command that moves the board begins: the next is compared with it
 abbrev pub begun : LabState → LabState
 begun l = record l { registers = registers_of (board l); before = (timed l).taken; told = sent l }
-
--- a run that begins, with its first call
-abbrev pub Starts : Plan → LabState → LabState → Type 0
-Starts p old new = GoesOn p (begun old) new
-
-abbrev pub Begins : Goal → ℕ → LabState → LabState → Type 0
-Begins goal most old new = Starts (record { goal = goal; left = most; is_monitored = false }) old new
-
--- `s`
-abbrev pub Steps : ℕ → LabState → LabState → Type 0
-Steps n old new = Begins goal.Count n (record old { count = n }) new
-
--- `trace`: steps past any breakpoint
-abbrev pub Traces : ℕ → LabState → LabState → Type 0
-Traces n old new = new ≡ with_console (with_steps (steps_of (step_ends old.recording.session) n) (begun old))
 
 -- ---- a command
 
@@ -128,24 +108,13 @@ run_of _ limit = None
 abbrev pub monitored_run : List ℕ → SessionState → Option Plan
 monitored_run line s = run_of (command_in line s) s.limit
 
--- `monitor`: a run goes on as the lab's do; any other command is no command that moves the board
-abbrev pub Monitors : List ℕ → LabState → LabState → Type 0
-Monitors line old new = MatchOption (monitored_run line old.recording.session)
-    (InSession (monitor.Leaves (command_in line old.recording.session)) old new) (λ p. Starts p old new)
+-- a recording after its next step, if one can be taken, and after n of them
+abbrev pub stepped : RecordingState → RecordingState
+stepped r = if may_step r.session then with_timed r (after r.session.timed 1) else r
 
--- the lab that an order leaves; those without a row only look
-abbrev pub Leaves : Order → LabState → LabState → Type 0
-Leaves (orders.Steps n) old new = Steps n old new
-Leaves (orders.Run p) old new = Starts p old new
-Leaves (orders.Trace n) old new = Traces n old new
-Leaves (orders.Back n) old new = let to = (timed old).taken - n in
-    new ≡ with_console (record (begun old) { recording = gone_back old.recording to; before = to })
-Leaves (orders.List e follows) old new = new ≡ with_listed old e
-Leaves (orders.Break a) old new = new ≡ with_session old (with_break old.recording.session a)
-Leaves (orders.Clear a) old new = new ≡ with_session old (without_break old.recording.session a)
-Leaves (orders.Give inputs) old new = new ≡ with_inputs old inputs
-Leaves (orders.Monitor line) old new = Monitors line old new
-Leaves _ old new = new ≡ old
+abbrev pub stepped_by : ℕ → RecordingState → RecordingState
+stepped_by zero r = r
+stepped_by (suc n) r = stepped_by n (stepped r)
 
 -- the lab before a command: it ends the run that isn't over
 abbrev pub ready : Command → LabState → LabState
@@ -162,24 +131,12 @@ abbrev pub monitor_next : Option commands.Command → LabState → Next
 monitor_next (Some monitored.Quit) new = next.Quit
 monitor_next c new = next_of new
 
--- what follows an order, by the session before it and the lab that it left
-abbrev pub follows : Order → SessionState → LabState → Next
-follows (orders.Steps n) s new = next_of new
-follows (orders.Run p) s new = next_of new
-follows (orders.Monitor line) s new = monitor_next (command_in line s) new
-follows (orders.Save (Some name)) s new = next.Save
-follows orders.Quit s new = next.Quit
-follows _ s new = next.More
-
 -- ---- the steps of a call
 
 -- the most steps of a call for an order, of a lab with pieces of so many: a piece, or for `trace` all its steps
 abbrev pub call_limit : Order → ℕ → ℕ
-call_limit (orders.Steps n) piece = max piece 1
-call_limit (orders.Run p) piece = max piece 1
-call_limit (orders.Monitor line) piece = max piece 1
 call_limit (orders.Trace n) piece = n
-call_limit _ piece = 0
+call_limit order piece = max piece 1
 
 -- a call took n steps at most
 abbrev pub IsWithin : ℕ → LabState → LabState → Type 0

@@ -1,13 +1,12 @@
 -- To audit: public contracts cite this.
 -- The lines of a lab's source by their addresses, and which of them `l` lists (this project's own: docs/LAB.md).
-use Rattle.std.specs.Prelude.{ℕ, ◌+◌, ◌-◌, ◌/◌, ◌==◌, ◌&&◌, false, find, get_or, if◌then◌else◌, length, min, nat_le, nat_lt, Option, None, option_and_then}
+use Rattle.std.specs.Prelude.{ℕ, ◌-◌, ◌/◌, ◌==◌, ◌&&◌, false, find, get_or, if◌then◌else◌, length, nat_le, nat_lt, Option, None, option_and_then}
 use Rattle.std.specs.FinSet as set
 use Rattle.std.specs.List.{range_with_len}
 use Rattle.std.specs.Option.{option_map_or}
 use Rattle.rv_asm.specs.Lines.{Listed, address_of, bytes_of}
 use Rattle.rv_monitor.specs.Views.{word_at}
 use Rattle.rv_answers.specs.declared.rows.Row.{Row}
-use Rattle.rv_lab.specs.declared.source.Excerpt.{Excerpt}
 use Rattle.rv_lab.specs.State.{LabState, board, listing}
 
 -- ---- addresses
@@ -40,17 +39,3 @@ row_of l n = record {
 -- the number of lines
 abbrev pub line_count : Listed → ℕ
 line_count l = length l.addresses - 1
-
--- ---- which lines are listed
-
--- some lines round one
-abbrev pub excerpt_round : (line count : ℕ) → Excerpt
-excerpt_round line count = record { after = line - count / 2 - 1; count = count }
-
--- an empty line after `l`: the 11 lines that follow
-abbrev pub next_excerpt : LabState → Excerpt
-next_excerpt l = record { after = l.listed; count = 11 }
-
--- the lab that listed an excerpt
-abbrev pub with_listed : LabState → Excerpt → LabState
-with_listed l e = record l { listed = min (e.after + e.count) (line_count (listing l)) }

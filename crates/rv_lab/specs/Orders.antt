@@ -1,6 +1,6 @@
 -- To audit: public contracts cite this.
 -- What a command line asks for, by its words and the lab as it stands (this project's own: docs/LAB.md).
-use Rattle.std.specs.Prelude.{ℕ, ◌-◌, false, true, List, [], ◌∷◌, if◌then◌else◌, length, nat_lt, slice_get, Option, Some, None, option_and_then, unwrap_or}
+use Rattle.std.specs.Prelude.{ℕ, ◌-◌, ◌/◌, ◌==◌, false, true, List, [], ◌∷◌, if◌then◌else◌, length, nat_lt, slice_get, Option, Some, None, option_and_then, unwrap_or}
 use Rattle.std.specs.Option.{option_map_or}
 use Rattle.rv_base.specs.Words.{words}
 use Rattle.rv_timeline.specs.Timed.{driven}
@@ -16,29 +16,23 @@ use Rattle.rv_answers.specs.declared.command.Command.TheVariants.{Step, Over, Mo
 use Rattle.rv_answers.specs.declared.command.Command.TheVariants as command
 use Rattle.rv_answers.specs.declared.command.Move.TheVariants.{Go, Finish, Until, Trace, Back}
 use Rattle.rv_lab.specs.Answers.{breakpoints, look_answer, only, refused}
-use Rattle.rv_lab.specs.Commands.{Leaves, follows, ready}
-use Rattle.rv_lab.specs.Lines.{excerpt_round, line_at, next_excerpt}
+use Rattle.rv_lab.specs.Commands.{planned, ready}
+use Rattle.rv_lab.specs.Lines.{line_at}
 use Rattle.rv_lab.specs.State.{LabState, board, listing, timed}
-use Rattle.rv_lab.specs.Words.{count_of, line_command, most_steps, most_traced, usual_steps}
-use Rattle.rv_lab.specs.declared.lab.Next.{Next}
+use Rattle.rv_lab.specs.Words.{count_of, line_command, most_steps, usual_steps}
 use Rattle.rv_lab.specs.declared.order.Order.{Order}
 use Rattle.rv_lab.specs.declared.order.Order.TheVariants as orders
-use Rattle.rv_lab.specs.declared.plan.Goal.{Goal}
 use Rattle.rv_lab.specs.declared.plan.Goal.TheVariants as goal
 
 -- what some words ask for, or that they are refused
 abbrev pub or_refused : {A : Type 0} → Option A → (A → Order) → Answer → Order
 or_refused read order refusal = option_map_or order read (orders.Answered refusal)
 
--- a run of the lab
-abbrev pub run_order : Goal → ℕ → Order
-run_order goal most = orders.Run (record { goal = goal; left = most; is_monitored = false })
-
 -- `l`: round pc's line, or the line of a word, by its number or at an address; 11 lines, or as many as the next
 -- word says
 abbrev pub list_round : List (List ℕ) → ℕ → Order
-list_round more line = or_refused (count_of 11 1000 more) (λ n. orders.List (excerpt_round line n) false)
-    (refused command.List [] why.NoCount)
+list_round more line = or_refused (count_of 11 1000 more)
+    (λ n. orders.List (record { after = line - n / 2 - 1; count = n }) false) (refused command.List [] why.NoCount)
 
 unfoldable pub list_order : List (List ℕ) → LabState → Order
 list_order [] l = list_round [] (unwrap_or (line_at (listing l) (board l).machine.pc) 1)
@@ -67,25 +61,29 @@ help_order text [] = orders.Answered (answers.Help None)
 help_order text ws = or_refused (option_and_then command_named (only ws)) (λ c. orders.Answered (answers.Help (Some c)))
     (refused Help text why.NoCommand)
 
+-- `s`: a single step, or a run
+abbrev pub steps_order : ℕ → Order
+steps_order n = if n == 1 then orders.Once else orders.Steps n
+
 -- what an empty line asks for: the last step or list command again
 abbrev pub again_order : Command → LabState → Order
-again_order Step l = orders.Steps l.count
-again_order StepOnce l = orders.Steps 1
-again_order Over l = run_order (goal.Out 0) usual_steps
-again_order command.List l = orders.List (next_excerpt l) true
+again_order Step l = steps_order l.count
+again_order StepOnce l = orders.Once
+again_order Over l = orders.Run (planned (goal.Out 0) usual_steps)
+again_order command.List l = orders.List (record { after = l.listed; count = 11 }) true
 again_order _ l = orders.Answered answers.Nothing
 
 -- what a command asks for, by its word and the text of its operands
 unfoldable pub command_order : Command → (word text : List ℕ) → LabState → Order
 command_order Step word text l =
-    or_refused (count_of 1 most_steps (words text)) (λ n. orders.Steps n) (refused Step text why.NoSteps)
+    or_refused (count_of 1 most_steps (words text)) steps_order (refused Step text why.NoSteps)
 command_order (Moves Go) word text l = or_refused (count_of usual_steps most_steps (words text))
-    (run_order goal.Break) (refused (Moves Go) text why.NoSteps)
-command_order Over word text l = run_order (goal.Out 0) usual_steps
-command_order (Moves Finish) word text l = run_order (goal.Out 1) usual_steps
+    (λ n. orders.Run (planned goal.Break n)) (refused (Moves Go) text why.NoSteps)
+command_order Over word text l = orders.Run (planned (goal.Out 0) usual_steps)
+command_order (Moves Finish) word text l = orders.Run (planned (goal.Out 1) usual_steps)
 command_order (Moves Until) word text l = or_refused (condition (listing l) (board l) (words text))
-    (λ c. run_order (goal.Until c) usual_steps) (refused (Moves Until) text why.NoCondition)
-command_order (Moves Trace) word text l = or_refused (count_of 10 most_traced (words text))
+    (λ c. orders.Run (planned (goal.Until c) usual_steps)) (refused (Moves Until) text why.NoCondition)
+command_order (Moves Trace) word text l = or_refused (count_of 10 1000 (words text))
     (λ n. orders.Trace n) (refused (Moves Trace) text why.NoSteps)
 command_order (Moves Back) word text l = or_refused (count_of ((timed l).taken - l.before) last_step (words text))
     (λ n. orders.Back n) (refused (Moves Back) text why.NoSteps)
@@ -116,11 +114,3 @@ order_of line l = command_order (line_command line) (unwrap_or (slice_get (words
 -- what it asks a lab for that is ready for it
 abbrev pub ordered : List ℕ → LabState → Order
 ordered line l = order_of line (ready (line_command line) l)
-
--- the lab that it leaves
-abbrev pub Obeys : List ℕ → LabState → LabState → Type 0
-Obeys line old new = Leaves (ordered line old) (ready (line_command line) old) new
-
--- what follows it
-abbrev pub next_after : List ℕ → (old new : LabState) → Next
-next_after line old new = follows (ordered line old) old.recording.session new

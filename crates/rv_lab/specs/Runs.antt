@@ -1,7 +1,7 @@
 -- To audit: public contracts cite this.
 -- What the commands that move the board, change breakpoints, give inputs or save answer, as values of the lab before
 -- and after (this project's own: docs/LAB.md).
-use Rattle.std.specs.Prelude.{ℕ, zero, suc, ◌-◌, ◌==◌, Bool, false, List, [], ◌∷◌, filter, if◌then◌else◌, is_some, length, map, min, nat_lt, not, codes, slice_get, slice_index, Option, Some, None, unwrap_or}
+use Rattle.std.specs.Prelude.{◌≡◌, ℕ, zero, suc, ◌+◌, ◌-◌, ◌==◌, Bool, List, [], ◌∷◌, filter, if◌then◌else◌, is_some, length, map, max, min, nat_lt, not, codes, slice_get, slice_index, Option, Some, None, MatchOption, unwrap_or}
 use Rattle.std.specs.FinSet as set
 use Rattle.std.specs.List.{range_with_len}
 use Rattle.std.specs.Option.{option_map, option_map_or}
@@ -12,9 +12,10 @@ use Rattle.rv_hart.specs.declared.trap.Outcome.TheVariants.{Trapped}
 use Rattle.rv_board.specs.declared.event.TrapRecord.{TrapRecord}
 use Rattle.rv_monitor.specs.Commands as monitor
 use Rattle.rv_monitor.specs.Commands.{command_in}
-use Rattle.rv_monitor.specs.State.{with_due}
+use Rattle.rv_monitor.specs.State.{with_break, with_due, without_break}
 use Rattle.rv_monitor.specs.Stops.{may_step}
 use Rattle.rv_monitor.specs.Views.{stop_text}
+use Rattle.rv_recording.specs.Recording.{gone_back}
 use Rattle.rv_recording.specs.Until.{watched_value}
 use Rattle.rv_recording.specs.declared.until.Condition.{Condition}
 use Rattle.rv_recording.specs.declared.until.Condition.TheVariants as condition
@@ -36,11 +37,15 @@ use Rattle.rv_answers.specs.declared.values.RegisterValue.{RegisterValue}
 use Rattle.rv_answers.specs.declared.values.Trap.{Trap}
 use Rattle.rv_why.specs.Why.{explanation}
 use Rattle.rv_lab.specs.Answers.{place_of, rows_answer, standing}
-use Rattle.rv_lab.specs.Commands.{begun, monitored_run, piece_steps, ready, run_ends, with_steps}
+use Rattle.rv_lab.specs.Commands.{begun, gone_on, monitor_next, monitored_run, next_of, piece_steps, planned, ready, run_ends, stepped, stepped_by, with_console, with_inputs, with_session, with_steps}
 use Rattle.rv_lab.specs.Orders.{ordered}
 use Rattle.rv_lab.specs.Saved.{steps_text}
-use Rattle.rv_lab.specs.State.{LabState, board, registers_of, timed}
+use Rattle.rv_lab.specs.State.{LabState, board, listing, registers_of, sent, timed}
+use Rattle.rv_lab.specs.Lines.{line_count}
+use Rattle.rv_lab.specs.declared.lab.Next.{Next}
+use Rattle.rv_lab.specs.declared.lab.Next.TheVariants as next
 use Rattle.rv_lab.specs.Words.{line_command, most_steps}
+use Rattle.rv_lab.specs.declared.lab.Reply.{Reply}
 use Rattle.rv_lab.specs.declared.order.Order.{Order}
 use Rattle.rv_lab.specs.declared.order.Order.TheVariants as orders
 use Rattle.rv_lab.specs.declared.plan.Goal.{Goal}
@@ -143,19 +148,12 @@ unfoldable pub run_answer : Plan → (old new : LabState) → Answer
 run_answer p old new =
     if is_some new.plan then answers.Running (timed new).taken else over_answer p.is_monitored p.goal (end_of p old) new
 
--- and one that begins the run
-abbrev pub begins_answer : Goal → ℕ → (old new : LabState) → Answer
-begins_answer g most old new = run_answer (record { goal = g; left = most; is_monitored = false }) (begun old) new
-
 -- ---- commands that move the board
 
--- `s`: of a single step what it did
+-- a single step: what it did
 abbrev pub step_answer : (old new : LabState) → Answer
 step_answer old new = option_map_or (λ s. answers.Stepped (record { step = s; standing = standing new }))
     (next_step old) (answers.Stuck (standing new))
-
-unfoldable pub steps_answer : ℕ → (old new : LabState) → Answer
-steps_answer n old new = if n == 1 then step_answer old new else begins_answer goal.Count n old new
 
 -- `trace`
 abbrev pub trace_ending : LabState → Ending
@@ -188,39 +186,90 @@ saved_answer name l = answers.Saved (record {
   pages = l.recording.pages;
 })
 
--- a run answers as the lab's do, and any other command of the monitor what it prints
+-- `monitor`: a run goes on as the lab's do; any other command is no command that moves the board, and answers what it
+-- prints
+abbrev pub MonitorLeaves : List ℕ → LabState → LabState → Type 0
+MonitorLeaves line old new = let s = old.recording.session in let t = new.recording.session in
+    MatchOption (monitored_run line s)
+    ((new ≡ with_session old t) × monitor.Leaves (command_in line s) s t) (λ p. new ≡ gone_on p (begun old))
+
 unfoldable pub monitor_answer : List ℕ → (old new : LabState) → Answer
 monitor_answer line old new = option_map_or (λ p. run_answer p (begun old) new)
     (monitored_run line old.recording.session)
     (answers.Monitor (monitor.answer (command_in line old.recording.session) old.recording.session new.recording.session))
 
--- ---- the answer
+-- ---- orders
 
--- what is answered to an order, by the lab before and after it
-abbrev pub answer_by : Order → (old new : LabState) → Answer
-answer_by (orders.Steps n) old new = steps_answer n old new
-answer_by (orders.Run p) old new = run_answer p (begun old) new
-answer_by (orders.Trace n) old new = trace_answer n old new
-answer_by (orders.Back n) old new = answers.Back (standing new)
-answer_by (orders.List e follows) old new = rows_answer e follows old
-answer_by (orders.Break a) old new = answers.Break (place_of new a)
-answer_by (orders.Clear a) old new = answers.Cleared (record {
-  place = place_of new a;
-  was_there = set.contains old.recording.session.breakpoints.addresses a;
-})
-answer_by (orders.Give inputs) old new = given_answer (length inputs) new
-answer_by (orders.Monitor line) old new = monitor_answer line old new
-answer_by (orders.Save name) old new = saved_answer name old
-answer_by orders.Explain old new = answers.Explained (explanation old.recording)
-answer_by orders.Quit old new = answers.Nothing
-answer_by (orders.Answered a) old new = a
+-- what an order leaves, as a statement of the labs before and after it; what follows it; and what it answers
+pub record Deed : Type 1 where
+  pub leaves : Type 0
+  pub next : Next
+  pub answer : Answer
 
--- to one that only looks, by the lab alone
+-- of one after which another command follows, and of a run with its first call
+abbrev pub more : Type 0 → Answer → Deed
+more leaves answer = record { leaves = leaves; next = next.More; answer = answer }
+
+abbrev pub runs : Plan → (old new : LabState) → Deed
+runs p old new =
+    record { leaves = new ≡ gone_on p (begun old); next = next_of new; answer = run_answer p (begun old) new }
+
+-- a row an order
+abbrev pub does : Order → (old new : LabState) → Deed
+does orders.Once old new =
+    more (new ≡ with_console (record (begun (record old { count = 1 })) { recording = stepped old.recording }))
+    (step_answer old new)
+does (orders.Steps n) old new = runs (planned goal.Count n) (record old { count = n }) new
+does (orders.Run p) old new = runs p old new
+does (orders.Trace n) old new =
+    more (new ≡ with_console (record (begun old) { recording = stepped_by n old.recording })) (trace_answer n old new)
+does (orders.Back n) old new = let to = (timed old).taken - n in
+    more (new ≡ with_console (record (begun old) { recording = gone_back old.recording to; before = to }))
+    (answers.Back (standing new))
+does (orders.List e follows) old new =
+    more (new ≡ record old { listed = min (e.after + e.count) (line_count (listing old)) }) (rows_answer e follows old)
+does (orders.Break a) old new =
+    more (new ≡ with_session old (with_break old.recording.session a)) (answers.Break (place_of new a))
+does (orders.Clear a) old new = let s = old.recording.session in
+    more (new ≡ with_session old (without_break s a))
+    (answers.Cleared (record { place = place_of new a; was_there = set.contains s.breakpoints.addresses a }))
+does (orders.Give inputs) old new = more (new ≡ with_inputs old inputs) (given_answer (length inputs) new)
+does (orders.Monitor line) old new = let c = command_in line old.recording.session in
+    record { leaves = MonitorLeaves line old new; next = monitor_next c new; answer = monitor_answer line old new }
+does (orders.Save name) old new =
+    record { leaves = new ≡ old; next = if is_some name then next.Save else next.More; answer = saved_answer name old }
+does orders.Explain old new = more (new ≡ old) (answers.Explained (explanation old.recording))
+does orders.Quit old new = record { leaves = new ≡ old; next = next.Quit; answer = answers.Nothing }
+does (orders.Answered a) old new = more (new ≡ old) a
+
+abbrev pub Leaves : Order → LabState → LabState → Type 0
+Leaves o old new = (does o old new).leaves
+
+-- ---- lines and calls
+
+-- what a line did with a lab that is ready for it
+abbrev pub line_does : List ℕ → (old new : LabState) → Deed
+line_does line old new = does (ordered line old) (ready (line_command line) old) new
+
+abbrev pub Obeys : List ℕ → LabState → LabState → Type 0
+Obeys line old new = (line_does line old new).leaves
+
+-- what a lab replies to a line, by the lab before it and after it
+abbrev pub reply_to : List ℕ → (old new : LabState) → Reply
+reply_to line old new = let d = line_does line old new in
+    record { next = d.next; answer = d.answer; from = sent old; to = max (sent old) new.told }
+
+-- and to a call that goes on with the run that isn't over
+abbrev pub reply_on : (old new : LabState) → Reply
+reply_on old new = record {
+  next = next_of new;
+  answer = option_map_or (λ p. run_answer p old new) old.plan answers.Nothing;
+  from = old.told;
+  to = max old.told new.told;
+}
+
+-- what a line answers that only looks, by the lab alone
 abbrev pub look_by : Order → LabState → Option Answer
 look_by (orders.List e follows) l = Some (rows_answer e follows l)
 look_by (orders.Answered a) l = Some a
 look_by _ l = None
-
--- and to a line
-abbrev pub answer_to : List ℕ → (old new : LabState) → Answer
-answer_to line old new = answer_by (ordered line old) (ready (line_command line) old) new

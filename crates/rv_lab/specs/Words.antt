@@ -33,12 +33,9 @@ count_of usual most [] = Some usual
 count_of usual most (word ∷ []) = number_in 10 most word
 count_of usual most _ = None
 
--- the steps of a run where no number is given, the most of a command, and the most lines of a trace
+-- the steps of a run where no number is given, and the most of a command
 abbrev pub usual_steps : ℕ
 usual_steps = 1000000
 
 abbrev pub most_steps : ℕ
 most_steps = 1000000000
-
-abbrev pub most_traced : ℕ
-most_traced = 1000

@@ -3,8 +3,7 @@ ghost use Rattle.std.specs.Prelude.{◌≡◌, IfOk, OnOk, OnErr};
 ghost use Rattle.std.specs.FinSet as set;
 ghost use Rattle.rv_answers.specs.declared.answer.Answer.TheVariants as answers;
 ghost use Rattle.rv_lab.specs.Answers as spec;
-ghost use Rattle.rv_lab.specs.Commands.{Leaves};
-ghost use Rattle.rv_lab.specs.State.{setup};
+ghost use Rattle.rv_lab.specs.Runs.{Leaves};
 ghost use Rattle.rv_lab.specs.declared.lab.Next.TheVariants as after;
 ghost use Rattle.rv_lab.specs.declared.order.Order.TheVariants as orders;
 
@@ -15,7 +14,6 @@ use rv_base::NoMemory;
 impl Lab {
     /// Makes an address a breakpoint.
     pub(crate) fn set_break(&mut self, address: u32) -> Result<Done, NoMemory>
-        ensures setup { setup self.new ≡ setup self.old }
         ensures next { IfOk result (λ d. d.next ≡ after.More) }
         ensures leaves { OnOk result (Leaves (orders.Break address) self.old self.new) }
         ensures answers { IfOk result (λ d. d.answer ≡ answers.Break (spec.place_of self.new address)) }
@@ -26,16 +24,17 @@ impl Lab {
     }
 
     /// Removes a breakpoint.
-    pub(crate) fn clear_break(&mut self, address: u32) -> Answer
-        ensures setup { setup self.new ≡ setup self.old }
-        ensures leaves { Leaves (orders.Clear address) self.old self.new }
-        ensures answers { result ≡ answers.Cleared (record {
+    pub(crate) fn clear_break(&mut self, address: u32) -> Result<Done, NoMemory>
+        ensures next { IfOk result (λ d. d.next ≡ after.More) }
+        ensures leaves { OnOk result (Leaves (orders.Clear address) self.old self.new) }
+        ensures answers { IfOk result (λ d. d.answer ≡ answers.Cleared (record {
           place = spec.place_of self.new address;
           was_there = set.contains self.old.recording.session.breakpoints.addresses address;
-        }) }
+        })) }
+        ensures err { OnErr result (self.new ≡ self.old) }
     {
         let was_there = self.recording.clear_break(address);
         let place = self.place_of(address);
-        Answer::Cleared(Cleared { place, was_there })
+        Ok(Done::more(Answer::Cleared(Cleared { place, was_there })))
     }
 }

@@ -1,12 +1,10 @@
 //! The execution of an order.
 ghost use Rattle.std.specs.Prelude.{◌≡◌, IfOk, OnErr, OnOk, None};
 ghost use Rattle.rv_lab.specs.Answers as spec;
-ghost use Rattle.rv_lab.specs.Commands.{Leaves, follows};
-ghost use Rattle.rv_lab.specs.Lines.{with_listed};
-ghost use Rattle.rv_lab.specs.Refusals.{RunsOut};
-ghost use Rattle.rv_lab.specs.Runs.{answer_by};
-ghost use Rattle.rv_lab.specs.State.{setup};
+ghost use Rattle.rv_lab.specs.Runs.{Leaves};
+ghost use Rattle.rv_lab.specs.Support.Short.{Executes};
 ghost use Rattle.rv_lab.specs.declared.lab.Next.TheVariants as after;
+ghost use Rattle.rv_lab.specs.declared.order.Order.TheVariants as orders;
 
 use crate::lab::{Done, Lab, Next};
 use crate::order::Order;
@@ -29,9 +27,8 @@ impl Done {
 impl Lab {
     /// Lists lines of the source, and keeps where the list ends.
     fn list(&mut self, excerpt: Excerpt, follows: bool) -> Result<Done, NoMemory>
-        ensures setup { setup self.new ≡ setup self.old }
         ensures next { IfOk result (λ d. d.next ≡ after.More) }
-        ensures leaves { OnOk result (self.new ≡ with_listed self.old excerpt) }
+        ensures leaves { OnOk result (Leaves (orders.List excerpt follows) self.old self.new) }
         ensures answers { IfOk result (λ d. d.answer ≡ spec.rows_answer excerpt follows self.old) }
         ensures err { OnErr result (self.new ≡ self.old) }
     {
@@ -41,26 +38,24 @@ impl Lab {
     }
 
     /// Executes an order, and returns its answer and what follows.
+    #[tactic(auto, using(crate::proofs::Obeyed::executed, crate::proofs::Obeyed::executed_kept, crate::proofs::Obeyed::executed_look))]
     pub(crate) fn execute(&mut self, order: Order) -> Result<Done, NoMemory>
         requires { self.old.plan ≡ None }
-        ensures setup { setup self.new ≡ setup self.old }
-        ensures leaves { OnOk result (Leaves order self.old self.new) }
-        ensures next { IfOk result (λ d. d.next ≡ follows order self.old.recording.session self.new) }
-        ensures answers { IfOk result (λ d. d.answer ≡ answer_by order self.old self.new) }
-        ensures err { OnErr result (RunsOut (Leaves order) self.old self.new) }
+        ensures { Executes order self.old self.new result }
     {
         match order {
+            Order::Once => self.step_once(),
             Order::Steps(count) => self.run_steps(count),
             Order::Run(plan) => self.start(plan),
             Order::Trace(count) => self.trace(count),
             Order::Back(count) => self.back(count),
             Order::List(excerpt, follows) => self.list(excerpt, follows),
             Order::Break(address) => self.set_break(address),
-            Order::Clear(address) => Ok(Done::more(self.clear_break(address))),
+            Order::Clear(address) => self.clear_break(address),
             Order::Give(inputs) => self.give_inputs(inputs.items()),
             Order::Monitor(line) => self.monitor_command(line.items()),
             Order::Save(name) => self.save(name),
-            Order::Explain => Ok(Done::more(self.why_answer()?)),
+            Order::Explain => self.explained(),
             Order::Quit => Ok(Done {
                 next: Next::Quit,
                 answer: Answer::Nothing,

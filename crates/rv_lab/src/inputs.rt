@@ -8,11 +8,10 @@ ghost use Rattle.rv_monitor.specs.State.{SessionState, TimedState, new_session, 
 ghost use Rattle.rv_monitor.specs.Stops.{Took};
 ghost use Rattle.rv_lab.specs.declared.lab.Next.TheVariants as after;
 ghost use Rattle.rv_lab.specs.declared.order.Order.TheVariants as orders;
-ghost use Rattle.rv_lab.specs.Commands.{follows, with_inputs};
+ghost use Rattle.rv_lab.specs.Commands.{with_inputs};
 ghost use Rattle.rv_lab.specs.Refusals.{StopsShort};
 ghost use Rattle.rv_lab.specs.Runs as spec;
 ghost use Rattle.rv_lab.specs.Support.Short.{Gives};
-ghost use Rattle.rv_lab.specs.State.{setup};
 ghost use Rattle.rv_answers.specs.Printer.{Appended};
 ghost use Rattle.rv_lab.specs.Saved.{steps_text};
 
@@ -60,7 +59,6 @@ impl Lab {
 
     /// Gives the board an input before the next step.
     fn give(&mut self, input: Input) -> Result<(), NoMemory>
-        ensures setup { setup self.new ≡ setup self.old }
         ensures given { OnOk result (self.new ≡ with_inputs self.old (input ∷ [])) }
         ensures err { OnErr result (self.new ≡ self.old) }
     {
@@ -71,7 +69,6 @@ impl Lab {
     #[tactic(auto, using(crate::proofs::Given::gave_no, crate::proofs::Given::gave_list))]
     fn give_all(&mut self, inputs: &[Input]) -> Result<(), NoMemory>
         requires { self.old.plan ≡ None }
-        ensures setup { setup self.new ≡ setup self.old }
         ensures given { OnOk result (self.new ≡ with_inputs self.old inputs.now) }
         ensures err { OnErr result (StopsShort (Gives inputs.now) self.old self.new) }
     {
@@ -85,7 +82,6 @@ impl Lab {
     /// Gives the board inputs before the next step, and answers that.
     pub(crate) fn give_inputs(&mut self, inputs: &[Input]) -> Result<Done, NoMemory>
         requires { self.old.plan ≡ None }
-        ensures setup { setup self.new ≡ setup self.old }
         ensures next { IfOk result (λ d. d.next ≡ after.More) }
         ensures given { OnOk result (self.new ≡ with_inputs self.old inputs.now) }
         ensures answers { IfOk result (λ d. d.answer ≡ spec.given_answer (length inputs.now) self.new) }
@@ -116,7 +112,7 @@ impl Lab {
 
     /// Answers what was done: where it has a name, it is to be saved.
     pub(crate) fn save(&self, name: Option<Many<u8>>) -> Result<Done, NoMemory>
-        ensures next { IfOk result (λ d. d.next ≡ follows (orders.Save name) self.now.recording.session self.now) }
+        ensures next { IfOk result (λ d. d.next ≡ (spec.does (orders.Save name) self.now self.now).next) }
         ensures answers { IfOk result (λ d. d.answer ≡ spec.saved_answer name self.now) }
     {
         match name {

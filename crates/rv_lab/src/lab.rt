@@ -1,17 +1,18 @@
 //! The lab: what a caller may ask of it.
-ghost use Rattle.std.specs.Prelude.{◌≡◌, ◌≤◌, max, Err, IfErr, IfOk, None, Ok, OnErr, OnOk};
+ghost use Rattle.std.specs.Prelude.{◌≡◌, max, Err, IfErr, IfOk, None, Ok, OnErr, OnOk};
 ghost use Rattle.rv_asm.specs.Lines.{listed};
 ghost use Rattle.rv_asm.specs.Seen.{seen};
 ghost use Rattle.rv_monitor.specs.Laws.{IsReached};
 ghost use Rattle.rv_recording.specs.Recording.{first_board};
-ghost use Rattle.rv_lab.specs.State.{listing, registers_of, sent, setup};
+ghost use Rattle.rv_lab.specs.State.{listing, registers_of, setup};
 ghost use Rattle.rv_answers.specs.declared.command.Command.TheVariants.{StepOnce};
-ghost use Rattle.rv_lab.specs.Commands.{IsWithin, Leaves, call_limit, ready};
+ghost use Rattle.rv_lab.specs.Commands.{IsWithin, call_limit, ready};
 ghost use Rattle.rv_lab.specs.Refusals.{RunsOut};
+ghost use Rattle.rv_lab.specs.Support.Short.{Executes};
 ghost use Rattle.rv_lab.specs.Opening.{OpensLab};
 ghost use Rattle.rv_lab.specs.Words.{line_command};
-ghost use Rattle.rv_lab.specs.Orders.{Obeys, next_after, order_of, ordered};
-ghost use Rattle.rv_lab.specs.Runs.{answer_to, look_by};
+ghost use Rattle.rv_lab.specs.Orders.{order_of, ordered};
+ghost use Rattle.rv_lab.specs.Runs.{Leaves, Obeys, look_by, reply_to};
 
 use crate::command::{read_command, repeated};
 use crate::fault::LabFault;
@@ -253,29 +254,36 @@ impl Lab {
         }
     }
 
+    /// Obeys a command line.
+    #[tactic(auto, using(crate::proofs::Obeyed::unread, crate::proofs::Obeyed::executed_it))]
+    fn obey(&mut self, line: &[u8]) -> Result<Done, NoMemory>
+        ensures { Executes (ordered line.now self.old) (ready (line_command line.now) self.old) self.new result }
+    {
+        let said = read_command(line);
+        self.make_ready(said.command);
+        match self.read_order(said) {
+            Ok(order) => self.execute(order),
+            Err(NoMemory) => Err(NoMemory),
+        }
+    }
+
     /// Executes a command line, and returns its answer. It takes at most a piece of steps, or for `trace` at
     /// most 1,000: a longer run goes on by `go_on`.
     ///
     /// # Errors
     ///
     /// `NoMemory` if memory runs out. The lab is as it was then, or as after some of the command's steps.
-    #[tactic(auto, unfolding(crate::specs::Orders::order_of))]
+    #[tactic(auto, unfolding(crate::specs::Support::Short::Executes), using(crate::proofs::Obeyed::replied, crate::proofs::Obeyed::left_setup, crate::proofs::Obeyed::out_setup, crate::proofs::Obeyed::is_within, crate::proofs::Obeyed::is_within_short))]
     pub fn answer(&mut self, line: &[u8]) -> Result<Reply, NoMemory>
         ensures setup { setup self.new ≡ setup self.old }
         ensures obeys { OnOk result (Obeys line.now self.old self.new) }
-        ensures next { IfOk result (λ r. r.next ≡ next_after line.now self.old self.new) }
-        ensures answers { IfOk result (λ r. r.answer ≡ answer_to line.now self.old self.new) }
-        ensures console { IfOk result
-            (λ r. (r.from ≡ sent self.old) × (r.to ≡ max (sent self.old) self.new.told)) }
+        ensures replies { IfOk result (λ r. r ≡ reply_to line.now self.old self.new) }
         ensures err { OnErr result (RunsOut (Leaves (ordered line.now self.old))
             (ready (line_command line.now) self.old) self.new) }
         ensures bound { IsWithin (call_limit (ordered line.now self.old) self.old.piece) self.old self.new }
     {
         let from = self.board().console().len();
-        let said = read_command(line);
-        self.make_ready(said.command);
-        let order = self.read_order(said)?;
-        let Done { next, answer } = self.execute(order)?;
+        let Done { next, answer } = self.obey(line)?;
         Ok(self.reply(next, answer, from))
     }
 

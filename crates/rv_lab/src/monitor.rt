@@ -1,9 +1,9 @@
 //! Commands of the monitor.
 ghost use Rattle.std.specs.Prelude.{◌≡◌, true, None, IfOk, OnErr, OnOk};
 ghost use Rattle.rv_answers.specs.declared.answer.Answer.TheVariants as answers;
-ghost use Rattle.rv_lab.specs.Commands.{InSession, Monitors, monitor_next, monitored_run};
+ghost use Rattle.rv_lab.specs.Commands.{monitor_next, monitored_run};
+ghost use Rattle.rv_lab.specs.Support.Short.{Looks, Monitors};
 ghost use Rattle.rv_lab.specs.Refusals.{RunsOut};
-ghost use Rattle.rv_lab.specs.State.{setup};
 ghost use Rattle.rv_lab.specs.Runs.{monitor_answer};
 ghost use Rattle.rv_monitor.specs.Commands as monitor;
 ghost use Rattle.rv_monitor.specs.Commands.{command_in};
@@ -40,6 +40,13 @@ fn monitored(goal: Goal, left: u64) -> Plan
     }
 }
 
+/// Answers what the monitor printed.
+fn printed(text: Vec<u8>) -> Answer
+    ensures { result ≡ answers.Monitor text.items }
+{
+    Answer::Monitor(Many::of(text))
+}
+
 impl Lab {
     /// Returns the run that a line of the monitor asks for, if it does.
     #[tactic(auto, using(crate::proofs::Monitored::no_run))]
@@ -60,11 +67,9 @@ impl Lab {
     fn monitor_look(&mut self, line: &[u8]) -> Result<Done, NoMemory>
         requires no_run { monitored_run line.now self.old.recording.session ≡ None }
         requires no_plan { self.old.plan ≡ None }
-        ensures setup { setup self.new ≡ setup self.old }
         ensures next { IfOk result
             (λ d. d.next ≡ monitor_next (command_in line.now self.old.recording.session) self.new) }
-        ensures leaves { OnOk result
-            (InSession (monitor.Leaves (command_in line.now self.old.recording.session)) self.old self.new) }
+        ensures leaves { OnOk result (Looks line.now self.old self.new) }
         ensures answers { IfOk result
             (λ d. d.answer ≡ answers.Monitor (monitor.answer (command_in line.now self.old.recording.session)
             self.old.recording.session self.new.recording.session)) }
@@ -72,7 +77,7 @@ impl Lab {
     {
         let mut text = Vec::new(self.alloc);
         let next = self.recording.command(line, &mut text)?;
-        let answer = Answer::Monitor(Many::of(text));
+        let answer = printed(text);
         match next {
             Monitored::More => Ok(Done::more(answer)),
             Monitored::Quit => Ok(Done {
@@ -86,7 +91,6 @@ impl Lab {
     #[tactic(auto, using(crate::proofs::Monitored::run_follows), unfolding(crate::specs::Runs::monitor_answer))]
     pub(crate) fn monitor_command(&mut self, operands: &[u8]) -> Result<Done, NoMemory>
         requires { self.old.plan ≡ None }
-        ensures setup { setup self.new ≡ setup self.old }
         ensures next { IfOk result
             (λ d. d.next ≡ monitor_next (command_in operands.now self.old.recording.session) self.new) }
         ensures leaves { OnOk result (Monitors operands.now self.old self.new) }

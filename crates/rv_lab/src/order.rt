@@ -4,7 +4,8 @@ ghost use Rattle.rv_base.specs.Words.{words};
 ghost use Rattle.rv_answers.specs.declared.command.Command.TheVariants as command;
 ghost use Rattle.rv_answers.specs.declared.command.Move.TheVariants as moves;
 ghost use Rattle.rv_lab.specs.Answers.{refused};
-ghost use Rattle.rv_lab.specs.Orders.{again_order, command_order, help_order, list_order, list_round, no_break, run_order, save_order};
+ghost use Rattle.rv_lab.specs.Orders.{again_order, command_order, help_order, list_order, list_round, no_break, save_order, steps_order};
+ghost use Rattle.rv_lab.specs.Commands.{planned};
 ghost use Rattle.rv_lab.specs.declared.order.Order.TheVariants as orders;
 
 use crate::command::CommandLine;
@@ -23,6 +24,8 @@ use rv_timeline::{Input, line_input};
 /// What a command line asks for.
 #[derive(Drop)]
 pub(crate) enum Order {
+    /// To take a single step.
+    Once,
     /// To take some steps.
     Steps(u64),
     /// To begin a run.
@@ -53,13 +56,23 @@ pub(crate) enum Order {
 
 /// Returns the order for a run of the lab.
 fn run_order(goal: Goal, most: u64) -> Order
-    ensures { result ≡ run_order goal most }
+    ensures { result ≡ orders.Run (planned goal most) }
 {
     Order::Run(Plan {
         goal,
         left: most,
         is_monitored: false,
     })
+}
+
+/// Returns the order for a number of steps.
+fn steps_order(count: u64) -> Order
+    ensures { result ≡ steps_order count }
+{
+    if count == 1 {
+        return Order::Once;
+    }
+    Order::Steps(count)
 }
 
 impl Lab {
@@ -83,7 +96,7 @@ impl Lab {
         ensures { IfOk result (λ o. o ≡ command_order command.Step [] operands.now self.now) }
     {
         match count_or(operands, 1, MOST_STEPS) {
-            Some(count) => Ok(Order::Steps(count)),
+            Some(count) => Ok(steps_order(count)),
             None => self.refuse(Command::Step, operands, Why::NoSteps),
         }
     }
@@ -285,8 +298,8 @@ impl Lab {
         ensures { result ≡ again_order self.now.again self.now }
     {
         match self.last.command {
-            Command::Step => Order::Steps(self.last.count),
-            Command::StepOnce => Order::Steps(1),
+            Command::Step => steps_order(self.last.count),
+            Command::StepOnce => Order::Once,
             Command::Over => run_order(Goal::Out(0), USUAL_STEPS),
             Command::List => {
                 let after = self.last.listed;

@@ -1,14 +1,14 @@
 //! Commands that move the board.
-ghost use Rattle.std.specs.Prelude.{◌≡◌, ◌≤◌, Ok, Some, None, true, IfOk, OnErr, OnOk, ℕ, max, min};
-ghost use Rattle.std.specs.Option.{option_map_or};
+ghost use Rattle.std.specs.Prelude.{◌≡◌, ◌≤◌, Ok, Some, None, IfOk, OnErr, OnOk, max, min};
 ghost use Rattle.rv_lab.specs.Answers.{standing};
 ghost use Rattle.rv_lab.specs.declared.lab.Next.TheVariants as after;
 ghost use Rattle.rv_lab.specs.declared.order.Order.TheVariants as orders;
-ghost use Rattle.rv_lab.specs.Commands.{GoesOn, InPieces, IsWithin, Leaves, Starts, Steps, With, begun, goal_after, next_of, run_ends, with_piece, with_session};
+ghost use Rattle.rv_lab.specs.declared.plan.Goal.TheVariants as goal;
+ghost use Rattle.rv_lab.specs.Commands.{GoesOn, InPieces, IsWithin, begun, goal_after, next_of, planned, run_ends, with_piece, with_session};
 ghost use Rattle.rv_lab.specs.Refusals.{RunsOut, StopsShort};
-ghost use Rattle.rv_lab.specs.Runs.{end_of, run_answer, steps_answer};
+ghost use Rattle.rv_lab.specs.Runs.{Leaves, end_of, reply_on, run_answer};
 ghost use Rattle.rv_answers.specs.declared.answer.Answer.TheVariants as answers;
-ghost use Rattle.rv_lab.specs.Support.Short.{backed, rest_of};
+ghost use Rattle.rv_lab.specs.Support.Short.{GoesOnWith, Starts, Steps, backed, rest_of};
 ghost use Rattle.rv_monitor.specs.Stops.{steps_between};
 ghost use Rattle.rv_recording.specs.Until.{HasRun};
 ghost use Rattle.rv_recording.specs.Support.Refused.{IsRefusedIn};
@@ -90,15 +90,12 @@ impl Lab {
     /// # Errors
     ///
     /// `NoMemory` if memory runs out. The lab is as after some of the run's steps then.
-    #[tactic(auto, using(crate::proofs::Bounds::unmoved))]
+    #[tactic(auto, using(crate::proofs::Bounds::unmoved, crate::proofs::Obeyed::replied_on))]
     pub fn go_on(&mut self) -> Result<Reply, NoMemory>
         ensures setup { setup self.new ≡ setup self.old }
-        ensures continues { OnOk result (With self.old.plan GoesOn self.old self.new) }
-        ensures next { IfOk result (λ r. r.next ≡ next_of self.new) }
-        ensures answers { IfOk result
-            (λ r. r.answer ≡ option_map_or (λ p. run_answer p self.old self.new) self.old.plan answers.Nothing) }
-        ensures console { IfOk result (λ r. (r.from ≡ self.old.told) × (r.to ≡ max self.old.told self.new.told)) }
-        ensures err { OnErr result (RunsOut (With self.old.plan GoesOn) self.old self.new) }
+        ensures continues { OnOk result (GoesOn self.old self.new) }
+        ensures replies { IfOk result (λ r. r ≡ reply_on self.old self.new) }
+        ensures err { OnErr result (RunsOut GoesOn self.old self.new) }
         ensures bound { IsWithin (max self.old.piece 1) self.old self.new }
     {
         let from = self.last.told;
@@ -113,10 +110,10 @@ impl Lab {
     #[tactic(auto, using(crate::proofs::Runs::told_end, crate::proofs::Runs::running_next, crate::proofs::Runs::ended_next, crate::proofs::Told::running, crate::proofs::Told::over, crate::proofs::Told::over_short))]
     fn go_on_with(&mut self, plan: Plan) -> Result<Done, NoMemory>
         ensures setup { setup self.new ≡ setup self.old }
-        ensures goes_on { OnOk result (GoesOn plan self.old self.new) }
+        ensures goes_on { OnOk result (GoesOnWith plan self.old self.new) }
         ensures next { IfOk result (λ d. d.next ≡ next_of self.new) }
         ensures answers { IfOk result (λ d. d.answer ≡ run_answer plan self.old self.new) }
-        ensures err { OnErr result (StopsShort (GoesOn plan) self.old self.new) }
+        ensures err { OnErr result (StopsShort (GoesOnWith plan) self.old self.new) }
     {
         let goal = plan.goal;
         let is_monitored = plan.is_monitored;
@@ -162,7 +159,7 @@ impl Lab {
         ensures setup { setup self.new ≡ setup self.old }
         ensures piece { OnOk result (self.new ≡ with_piece plan self.old) }
         ensures end { IfOk result (λ end. end ≡ end_of plan self.old) }
-        ensures err { OnErr result (StopsShort (GoesOn plan) self.old self.new) }
+        ensures err { OnErr result (StopsShort (GoesOnWith plan) self.old self.new) }
     {
         // It tells that the board is the run of the recorded events.
         let _board = self.board();
@@ -185,7 +182,6 @@ impl Lab {
 
     /// Begins a run of a plan.
     pub(crate) fn start(&mut self, plan: Plan) -> Result<Done, NoMemory>
-        ensures setup { setup self.new ≡ setup self.old }
         ensures runs { OnOk result (Starts plan self.old self.new) }
         ensures next { IfOk result (λ d. d.next ≡ next_of self.new) }
         ensures answers { IfOk result (λ d. d.answer ≡ run_answer plan (begun self.old) self.new) }
@@ -196,29 +192,20 @@ impl Lab {
     }
 
     /// Keeps the number of steps that an empty line repeats.
-    fn keep_count(&mut self, count: u64)
+    pub(crate) fn keep_count(&mut self, count: u64)
         ensures { self.new ≡ record self.old { count = count } }
     {
         self.last.count = count;
     }
 
     /// Takes some steps.
-    #[tactic(auto, using(crate::proofs::Told::one_step, crate::proofs::Told::some_steps))]
     pub(crate) fn run_steps(&mut self, count: u64) -> Result<Done, NoMemory>
-        ensures setup { setup self.new ≡ setup self.old }
-        ensures steps { OnOk result (Steps count self.old self.new) }
+        ensures leaves { OnOk result (Steps count self.old self.new) }
         ensures next { IfOk result (λ d. d.next ≡ next_of self.new) }
-        ensures answers { IfOk result (λ d. d.answer ≡ steps_answer count self.old self.new) }
+        ensures answers { IfOk result (λ d. d.answer ≡ run_answer (planned goal.Count count) (begun (record self.old { count = count })) self.new) }
         ensures err { OnErr result (StopsShort (Steps count) self.old self.new) }
     {
-        // It tells that the board is the run of the recorded events.
-        let _board = self.board();
         self.keep_count(count);
-        if count == 1 {
-            self.keep_plan(None);
-            let answer = self.step_once()?;
-            return Ok(Done::more(answer));
-        }
         self.start(Plan {
             goal: Goal::Count,
             left: count,
@@ -229,7 +216,6 @@ impl Lab {
     /// Goes back to after the first `to` steps.
     fn go_back_to(&mut self, to: u64) -> Result<(), NoMemory>
         requires { to ≤ self.old.recording.session.timed.taken }
-        ensures setup { setup self.new ≡ setup self.old }
         ensures back { OnOk result (self.new ≡ backed self.old to) }
         ensures err { OnErr result (self.new ≡ self.old) }
     {
@@ -247,7 +233,6 @@ impl Lab {
 
     /// Goes back by some steps.
     pub(crate) fn back(&mut self, count: u64) -> Result<Done, NoMemory>
-        ensures setup { setup self.new ≡ setup self.old }
         ensures leaves { OnOk result (Leaves (orders.Back count) self.old self.new) }
         ensures next { IfOk result (λ d. d.next ≡ after.More) }
         ensures answers { IfOk result (λ d. d.answer ≡ answers.Back (standing self.new)) }

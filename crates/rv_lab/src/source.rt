@@ -1,7 +1,8 @@
 //! The source with addresses and words.
 ghost use Rattle.std.specs.Prelude.{◌≡◌};
 ghost use Rattle.rv_asm.specs.Seen.{seen};
-ghost use Rattle.rv_lab.specs.Lines.{bytes_at, excerpt_round, line_count, row_of, with_listed};
+ghost use Rattle.std.specs.Prelude.{◌+◌, ◌-◌, ◌/◌, min};
+ghost use Rattle.rv_lab.specs.Lines.{bytes_at, line_count, row_of};
 ghost use Rattle.rv_lab.specs.State.{listing};
 ghost use Rattle.rv_lab.specs.Support.Rows.{is_here, is_marked, line_word};
 
@@ -27,7 +28,7 @@ pub(crate) struct Excerpt {
 impl Excerpt {
     /// Returns some lines round one.
     pub(crate) fn round(line: usize, count: u64) -> Excerpt
-        ensures { result ≡ excerpt_round line count }
+        ensures { result ≡ record { after = line - count / 2 - 1; count = count } }
     {
         let count = count as usize;
         Excerpt {
@@ -102,7 +103,7 @@ impl Lab {
 
     /// Keeps which line an excerpt ended with.
     pub(crate) fn keep_listed(&mut self, excerpt: Excerpt)
-        ensures { self.new ≡ with_listed self.old excerpt }
+        ensures { self.new ≡ record self.old { listed = min (excerpt.after + excerpt.count) (line_count (listing self.old)) } }
     {
         let end = excerpt.after.saturating_add(excerpt.count);
         self.last.listed = end.min(line_count(self.listing()));

@@ -1,12 +1,13 @@
 //! Single steps and traces.
-ghost use Rattle.std.specs.Prelude.{◌≡◌, ◌++◌, ◌∷◌, [], None, IfOk, OnErr, OnOk};
-ghost use Rattle.rv_lab.specs.Commands.{Traces, begun, with_console};
+ghost use Rattle.std.specs.Prelude.{◌≡◌, ◌<◌, ◌==◌, not, slice_index, ◌++◌, ◌∷◌, [], None, IfOk, OnErr, OnOk};
+ghost use Rattle.rv_lab.specs.Commands.{stepped};
 ghost use Rattle.rv_lab.specs.Refusals.{StopsShort};
 ghost use Rattle.rv_lab.specs.Runs as spec;
-ghost use Rattle.rv_lab.specs.Runs.{next_step, next_steps, step_answer, trace_answer};
+ghost use Rattle.rv_lab.specs.Runs.{Leaves, next_step, next_steps, step_answer, trace_answer};
 ghost use Rattle.rv_lab.specs.declared.lab.Next.TheVariants as after;
-ghost use Rattle.rv_lab.specs.State.{board, registers_of, setup, timed};
-ghost use Rattle.rv_lab.specs.Support.Short.{IsOnWay, Traced, stepped};
+ghost use Rattle.rv_lab.specs.declared.order.Order.TheVariants as orders;
+ghost use Rattle.rv_lab.specs.State.{board, registers_of, timed};
+ghost use Rattle.rv_lab.specs.Support.Short.{IsOnWay, Traced, Traces};
 
 use crate::lab::{Done, Lab};
 use crate::registers::registers_of;
@@ -19,6 +20,14 @@ use rv_hart::Outcome;
 use rv_isa::Reg;
 use std::alloc::Global;
 
+/// Returns whether the values of a register differ.
+fn differs(before: &Registers, now: &Registers, number: u8) -> bool
+    requires { number < 32 }
+    ensures { result ≡ not (slice_index now.now number == slice_index before.now number) }
+{
+    now[number as usize] != before[number as usize]
+}
+
 /// Returns the registers whose values differ, with their values now.
 #[tactic(auto, using(crate::proofs::Changed::none_yet, crate::proofs::Changed::next_changed, crate::proofs::Changed::next_same, crate::proofs::Changed::all_changed))]
 pub(crate) fn changes(
@@ -30,9 +39,9 @@ pub(crate) fn changes(
 {
     let mut changed = Vec::new(alloc);
     for number in 0..32u8 {
-        let value = now[number as usize];
-        if value != before[number as usize] {
+        if differs(before, now, number) {
             let register = Reg::of(number);
+            let value = now[number as usize];
             push(&mut changed, RegisterValue { register, value })?;
         }
     }
@@ -89,7 +98,6 @@ impl Lab {
 
     /// Takes a step, and returns what it did, if there is one to be taken.
     fn take_step(&mut self) -> Result<Option<Step>, NoMemory>
-        ensures setup { setup self.new ≡ setup self.old }
         ensures step { OnOk result (self.new ≡ record self.old { recording = stepped self.old.recording }) }
         ensures value { IfOk result (λ s. s ≡ next_step self.old) }
         ensures err { OnErr result
@@ -107,23 +115,22 @@ impl Lab {
     }
 
     /// Takes a single step, and answers what it did.
-    #[tactic(auto, using(crate::proofs::Told::did_step, crate::proofs::Told::no_step))]
-    pub(crate) fn step_once(&mut self) -> Result<Answer, NoMemory>
-        ensures setup { setup self.new ≡ setup self.old }
-        ensures step { OnOk result
-            (self.new ≡ with_console (record (begun self.old) { recording = stepped self.old.recording })) }
-        ensures answers { IfOk result (λ a. a ≡ step_answer self.old self.new) }
-        ensures err { OnErr result
-            (IsOnWay self.old.recording self.new.recording (stepped self.old.recording)) }
-        ensures others { OnErr result (self.new ≡ record (begun self.old) { recording = self.new.recording }) }
+    #[tactic(auto, using(crate::proofs::Told::no_step, crate::proofs::Short::once_short))]
+    pub(crate) fn step_once(&mut self) -> Result<Done, NoMemory>
+        requires { self.old.plan ≡ None }
+        ensures leaves { OnOk result (Leaves orders.Once self.old self.new) }
+        ensures next { IfOk result (λ d. d.next ≡ after.More) }
+        ensures answers { IfOk result (λ d. d.answer ≡ step_answer self.old self.new) }
+        ensures err { OnErr result (StopsShort (Leaves orders.Once) self.old self.new) }
     {
+        self.keep_count(1);
         self.begin();
         let step = self.take_step()?;
         self.tell_console();
         let standing = self.standing();
         match step {
-            Some(step) => Ok(Answer::Stepped(Stepped { step, standing })),
-            None => Ok(Answer::Stuck(standing)),
+            Some(step) => Ok(Done::more(Answer::Stepped(Stepped { step, standing }))),
+            None => Ok(Done::more(Answer::Stuck(standing))),
         }
     }
 
@@ -131,7 +138,6 @@ impl Lab {
     #[tactic(auto, using(crate::proofs::Runs::traced_none, crate::proofs::Told::trace_ends, crate::proofs::Told::no_steps, crate::proofs::Told::last_steps))]
     fn trace_steps(&mut self, count: u64, steps: &mut Vec<Step>) -> Result<(), NoMemory>
         requires { self.old.plan ≡ None }
-        ensures setup { setup self.new ≡ setup self.old }
         ensures traced { OnOk result (Traced count self.old self.new) }
         ensures steps { OnOk result (steps.new.items ≡ steps.old.items ++ next_steps count self.old) }
         ensures err { OnErr result (StopsShort (Traced count) self.old self.new) }
@@ -162,14 +168,11 @@ impl Lab {
     /// Takes some steps, and answers what each did.
     pub(crate) fn trace(&mut self, count: u64) -> Result<Done, NoMemory>
         requires { self.old.plan ≡ None }
-        ensures setup { setup self.new ≡ setup self.old }
         ensures leaves { OnOk result (Traces count self.old self.new) }
         ensures next { IfOk result (λ d. d.next ≡ after.More) }
         ensures answers { IfOk result (λ d. d.answer ≡ trace_answer count self.old self.new) }
         ensures err { OnErr result (StopsShort (Traces count) self.old self.new) }
     {
-        // It tells that the board is the run of the recorded events.
-        let _board = self.board();
         self.begin();
         let mut steps = Vec::new(self.alloc);
         self.trace_steps(count, &mut steps)?;

@@ -1,19 +1,13 @@
--- The JSON of a reply, by what is known of its parts.
+-- What is shown of a reply, by what it is.
 use Rattle.std.proofs.Common.{◌≡◌, ◌∙◌, ℕ, List, ap}
-use Rattle.rv_answers.specs.declared.answer.Answer.{Answer}
 use Rattle.rv_lab.specs.State.{LabState}
 use Rattle.rv_lab.specs.declared.lab.Next.{Next}
 use Rattle.rv_lab.specs.declared.lab.Reply.{Reply}
-use Rattle.rv_page.specs.Pages.{reply_text}
+use Rattle.rv_page.specs.Pages.{reply_text, told_as}
 
-abbrev reply_of : Next → Answer → ℕ → ℕ → Reply
-reply_of next answer from to = record { next = next; answer = answer; from = from; to = to }
+pub told_reply : (l : LabState) (r s : Reply) (text : List ℕ) → r ≡ s → text ≡ reply_text l r → text ≡ reply_text l s
+told_reply l r s text is shown = shown ∙ ap (reply_text l) is
 
-same_parts : (n o : Next) (a b : Answer) (f g t u : ℕ) → n ≡ o → a ≡ b → f ≡ g → t ≡ u → reply_of n a f t ≡ reply_of o b g u
-same_parts n o a b f g t u h i j k =
-    ap (λ x. reply_of x a f t) h ∙ (ap (λ x. reply_of o x f t) i ∙ (ap (λ x. reply_of o b x t) j ∙ ap (λ x. reply_of o b g x) k))
-
-pub told_reply : (l : LabState) (r s : Reply) (text : List ℕ) → r.next ≡ s.next → r.answer ≡ s.answer
-    → r.from ≡ s.from → r.to ≡ s.to → text ≡ reply_text l r → text ≡ reply_text l s
-told_reply l r s text next answer from to shown =
-    shown ∙ ap (reply_text l) (same_parts r.next s.next r.answer s.answer r.from s.from r.to s.to next answer from to)
+pub told_next : (r s : Reply) (n : Next) (code : ℕ) → r ≡ s → n ≡ r.next → code ≡ (told_as n).0
+    → code ≡ (told_as s.next).0
+told_next r s n code is next told = told ∙ (ap (λ m. (told_as m).0) next ∙ ap (λ x. (told_as x.next).0) is)

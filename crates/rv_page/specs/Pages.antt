@@ -13,10 +13,8 @@ use Rattle.rv_lab.specs.declared.lab.Next.TheVariants as next
 use Rattle.rv_lab.specs.declared.fault.LabFault.TheVariants.{OutOfMemory, Source}
 use Rattle.rv_lab.specs.declared.lab.Reply.{Reply}
 use Rattle.rv_answers.specs.Printer.{Written}
-use Rattle.rv_answers.specs.declared.answer.Answer.TheVariants.{Nothing}
-use Rattle.rv_lab.specs.Commands.{next_of}
-use Rattle.rv_lab.specs.Orders.{next_after, order_of}
-use Rattle.rv_lab.specs.Runs.{answer_to, look_by, run_answer}
+use Rattle.rv_lab.specs.Orders.{order_of}
+use Rattle.rv_lab.specs.Runs.{look_by}
 use Rattle.rv_lab.specs.State as lab
 use Rattle.rv_page.specs.declared.state.State.{State}
 
@@ -87,43 +85,16 @@ unfoldable pub looks : LabState → List (List ℕ) → List ℕ
 looks l [] = []
 looks l (line ∷ more) = look_line l line ++ looks l more
 
--- ---- what follows
-
--- the code of what follows a command
-abbrev pub code_of : Next → ℕ
-code_of next.More = 0
-code_of next.Running = 1
-code_of next.Save = 2
-code_of next.Quit = 3
-
--- its word in JSON
-abbrev pub word_of : Next → List ℕ
-word_of next.More = codes "more"
-word_of next.Running = codes "running"
-word_of next.Save = codes "save"
-word_of next.Quit = codes "quit"
-
 -- ---- replies
+
+-- what follows a command, as a code and in JSON
+abbrev pub told_as : Next → ℕ × List ℕ
+told_as next.More = (0, codes "more")
+told_as next.Running = (1, codes "running")
+told_as next.Save = (2, codes "save")
+told_as next.Quit = (3, codes "quit")
 
 -- the JSON of a lab's reply
 unfoldable pub reply_text : LabState → Reply → List ℕ
-reply_text l r = compact_text (reply_data (listing l).labels r.answer (word_of r.next)
+reply_text l r = compact_text (reply_data (listing l).labels r.answer (told_as r.next).1
     (drop r.from (take r.to (lab.board l).machine.bus.serial.sent)))
-
--- what a lab replies to a line, by the lab before it and after it
-abbrev pub reply_to : List ℕ → (old new : LabState) → Reply
-reply_to line old new = record {
-  next = next_after line old new;
-  answer = answer_to line old new;
-  from = lab.sent old;
-  to = max (lab.sent old) new.told;
-}
-
--- and where it goes on
-abbrev pub reply_on : (old new : LabState) → Reply
-reply_on old new = record {
-  next = next_of new;
-  answer = option_map_or (λ p. run_answer p old new) old.plan Nothing;
-  from = old.told;
-  to = max old.told new.told;
-}

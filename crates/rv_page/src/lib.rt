@@ -6,10 +6,11 @@
 
 ghost use Rattle.std.specs.Prelude.{◌≡◌, ◌≤◌, ◌==◌, ◌⊎◌, ◌++◌, true, false, not, drop, length, max, [], Some, None, IfSome, is_some};
 ghost use Rattle.rv_lab.specs.State.{setup};
-ghost use Rattle.rv_lab.specs.Commands.{GoesOn, IsWithin, With, call_limit, next_of};
-ghost use Rattle.rv_lab.specs.Orders.{Obeys, next_after, ordered};
+ghost use Rattle.rv_lab.specs.Commands.{GoesOn, IsWithin, call_limit};
+ghost use Rattle.rv_lab.specs.Orders.{ordered};
+ghost use Rattle.rv_lab.specs.Runs.{Obeys, reply_on, reply_to};
 ghost use Rattle.rv_base.specs.Lines.{lines};
-ghost use Rattle.rv_page.specs.Pages.{IsOpened, IsRefused, OfLabs, code_of, copied, empty, in_pieces, looks, reply_on, reply_text, reply_to, sent, taken};
+ghost use Rattle.rv_page.specs.Pages.{IsOpened, IsRefused, OfLabs, copied, empty, in_pieces, looks, reply_text, sent, taken, told_as};
 
 mod copying;
 mod handle;
@@ -75,7 +76,7 @@ pub extern "C" fn page_command(handle: &mut Handle, line: &[u8], most: u64) -> u
     ensures obeys { result ≤ 3 → OfLabs handle.old.value handle.new.value
         (λ l. Obeys line.now (in_pieces most l)) }
     ensures follows { result ≤ 3 → OfLabs handle.old.value handle.new.value (λ l m. result
-        ≡ code_of (next_after line.now (in_pieces most l) m)) }
+        ≡ (told_as (reply_to line.now (in_pieces most l) m).next).0) }
     ensures json { result ≤ 3 → OfLabs handle.old.value handle.new.value
         (λ l m. handle.new.value.json.bytes ≡ reply_text m (reply_to line.now (in_pieces most l) m)) }
     ensures bound { OfLabs handle.old.value handle.new.value (λ l. IsWithin (call_limit (ordered line.now (in_pieces most l)) (max most 1)) l) }
@@ -106,8 +107,8 @@ pub extern "C" fn page_go_on(handle: &mut Handle, most: u64) -> u32
     ensures lab { is_some handle.new.value.lab ≡ is_some handle.old.value.lab }
     ensures setup { OfLabs handle.old.value handle.new.value (λ l m. setup m ≡ setup (in_pieces most l)) }
     ensures continues { result ≤ 3 → OfLabs handle.old.value handle.new.value
-        (λ l. With l.plan GoesOn (in_pieces most l)) }
-    ensures follows { result ≤ 3 → OfLabs handle.old.value handle.new.value (λ l m. result ≡ code_of (next_of m)) }
+        (λ l. GoesOn (in_pieces most l)) }
+    ensures follows { result ≤ 3 → OfLabs handle.old.value handle.new.value (λ l m. result ≡ (told_as (reply_on (in_pieces most l) m).next).0) }
     ensures quiet { result ≤ 3 → IfSome handle.old.value.lab
         (λ l. l.plan ≡ None → handle.new.value.answer.bytes ≡ []) }
     ensures json { result ≤ 3 → OfLabs handle.old.value handle.new.value

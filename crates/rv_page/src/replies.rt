@@ -1,7 +1,7 @@
 //! What a lab replies, as JSON and as text for people.
 ghost use Rattle.std.specs.Prelude.{◌≡◌, IfOk, OnOk, string_bytes};
 ghost use Rattle.rv_answers.specs.declared.answer.Answer.TheVariants.{Nothing};
-ghost use Rattle.rv_page.specs.Pages.{blank, reply_text, word_of};
+ghost use Rattle.rv_page.specs.Pages.{blank, reply_text, told_as};
 
 use rv_base::NoMemory;
 use rv_json::reply_json;
@@ -10,7 +10,7 @@ use std::alloc::Global;
 
 /// Returns the word for what follows a command.
 fn word_of(next: Next) -> &'static str
-    ensures { result.now ≡ word_of next }
+    ensures { result.now ≡ (told_as next).1 }
 {
     match next {
         Next::More => "more",

@@ -1,10 +1,11 @@
 //! What the page keeps between two calls.
 ghost use Rattle.std.specs.Prelude.{◌≡◌, ◌≤◌, ◌==◌, ◌⊎◌, not, max, [], None, IfErr, IfOk, IfSome, OnOk, is_some};
 ghost use Rattle.rv_lab.specs.State.{setup};
-ghost use Rattle.rv_lab.specs.Commands.{GoesOn, IsWithin, With, call_limit, next_of};
-ghost use Rattle.rv_lab.specs.Orders.{Obeys, next_after, ordered};
+ghost use Rattle.rv_lab.specs.Commands.{GoesOn, IsWithin, call_limit};
+ghost use Rattle.rv_lab.specs.Orders.{ordered};
+ghost use Rattle.rv_lab.specs.Runs.{Obeys, reply_on, reply_to};
 ghost use Rattle.rv_base.specs.Lines.{lines};
-ghost use Rattle.rv_page.specs.Pages.{IsOpened, IsRefused, OfLabs, TellsFault, blank, code_of, empty, in_pieces, looks, reply_on, reply_text, reply_to, sent, taken};
+ghost use Rattle.rv_page.specs.Pages.{IsOpened, IsRefused, OfLabs, TellsFault, blank, empty, in_pieces, looks, reply_text, sent, taken, told_as};
 
 use crate::looks::append_looks;
 use crate::replies::{fill, show};
@@ -42,7 +43,7 @@ const NO_LAB: u32 = 5;
 /// Returns the code of what follows a command.
 fn code_of(next: Result<Next, NoMemory>) -> u32
     ensures codes { result ≤ 4 }
-    ensures follows { IfOk next (λ n. result ≡ code_of n) }
+    ensures follows { IfOk next (λ n. result ≡ (told_as n).0) }
     ensures memory { IfErr next (λ e. result ≡ 4) }
 {
     match next {
@@ -116,7 +117,7 @@ impl State {
     }
 
     /// Executes a command line, in at most `most` steps.
-    #[tactic(auto, using(crate::proofs::Replying::told_reply))]
+    #[tactic(auto, using(crate::proofs::Replying::told_reply, crate::proofs::Replying::told_next))]
     pub(crate) fn command(&mut self, line: &[u8], most: u64) -> u32
         ensures code { result ≤ 5 }
         ensures none { is_some self.old.lab ≡ not (result == 5) }
@@ -124,7 +125,7 @@ impl State {
         ensures setup { OfLabs self.old self.new (λ l m. setup m ≡ setup (in_pieces most l)) }
         ensures obeys { result ≤ 3 → OfLabs self.old self.new (λ l. Obeys line.now (in_pieces most l)) }
         ensures follows { result ≤ 3 → OfLabs self.old self.new (λ l m. result
-            ≡ code_of (next_after line.now (in_pieces most l) m)) }
+            ≡ (told_as (reply_to line.now (in_pieces most l) m).next).0) }
         ensures json { result ≤ 3 → OfLabs self.old self.new
             (λ l m. self.new.json.bytes ≡ reply_text m (reply_to line.now (in_pieces most l) m)) }
         ensures bound { OfLabs self.old self.new (λ l. IsWithin (call_limit (ordered line.now (in_pieces most l)) (max most 1)) l) }
@@ -160,15 +161,15 @@ impl State {
     }
 
     /// Goes on with a run, by at most `most` steps.
-    #[tactic(auto, using(crate::proofs::Bounds::piece_within, crate::proofs::Replying::told_reply))]
+    #[tactic(auto, using(crate::proofs::Bounds::piece_within, crate::proofs::Replying::told_reply, crate::proofs::Replying::told_next))]
     pub(crate) fn go_on(&mut self, most: u64) -> u32
         ensures code { result ≤ 5 }
         ensures none { is_some self.old.lab ≡ not (result == 5) }
         ensures lab { is_some self.new.lab ≡ is_some self.old.lab }
         ensures setup { OfLabs self.old self.new (λ l m. setup m ≡ setup (in_pieces most l)) }
         ensures continues { result ≤ 3 → OfLabs self.old self.new
-            (λ l. With l.plan GoesOn (in_pieces most l)) }
-        ensures follows { result ≤ 3 → OfLabs self.old self.new (λ l m. result ≡ code_of (next_of m)) }
+            (λ l. GoesOn (in_pieces most l)) }
+        ensures follows { result ≤ 3 → OfLabs self.old self.new (λ l m. result ≡ (told_as (reply_on (in_pieces most l) m).next).0) }
         ensures quiet { result ≤ 3 → IfSome self.old.lab (λ l. l.plan ≡ None → self.new.answer.bytes ≡ []) }
         ensures json { result ≤ 3 → OfLabs self.old self.new
             (λ l m. self.new.json.bytes ≡ reply_text m (reply_on (in_pieces most l) m)) }

@@ -1,28 +1,51 @@
 -- Not to audit: private contracts alone cite this.
 -- Calls of parts of a lab, and those that stopped short.
-use Rattle.std.specs.Prelude.{◌≡◌, ℕ, zero, suc, ◌-◌, List, Option, Some, None, if◌then◌else◌, nat_lt}
+use Rattle.std.specs.Prelude.{◌≡◌, ℕ, ◌-◌, List, Option, Some, None, if◌then◌else◌, nat_lt, Result, IfOk, OnErr, OnOk}
+use Rattle.rv_base.specs.declared.memory.NoMemory.{NoMemory}
 use Rattle.rv_timeline.specs.declared.input.Input.{Input}
-use Rattle.rv_monitor.specs.State.{after}
-use Rattle.rv_monitor.specs.Stops.{may_step}
 use Rattle.rv_recording.specs.Recording.{RecordingState, gone_back, with_timed}
-use Rattle.rv_lab.specs.Commands.{begun, with_console, with_inputs}
-use Rattle.rv_lab.specs.Refusals.{Leads}
+use Rattle.rv_monitor.specs.Commands as monitor
+use Rattle.rv_monitor.specs.Commands.{command_in}
+use Rattle.rv_lab.specs.Commands.{begun, gone_on, stepped_by, with_console, with_inputs, with_session}
+use Rattle.rv_lab.specs.declared.order.Order.TheVariants as orders
+use Rattle.rv_lab.specs.Refusals.{Leads, RunsOut}
+use Rattle.rv_lab.specs.Runs.{Leaves, does}
+use Rattle.rv_lab.specs.declared.lab.Done.{Done}
+use Rattle.rv_lab.specs.declared.order.Order.{Order}
 use Rattle.rv_lab.specs.State.{LabState}
 use Rattle.rv_recording.specs.declared.until.End.{End}
 use Rattle.rv_recording.specs.declared.until.End.TheVariants.{Limit}
 use Rattle.rv_lab.specs.declared.plan.Goal.{Goal}
 use Rattle.rv_lab.specs.declared.plan.Plan.{Plan}
 
+-- ---- orders
+
+-- what came of an order: the lab that it leaves, what follows it and what it answers; or memory ran out in it
+unfoldable pub Executes : Order → (old new : LabState) → Result Done NoMemory → Type 0
+Executes o old new r = OnOk r (Leaves o old new) × IfOk r (λ d. d.next ≡ (does o old new).next)
+    × IfOk r (λ d. d.answer ≡ (does o old new).answer) × OnErr r (RunsOut (Leaves o) old new)
+
+abbrev pub GoesOnWith : Plan → LabState → LabState → Type 0
+GoesOnWith p old new = new ≡ gone_on p old
+
+abbrev pub Starts : Plan → LabState → LabState → Type 0
+Starts p = Leaves (orders.Run p)
+
+abbrev pub Steps : ℕ → LabState → LabState → Type 0
+Steps n = Leaves (orders.Steps n)
+
+abbrev pub Traces : ℕ → LabState → LabState → Type 0
+Traces n = Leaves (orders.Trace n)
+
+abbrev pub Monitors : List ℕ → LabState → LabState → Type 0
+Monitors line = Leaves (orders.Monitor line)
+
+-- a command of the monitor that takes no step
+abbrev pub Looks : List ℕ → LabState → LabState → Type 0
+Looks line old new = (new ≡ with_session old new.recording.session)
+    × monitor.Leaves (command_in line old.recording.session) old.recording.session new.recording.session
+
 -- ---- single steps
-
--- a single step, if there is one to be taken
-abbrev pub stepped : RecordingState → RecordingState
-stepped r = if may_step r.session then with_timed r (after r.session.timed 1) else r
-
--- n steps, or those that there are
-abbrev pub stepped_by : ℕ → RecordingState → RecordingState
-stepped_by zero r = r
-stepped_by (suc k) r = stepped_by k (stepped r)
 
 -- a lab that went back to after its first n steps, with which the next command is compared
 abbrev pub backed : LabState → ℕ → LabState

@@ -1,47 +1,37 @@
-use Rattle.rv_lab.specs.Commands.{Starts, Steps, Traces}
+use Rattle.std.proofs.Common.{◌∙◌, sym, ap}
 use Rattle.rv_lab.specs.declared.order.Order.TheVariants as orders
-use Rattle.rv_lab.proofs.Short.{given_short, monitored_short, obeyed, short_is_out}
-use Rattle.rv_lab.proofs.Told.{give_said, monitor_goes_on, monitor_said}
+use Rattle.rv_lab.proofs.Obeyed.{executed, executed_short}
 use Rattle.rv_lab.proofs.lab.Lab.execute.Goals as goal
 
-pub returns-in-Steps-clause-err : goal.returns-in-Steps-clause-err
-returns-in-Steps-clause-err c =
-    obeyed c.run_steps.result c.args.order (orders.Steps c.in-Steps.count) c.args.self.now c.run_steps.new.self
-    c.in-Steps.is (short_is_out (Steps c.in-Steps.count) c.run_steps.result c.args.self.now c.run_steps.new.self
-    c.run_steps.ensures.err)
+pub returns-in-Give : goal.returns-in-Give
+returns-in-Give c =
+    executed_short c.args.order (orders.Give c.items.result.now) c.args.self.now c.give_inputs.new.self
+    c.give_inputs.result (c.in-Give.is ∙ ap orders.Give (sym c.items.ensures)) c.give_inputs.ensures.given
+    c.give_inputs.ensures.next c.give_inputs.ensures.answers c.give_inputs.ensures.err
 
-pub returns-in-Run-clause-err : goal.returns-in-Run-clause-err
-returns-in-Run-clause-err c =
-    obeyed c.start.result c.args.order (orders.Run c.in-Run.plan) c.args.self.now c.start.new.self c.in-Run.is
-    (short_is_out (Starts c.in-Run.plan) c.start.result c.args.self.now c.start.new.self c.start.ensures.err)
+pub returns-in-Monitor : goal.returns-in-Monitor
+returns-in-Monitor c =
+    executed c.args.order (orders.Monitor c.items-in-Monitor.result.now) c.args.self.now c.monitor_command.new.self
+    c.monitor_command.result (c.in-Monitor.is ∙ ap orders.Monitor (sym c.items-in-Monitor.ensures))
+    c.monitor_command.ensures.leaves c.monitor_command.ensures.next c.monitor_command.ensures.answers
+    c.monitor_command.ensures.err
 
-pub returns-in-Trace-clause-err : goal.returns-in-Trace-clause-err
-returns-in-Trace-clause-err c =
-    obeyed c.trace.result c.args.order (orders.Trace c.in-Trace.count) c.args.self.now c.trace.new.self c.in-Trace.is
-    (short_is_out (Traces c.in-Trace.count) c.trace.result c.args.self.now c.trace.new.self c.trace.ensures.err)
+pub returns-in-Once : goal.returns-in-Once
+returns-in-Once c =
+    executed_short c.args.order orders.Once c.args.self.now c.step_once.new.self c.step_once.result c.in-Once.is
+    c.step_once.ensures.leaves c.step_once.ensures.next c.step_once.ensures.answers c.step_once.ensures.err
 
-pub returns-in-Give-clause-err : goal.returns-in-Give-clause-err
-returns-in-Give-clause-err c =
-    given_short c.give_inputs.result c.args.order c.in-Give.inputs c.items.result.now c.args.self.now
-    c.give_inputs.new.self c.in-Give.is c.items.ensures c.give_inputs.ensures.err
+pub returns-in-Steps : goal.returns-in-Steps
+returns-in-Steps c =
+    executed_short c.args.order (orders.Steps c.in-Steps.count) c.args.self.now c.run_steps.new.self c.run_steps.result
+    c.in-Steps.is c.run_steps.ensures.leaves c.run_steps.ensures.next c.run_steps.ensures.answers c.run_steps.ensures.err
 
-pub returns-in-Monitor-clause-err : goal.returns-in-Monitor-clause-err
-returns-in-Monitor-clause-err c =
-    monitored_short c.monitor_command.result c.args.order c.in-Monitor.line c.items-in-Monitor.result.now c.args.self.now
-    c.monitor_command.new.self c.in-Monitor.is c.items-in-Monitor.ensures c.monitor_command.ensures.err
+pub returns-in-Run : goal.returns-in-Run
+returns-in-Run c =
+    executed_short c.args.order (orders.Run c.in-Run.plan) c.args.self.now c.start.new.self c.start.result c.in-Run.is
+    c.start.ensures.runs c.start.ensures.next c.start.ensures.answers c.start.ensures.err
 
-pub returns-in-Give-clause-answers : goal.returns-in-Give-clause-answers
-returns-in-Give-clause-answers c =
-    give_said c.give_inputs.result c.args.order c.in-Give.inputs c.items.result.now c.args.self.now
-    c.give_inputs.new.self c.in-Give.is c.items.ensures c.give_inputs.ensures.answers
-
-pub returns-in-Monitor-clause-answers : goal.returns-in-Monitor-clause-answers
-returns-in-Monitor-clause-answers c =
-    monitor_said c.monitor_command.result c.args.order c.in-Monitor.line c.items-in-Monitor.result.now c.args.self.now
-    c.monitor_command.new.self c.in-Monitor.is c.items-in-Monitor.ensures c.monitor_command.ensures.answers
-
-pub returns-in-Monitor-clause-next : goal.returns-in-Monitor-clause-next
-returns-in-Monitor-clause-next c =
-    monitor_goes_on c.monitor_command.result c.args.order c.in-Monitor.line c.items-in-Monitor.result.now
-    c.args.self.now.recording.session c.monitor_command.new.self c.in-Monitor.is c.items-in-Monitor.ensures
-    c.monitor_command.ensures.next
+pub returns-in-Trace : goal.returns-in-Trace
+returns-in-Trace c =
+    executed_short c.args.order (orders.Trace c.in-Trace.count) c.args.self.now c.trace.new.self c.trace.result
+    c.in-Trace.is c.trace.ensures.leaves c.trace.ensures.next c.trace.ensures.answers c.trace.ensures.err

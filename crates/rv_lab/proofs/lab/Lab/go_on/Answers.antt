@@ -5,7 +5,7 @@ use Rattle.rv_lab.proofs.lab.Lab.go_on.Goals as goal
 
 pub returns-in_err-next-clause-err : goal.returns-in_err-next-clause-err
 returns-in_err-next-clause-err c =
-    continued c.from_residual.result c.args.self.now.plan c.in-Some.plan c.args.self.now c.go_on_with.new.self
+    continued c.from_residual.result c.in-Some.plan c.args.self.now c.go_on_with.new.self
     (sym c.plan.ensures ∙ c.in-Some.is) c.in_err-next.ensures.err
 
 pub returns-clause-bound : goal.returns-clause-bound

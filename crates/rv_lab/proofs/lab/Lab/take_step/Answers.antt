@@ -1,7 +1,8 @@
 use Rattle.std.proofs.Common.{◌∙◌, ap, sym}
 use Rattle.rv_timeline.specs.Timed.{never_falls}
 use Rattle.rv_lab.specs.State.{LabState}
-use Rattle.rv_lab.specs.Support.Short.{IsOnWay, stepped}
+use Rattle.rv_lab.specs.Support.Short.{IsOnWay}
+use Rattle.rv_lab.specs.Commands.{stepped}
 use Rattle.rv_lab.proofs.Short.{on_err, step_refused}
 use Rattle.rv_board.specs.BoardState.{BoardState}
 use Rattle.rv_lab.specs.Answers.{place_of}

@@ -1,5 +1,4 @@
 use Rattle.std.proofs.Common.{◌∙◌, ◌++◌, ap}
-use Rattle.rv_monitor.proofs.Reached.{in_time}
 use Rattle.rv_lab.proofs.Runs.{trace_runs}
 use Rattle.rv_lab.proofs.Short.{trace_short}
 use Rattle.rv_lab.proofs.Told.{traced}
@@ -10,12 +9,12 @@ use Rattle.rv_lab.proofs.lab.Lab.trace.Goals as goal
 pub returns-in_err-trace_steps-clause-err : goal.returns-in_err-trace_steps-clause-err
 returns-in_err-trace_steps-clause-err c =
     trace_short c.from_residual.result c.args.count c.args.self.now c.begin.new.self c.trace_steps.new.self
-    (in_time _ _ c.board-board.ensures.run) c.begin.ensures c.in_err-trace_steps.ensures.err
+    c.begin.ensures c.in_err-trace_steps.ensures.err
 
 pub returns-clause-leaves : goal.returns-clause-leaves
 returns-clause-leaves c =
     trace_runs c.args.count c.args.self.now c.begin.new.self c.trace_steps.new.self c.tell_console.new.self
-    (in_time _ _ c.board-board.ensures.run) c.begin.ensures c.in_ok-trace_steps.ensures.traced
+    c.begin.ensures c.in_ok-trace_steps.ensures.traced
     c.tell_console.ensures
 
 pub returns-clause-answers : goal.returns-clause-answers
