@@ -1,0 +1,166 @@
+-- How many bytes are written.
+use Rattle.std.proofs.Common.{◌≡◌, ◌∙◌, ℕ, ◌+◌, ◌-◌, ◌*◌, ◌/◌, ◌^◌, ◌<◌, ◌≤◌, List, [], ◌∷◌, ◌++◌, length, map, refl, ap, arith, length-append, lt-ltb, le-ltb, ⊎_elim}
+use Rattle.std.proofs.lemmas.Bool.{cases_lt}
+use Rattle.std.proofs.lemmas.List.Concat.{length-flat_map}
+use Rattle.rv_elf.specs.Elf.{Section, sections}
+use Rattle.rv_elf.specs.Symbols.{Symbol}
+use Rattle.rv_elf.specs.Size.{step_size, rows_size, lines_size, symbols_size, file_size}
+use Rattle.rv_elf.specs.declared.lines.PlacedLine.{PlacedLine}
+use Rattle.rv_elf.specs.Support.LineBytes.{leb_bytes, line_step, row_bytes, rows_bytes, end_bytes, program_bytes, header_bytes, table_bytes}
+use Rattle.rv_elf.specs.declared.object.Tables.{Tables}
+use Rattle.rv_elf.specs.declared.info.TheConstants.{ABBREVIATIONS, ATTRIBUTES}
+use Rattle.rv_elf.specs.Support.Sections.{Parts, parts, section_names, sections_of}
+use Rattle.rv_elf.specs.Support.Tables.{names, table_of, strings_of}
+use Rattle.rv_elf.specs.Support.Written.{AreSmall, section_header, section_headers, bodies, bodies_from, file_header, program_header, file_of}
+use Rattle.rv_elf.proofs.Named.{length_entries}
+use Rattle.rv_elf.proofs.Reading.{file_sections}
+
+-- ---- the line table
+
+step_has : (n : ℕ) → length (line_step n) ≡ step_size n
+unfolding leb_bytes
+step_has n = ⊎_elim
+    (λ a. rw (lt-ltb n 64 a) refl)
+    (λ a. ⊎_elim
+    (λ b. rw (le-ltb n 64 a, lt-ltb n 8192 b, lt-ltb (n / 128) 64 (omega arith)) refl)
+    (λ b. ⊎_elim
+    (λ d. rw (
+      le-ltb n 64 a,
+      le-ltb n 8192 b,
+      lt-ltb n 1048576 d,
+      le-ltb (n / 128) 64 (omega arith),
+      lt-ltb (n / 128 / 128) 64 (omega arith),
+    ) refl)
+    (λ d. ⊎_elim
+    (λ e. rw (
+      le-ltb n 64 a,
+      le-ltb n 8192 b,
+      le-ltb n 1048576 d,
+      lt-ltb n 134217728 e,
+      le-ltb (n / 128) 64 (omega arith),
+      le-ltb (n / 128 / 128) 64 (omega arith),
+      lt-ltb (n / 128 / 128 / 128) 64 (omega arith),
+    ) refl)
+    (λ e. rw (
+      le-ltb n 64 a,
+      le-ltb n 8192 b,
+      le-ltb n 1048576 d,
+      le-ltb n 134217728 e,
+      le-ltb (n / 128) 64 (omega arith),
+      le-ltb (n / 128 / 128) 64 (omega arith),
+      le-ltb (n / 128 / 128 / 128) 64 (omega arith),
+    ) refl)
+    (cases_lt n 134217728))
+    (cases_lt n 1048576))
+    (cases_lt n 8192))
+    (cases_lt n 64)
+
+row_has : (from : ℕ) (l : PlacedLine) → length (row_bytes from l) ≡ 9 + step_size (l.line - from)
+row_has from l = omega (arith, length-append (line_step (l.line - from)) (1 ∷ []), step_has (l.line - from))
+
+rows_have : (from : ℕ) (ls : List PlacedLine) → length (rows_bytes from ls) ≡ rows_size from ls
+rows_have from [] = refl
+rows_have from (l ∷ ls) =
+    omega (arith, length-append (row_bytes from l) (rows_bytes l.line ls), row_has from l, rows_have l.line ls)
+
+table_size : (name : List ℕ) (end : ℕ) (ls : List PlacedLine) → length (table_bytes name end ls) ≡ lines_size name ls
+unfolding table_bytes
+table_size name end ls = omega (
+  arith,
+  length-append (header_bytes name) (program_bytes end ls),
+  length-append name (0 ∷ 0 ∷ 0 ∷ 0 ∷ 0 ∷ []),
+  length-append (rows_bytes 1 ls) (end_bytes end),
+  rows_have 1 ls,
+)
+
+pub table_has : (table name : List ℕ) (end : ℕ) (ls : List PlacedLine) → table ≡ table_bytes name end ls →
+    length table ≡ lines_size name ls
+table_has table name end ls is = ap length is ∙ table_size name end ls
+
+pub table_exceeds : (name : List ℕ) (end : ℕ) (ls : List PlacedLine) → 4 + 2 ^ 32 ≤ length (table_bytes name end ls) →
+    4 + 2 ^ 32 ≤ lines_size name ls
+table_exceeds name end ls h = rw (← table_size name end ls) h
+
+-- ---- the symbols
+
+names_have : (ss : List Symbol) → 16 * length ss + length (names ss) ≡ symbols_size (map (λ (s : Symbol). s.name) ss)
+names_have [] = refl
+names_have (s ∷ ss) = omega (
+  arith,
+  length-append (s.name ++ 0 ∷ []) (names ss),
+  length-append s.name (0 ∷ []),
+  names_have ss,
+)
+
+pub tables_have : (strings table : List ℕ) (ss : List Symbol) → strings ≡ strings_of ss → table ≡ table_of ss →
+    length table + length strings ≡ 17 + symbols_size (map (λ (s : Symbol). s.name) ss)
+tables_have strings table ss e f = rw (e, f) (omega (arith, length_entries 1 ss, names_have ss))
+
+pub strings_exceed : (image : List ℕ) (ss : List Symbol) (lines : List PlacedLine) (name folder : List ℕ) →
+    2 ^ 32 ≤ 1 + length (names ss) → 2 ^ 32 ≤ file_size image (map (λ (s : Symbol). s.name) ss) lines name folder
+strings_exceed image ss lines name folder h = omega (arith, names_have ss)
+
+-- ---- a file
+
+headers_have : (at : ℕ) (ss : List Section) → length (section_headers at ss) ≡ 40 * length ss
+unfolding section_header
+headers_have at [] = refl
+headers_have at (s ∷ ss) = omega (
+  arith,
+  length-append (section_header at s) (section_headers (at + length s.contents) ss),
+  headers_have (at + length s.contents) ss,
+)
+
+file_length : (k : ℕ) (ss : List Section) → length (file_of k ss) ≡ bodies_from (length ss) + length (bodies ss)
+unfolding file_of file_header program_header
+file_length k ss = omega (
+  arith,
+  length-append (section_headers (bodies_from (length ss)) ss) (bodies ss),
+  headers_have (bodies_from (length ss)) ss,
+)
+
+pub file_within : (k : ℕ) (ss : List Section) → bodies_from (length ss) + length (bodies ss) < 2 ^ 32 →
+    length (file_of k ss) < 2 ^ 32
+file_within k ss low = rw (file_length k ss) low
+
+pub file_has : (k : ℕ) (ss : List Section) → AreSmall ss → length ss < 0xff00 →
+    bodies_from (length ss) + length (bodies ss) < 2 ^ 32 → length (file_of k ss)
+    ≡ 84 + 40 * length (sections (file_of k ss)) + length (bodies (sections (file_of k ss)))
+file_has k ss small few low = rw (file_sections k ss small few low) (file_length k ss)
+
+parts_are : (p : Parts) (count : ℕ) → length (bodies (sections_of p count)) ≡ length p.table + length p.image
+    + length p.strings + length p.attributes + length p.abbreviations + length p.info + length p.lines + length p.ranges + 104
+parts_are p count =
+    let names : length section_names ≡ 104 = refl in
+    omega (arith, names, length-flat_map (λ (s : Section). s.contents) (sections_of p count))
+
+object_size : (n : ℕ) (image : List ℕ) (t : Tables) (count : ℕ) (names : List (List ℕ)) (lines : List PlacedLine)
+    (name folder : List ℕ) → n ≡ 84 + 40 * length (sections_of (parts image t) count) + length (bodies (sections_of (parts image t) count)) →
+    length t.symbols.table.items + length t.symbols.strings.items ≡ 17 + symbols_size names →
+    length t.info.items ≡ 44 + length name + length folder → length t.lines.items ≡ lines_size name lines →
+    length t.ranges.items ≡ 32 → n ≡ file_size image names lines name folder
+object_size n image t count names lines name folder h s i l r =
+    let a : length ATTRIBUTES.now ≡ 52 = refl in
+    let b : length ABBREVIATIONS.now ≡ 20 = refl in
+    omega (arith, h, a, b, s, i, l, r, parts_are (parts image t) count)
+
+pub object_has : (file image : List ℕ) (t : Tables) (count : ℕ) (names : List (List ℕ)) (lines : List PlacedLine)
+    (name folder : List ℕ) → sections file ≡ sections_of (parts image t) count →
+    length file ≡ 84 + 40 * length (sections file) + length (bodies (sections file)) →
+    length t.symbols.table.items + length t.symbols.strings.items ≡ 17 + symbols_size names →
+    length t.info.items ≡ 44 + length name + length folder → length t.lines.items ≡ lines_size name lines →
+    length t.ranges.items ≡ 32 → length file ≡ file_size image names lines name folder
+object_has file image t count names lines name folder is h =
+    object_size (length file) image t count names lines name folder (h ∙ ap (λ (ss : List Section). 84 + 40 * length ss + length (bodies ss)) is)
+
+-- each symbol has 17 bytes at least
+pub symbols_have : (ss : List Symbol) → 17 * length ss ≤ symbols_size (map (λ (s : Symbol). s.name) ss)
+symbols_have [] = omega arith
+symbols_have (s ∷ ss) = omega (arith, symbols_have ss)
+
+pub symbols_exceed : (image : List ℕ) (ss : List Symbol) (lines : List PlacedLine) (name folder : List ℕ) →
+    (1 + length ss < 2 ^ 32 → ⊥) → 2 ^ 32 ≤ file_size image (map (λ (s : Symbol). s.name) ss) lines name folder
+symbols_exceed image ss lines name folder h = ⊎_elim
+    (λ l. absurd (h l))
+    (λ l. omega (arith, symbols_have ss))
+    (cases_lt (1 + length ss) (2 ^ 32))
