@@ -1,7 +1,2 @@
-pub mod Found
-pub mod Leb
-pub mod Named
+pub mod Numbers
 pub mod Places
-pub mod Reading
-pub mod Rows
-pub mod Sizes
