@@ -1,2 +1,2 @@
-pub mod Numbers
 pub mod Places
+pub mod Reading

@@ -1,9 +1,10 @@
 -- Files of ELF for 32 bits, lowest byte first, as those who read them find their parts.
 -- To audit: public contracts cite this.
 -- System V ABI, chapter 4 "Object Files" and chapter 5 "Program Loading".
-use Rattle.std.specs.Prelude.{ℕ, zero, suc, ◌+◌, ◌*◌, ◌&&◌, ◌==◌, List, [], ◌∷◌, take, drop, get_or, Option, Some, None, if◌then◌else◌}
+use Rattle.std.specs.Prelude.{ℕ, zero, suc, ◌&&◌, ◌==◌, List, [], ◌∷◌, length, take, drop, get_or, Option, Some, None, if◌then◌else◌}
 use Rattle.std.specs.Int.{from_le_bytes, w16, w32}
 use Rattle.std.specs.Str.{bytes_eq}
+use Rattle.rv_base.specs.Limits.{ram_base}
 
 -- ---- numbers and texts of a file
 
@@ -42,16 +43,16 @@ pub record Section : Type 0 where
 -- the section of a file whose header begins there
 abbrev pub section : List ℕ → List ℕ → Section
 section file header = record {
-    name = word_at header 0;
-    kind = word_at header 4;
-    flags = word_at header 8;
-    address = word_at header 12;
-    link = word_at header 24;
-    info = word_at header 28;
-    alignment = word_at header 32;
-    entry_size = word_at header 36;
-    contents = take (word_at header 20) (drop (word_at header 16) file);
-  }
+  name = word_at header 0;
+  kind = word_at header 4;
+  flags = word_at header 8;
+  address = word_at header 12;
+  link = word_at header 24;
+  info = word_at header 28;
+  alignment = word_at header 32;
+  entry_size = word_at header 36;
+  contents = take (word_at header 20) (drop (word_at header 16) file);
+}
 
 -- that many sections, whose headers of 40 bytes follow one another
 unfoldable pub sections_from : ℕ → List ℕ → List ℕ → List Section
@@ -90,12 +91,12 @@ pub record Segment : Type 0 where
 -- the segment of a file whose header begins there
 abbrev pub segment : List ℕ → List ℕ → Segment
 segment file header = record {
-    kind = word_at header 0;
-    address = word_at header 8;
-    contents = take (word_at header 16) (drop (word_at header 4) file);
-    size = word_at header 20;
-    flags = word_at header 24;
-  }
+  kind = word_at header 0;
+  address = word_at header 8;
+  contents = take (word_at header 16) (drop (word_at header 4) file);
+  size = word_at header 20;
+  flags = word_at header 24;
+}
 
 -- that many segments, whose headers of 32 bytes follow one another
 unfoldable pub segments_from : ℕ → List ℕ → List ℕ → List Segment
@@ -116,9 +117,17 @@ identification = 0x7f ∷ 0x45 ∷ 0x4c ∷ 0x46 ∷ 1 ∷ 1 ∷ 1 ∷ []
 unfoldable pub loaded : List ℕ → Option Loaded
 loaded file =
     if bytes_eq (take 7 file) identification
-        && (half_at file 16 == 2 && (half_at file 18 == 243 && word_at file 20 == 1))
+    && (half_at file 16 == 2 && (half_at file 18 == 243 && word_at file 20 == 1))
     then Some (record {
       entry = word_at file 24;
       segments = segments_from (half_at file 44) file (drop (word_at file 28) file);
     })
     else None
+
+-- what is loaded of a program that lies in memory from the beginning: one segment (PT_LOAD), all of whose bytes may be
+-- executed, written and read
+abbrev pub image_at : List ℕ → Loaded
+image_at image = record {
+  entry = ram_base;
+  segments = record { kind = 1; address = ram_base; contents = image; size = length image; flags = 7 } ∷ [];
+}

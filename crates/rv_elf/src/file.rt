@@ -1,6 +1,8 @@
 //! The file: its headers, and the bytes of its sections.
-ghost use Rattle.std.specs.Prelude.{◌≡◌, ◌++◌, ◌+◌, ◌<◌, ◌≤◌, ◌*◌, ◌^◌, IfOk, IfErr, OnOk, length, take, get_or, SomeIff};
-ghost use Rattle.rv_elf.specs.Elf.{no_section};
+ghost use Rattle.std.specs.Prelude.{◌≡◌, ◌++◌, ◌+◌, ◌<◌, ◌≤◌, ◌*◌, ◌^◌, IfOk, IfErr, OnOk, length, take, get_or, Some, SomeIff, ◌-◌};
+ghost use Rattle.std.specs.List.{flat_map};
+ghost use Rattle.rv_elf.specs.Elf as spec;
+ghost use Rattle.rv_elf.specs.Elf.{half_at, image_at, no_section};
 ghost use Rattle.rv_elf.specs.declared.file.ElfFault.TheVariants.{TooLarge};
 ghost use Rattle.rv_elf.specs.Support.Written.{bodies_from, section_header, section_headers, bodies, file_header, program_header, file_of, offset_of, AreSmall, IsSmall};
 
@@ -89,11 +91,7 @@ fn offset_after(at: u32, bytes: &[u8]) -> Option<u32>
 
 /// Appends the header of a section whose bytes begin at an offset, and returns the offset of what follows them.
 #[tactic(auto, unfolding(crate::specs::Support::Written::section_header))]
-fn append_section_header(
-    out: &mut Vec<u8>,
-    at: u32,
-    section: &Section<'_>,
-) -> Result<u32, ElfFault>
+fn append_section_header(out: &mut Vec<u8>, at: u32, section: &Section<'_>) -> Result<u32, ElfFault>
     ensures header { OnOk result (out.new.items ≡ out.old.items ++ section_header at section.now) }
     ensures end { IfOk result (λ end. end ≡ at + length section.now.contents) }
     ensures small { OnOk result (IsSmall section.now) }
@@ -204,11 +202,7 @@ fn place_of(sections: &[Section<'_>], loaded: usize, start: u32) -> Option<(u32,
 
 /// Writes a file of sections, the last of which has their names, with one of them as its segment.
 #[tactic(auto, unfolding(crate::specs::Support::Written::file_of))]
-fn write_parts(
-    alloc: Global,
-    sections: &[Section<'_>],
-    loaded: usize,
-) -> Result<Vec<u8>, ElfFault>
+fn write_parts(alloc: Global, sections: &[Section<'_>], loaded: usize) -> Result<Vec<u8>, ElfFault>
     requires some { loaded < length sections.now }
     requires few { length sections.now < 0xff00 }
     ensures value { IfOk result (λ f. f.items ≡ file_of loaded sections.now) }
@@ -227,4 +221,27 @@ fn write_parts(
     append_section_headers(&mut out, start, sections)?;
     append_bodies(&mut out, sections)?;
     Ok(out)
+}
+
+/// Writes a file of sections, the last of which has their names, with one of them as its segment from 0x80000000 on.
+///
+/// # Errors
+///
+/// - `TooLarge` if the headers and the sections together have 4 GiB or more.
+/// - `OutOfMemory` if memory runs out.
+#[tactic(auto, using(crate::proofs::Reading::file_sections, crate::proofs::Reading::file_loaded, crate::proofs::Reading::names_back))]
+pub fn write_file(
+    alloc: Global,
+    sections: &[Section<'_>],
+    loaded: usize,
+) -> Result<Vec<u8>, ElfFault>
+    requires some { loaded < length sections.now }
+    requires few { length sections.now < 0xff00 }
+    ensures sections { IfOk result (λ f. spec.sections f.items ≡ sections.now) }
+    ensures loaded { IfOk result (λ f. spec.loaded f.items ≡ Some (image_at (get_or sections.now loaded no_section).contents)) }
+    ensures names { IfOk result (λ f. half_at f.items 50 ≡ length sections.now - 1) }
+    ensures large { IfErr result (λ e. e ≡ TooLarge →
+        2 ^ 32 ≤ 84 + 40 * length sections.now + length (flat_map (λ s. s.contents) sections.now)) }
+{
+    write_parts(alloc, sections, loaded)
 }

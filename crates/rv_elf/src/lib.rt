@@ -4,4 +4,4 @@
 mod bytes;
 mod file;
 
-pub use file::{ElfFault, Section};
+pub use file::{ElfFault, Section, write_file};

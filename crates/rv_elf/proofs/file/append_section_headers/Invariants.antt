@@ -4,8 +4,8 @@ use Rattle.rv_elf.proofs.file.append_section_headers.Given as goal
 
 abbrev pub invariant-loop-section : goal.invariant-loop-section
 invariant-loop-section l = record {
-    headers : l.out.items ++ section_headers l.at (drop l.section-index l.sections)
-        ≡ l.fn.out.items ++ section_headers l.start l.sections;
-    small : AreSmall (drop l.section-index l.sections) → AreSmall l.sections;
-    end : l.at + length (bodies (drop l.section-index l.sections)) ≡ l.start + length (bodies l.sections);
+  headers : l.out.items ++ section_headers l.at (drop l.section-index l.sections)
+      ≡ l.fn.out.items ++ section_headers l.start l.sections;
+  small : AreSmall (drop l.section-index l.sections) → AreSmall l.sections;
+  end : l.at + length (bodies (drop l.section-index l.sections)) ≡ l.start + length (bodies l.sections);
 }
