@@ -3,12 +3,13 @@ ghost use Rattle.std.specs.Prelude.{◌≡◌, ◌++◌, ◌+◌, ◌<◌, ◌�
 ghost use Rattle.std.specs.List.{flat_map};
 ghost use Rattle.rv_elf.specs.Elf as spec;
 ghost use Rattle.rv_elf.specs.Elf.{half_at, image_at, no_section};
-ghost use Rattle.rv_elf.specs.declared.file.ElfFault.TheVariants.{TooLarge};
+ghost use Rattle.rv_elf.specs.declared.fault.ElfFault.TheVariants.{TooLarge};
 ghost use Rattle.rv_elf.specs.Support.Written.{bodies_from, section_header, section_headers, bodies, file_header, program_header, file_of, offset_of, AreSmall, IsSmall};
 
 use crate::bytes::{append_halves, append_words};
+use crate::fault::ElfFault;
 use rv_base::{NoMemory, RAM_BASE};
-use std::alloc::{AllocError, Global};
+use std::alloc::Global;
 use std::marker::Model;
 
 /// The type of a file that can be executed.
@@ -16,37 +17,6 @@ const EXECUTABLE: u16 = 2;
 
 /// The machine RISC-V.
 const RISC_V: u16 = 243;
-
-/// The error of a file that can't be written.
-#[derive(Clone, Copy, PartialEq, Eq, Debug)]
-pub enum ElfFault {
-    /// The file would have 4 GiB or more.
-    TooLarge,
-    /// Out of memory.
-    OutOfMemory,
-}
-
-impl From<NoMemory> for ElfFault {
-    ghost use Rattle.std.specs.Prelude.{◌≡◌};
-    ghost use Rattle.rv_elf.specs.declared.file.ElfFault.TheVariants.{OutOfMemory};
-
-    ghost from_gives = { λ _ fault. fault ≡ OutOfMemory };
-
-    fn from(_: NoMemory) -> Self {
-        ElfFault::OutOfMemory
-    }
-}
-
-impl From<AllocError> for ElfFault {
-    ghost use Rattle.std.specs.Prelude.{◌≡◌};
-    ghost use Rattle.rv_elf.specs.declared.file.ElfFault.TheVariants.{OutOfMemory};
-
-    ghost from_gives = { λ _ fault. fault ≡ OutOfMemory };
-
-    fn from(_: AllocError) -> Self {
-        ElfFault::OutOfMemory
-    }
-}
 
 /// A section: the fields of its header (System V ABI, chapter 4, "Sections"), and its bytes.
 #[derive(Drop)]

@@ -2,6 +2,10 @@
 #![tactic(auto)]
 
 mod bytes;
+mod fault;
 mod file;
+mod symbols;
 
-pub use file::{ElfFault, Section, write_file};
+pub use fault::ElfFault;
+pub use file::{Section, write_file};
+pub use symbols::{Symbol, SymbolTable, write_symbols};
