@@ -1,19 +1,19 @@
 -- Numbers of variable length.
-use Rattle.std.proofs.Common.{◌≡◌, ◌∙◌, ℕ, zero, suc, ◌+◌, ◌*◌, ◌/◌, ◌%◌, ◌^◌, ◌<◌, ◌≤◌, List, [], ◌∷◌, ◌++◌, sym, ap, arith, append_assoc, ⊎_elim}
+use Rattle.std.proofs.Common.{◌≡◌, ◌∙◌, ℕ, zero, suc, ◌+◌, ◌*◌, ◌/◌, ◌%◌, ◌^◌, ◌<◌, ◌≤◌, cond, List, [], ◌∷◌, ◌++◌, refl, sym, ap, arith, append_assoc, ⊎_elim}
 use Rattle.std.proofs.lemmas.Bool.{cases_lt}
 use Rattle.std.proofs.lemmas.Bool.Decides.{nat_tests}
 use Rattle.rv_elf.specs.Support.LineBytes.{leb_bytes}
 
-pub last : (k limit n : ℕ) → n < limit → leb_bytes (suc k) limit n ≡ n ∷ []
+last : (k limit n : ℕ) → n < limit → leb_bytes (suc k) limit n ≡ n ∷ []
 unfolding leb_bytes
 last k limit n below = grind (arith, nat_tests)
 
-pub next : (k limit n : ℕ) → limit ≤ n → leb_bytes (suc k) limit n ≡ (n % 128 + 128) ∷ leb_bytes k limit (n / 128)
+next : (k limit n : ℕ) → limit ≤ n → leb_bytes (suc k) limit n ≡ (n % 128 + 128) ∷ leb_bytes k limit (n / 128)
 unfolding leb_bytes
 next k limit n above = grind (arith, nat_tests)
 
 -- the numbers that have that many bytes and one more
-abbrev pub top : ℕ → ℕ → ℕ
+abbrev top : ℕ → ℕ → ℕ
 top zero limit = limit
 top (suc k) limit = 128 * top k limit
 

@@ -1,3 +1,4 @@
+pub mod Leb
+pub mod Named
 pub mod Places
 pub mod Reading
-pub mod Named

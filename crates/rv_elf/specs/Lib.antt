@@ -1,3 +1,4 @@
 pub mod Elf
+pub mod LineNumbers
 pub mod Support
 pub mod Symbols

@@ -4,8 +4,10 @@
 mod bytes;
 mod fault;
 mod file;
+mod lines;
 mod symbols;
 
 pub use fault::ElfFault;
 pub use file::{Section, write_file};
+pub use lines::PlacedLine;
 pub use symbols::{Symbol, SymbolTable, write_symbols};
