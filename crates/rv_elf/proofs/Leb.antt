@@ -4,16 +4,16 @@ use Rattle.std.proofs.lemmas.Bool.{cases_lt}
 use Rattle.std.proofs.lemmas.Bool.Decides.{nat_tests}
 use Rattle.rv_elf.specs.Support.LineBytes.{leb_bytes}
 
-last : (k limit n : ℕ) → n < limit → leb_bytes (suc k) limit n ≡ n ∷ []
+pub last : (k limit n : ℕ) → n < limit → leb_bytes (suc k) limit n ≡ n ∷ []
 unfolding leb_bytes
 last k limit n below = grind (arith, nat_tests)
 
-next : (k limit n : ℕ) → limit ≤ n → leb_bytes (suc k) limit n ≡ (n % 128 + 128) ∷ leb_bytes k limit (n / 128)
+pub next : (k limit n : ℕ) → limit ≤ n → leb_bytes (suc k) limit n ≡ (n % 128 + 128) ∷ leb_bytes k limit (n / 128)
 unfolding leb_bytes
 next k limit n above = grind (arith, nat_tests)
 
 -- the numbers that have that many bytes and one more
-abbrev top : ℕ → ℕ → ℕ
+abbrev pub top : ℕ → ℕ → ℕ
 top zero limit = limit
 top (suc k) limit = 128 * top k limit
 

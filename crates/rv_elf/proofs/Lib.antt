@@ -2,3 +2,4 @@ pub mod Leb
 pub mod Named
 pub mod Places
 pub mod Reading
+pub mod Rows

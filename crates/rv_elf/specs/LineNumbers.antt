@@ -1,8 +1,9 @@
 -- The line number program, which says of each address the line of the source that its bytes are of.
 -- To audit: public contracts cite this.
 -- DWARF Debugging Information Format, version 4, section 6.2 "Line Number Information", and section 7.6.
-use Rattle.std.specs.Prelude.{ℕ, zero, suc, ◌+◌, ◌-◌, ◌*◌, ◌/◌, ◌%◌, ◌==◌, Bool, true, false, List, [], ◌∷◌, ◌++◌, take, drop, get_or, length, nat_le, nat_lt, ℤ, pos, ◌+ℤ◌, ◌-ℤ◌, Option, Some, None, if◌then◌else◌}
+use Rattle.std.specs.Prelude.{ℕ, zero, suc, ◌+◌, ◌-◌, ◌*◌, ◌/◌, ◌%◌, ◌≤◌, ◌==◌, Bool, true, false, List, [], ◌∷◌, ◌++◌, take, drop, get_or, length, nat_le, nat_lt, ℤ, pos, ◌+ℤ◌, ◌-ℤ◌, Option, Some, None, if◌then◌else◌}
 use Rattle.rv_elf.specs.Elf.{half_at, word_at}
+use Rattle.rv_elf.specs.declared.lines.PlacedLine.{PlacedLine}
 
 -- ---- numbers of variable length: section 7.6
 
@@ -67,12 +68,12 @@ signed_byte b = if nat_lt b 128 then pos b else pos b -ℤ pos 256
 
 abbrev pub header : List ℕ → Header
 header table = record {
-    unit = byte_at table 10;
-    line_base = signed_byte (byte_at table 13);
-    line_range = byte_at table 14;
-    opcode_base = byte_at table 15;
-    operands = take (byte_at table 15 - 1) (drop 16 table);
-  }
+  unit = byte_at table 10;
+  line_base = signed_byte (byte_at table 13);
+  line_range = byte_at table 14;
+  opcode_base = byte_at table 15;
+  operands = take (byte_at table 15 - 1) (drop 16 table);
+}
 
 -- the opcodes and their operands: they follow the header, and end with the unit
 abbrev pub program : List ℕ → List ℕ
@@ -92,9 +93,10 @@ silent r rest = record { registers = r; rows = []; rest = rest }
 -- a special opcode, less the first: a step of the address and of the line, and a row (6.2.5.1)
 abbrev pub special : Header → Registers → ℕ → List ℕ → Effect
 special h r adjusted rest =
-    let after = record r
-          { address = r.address + h.unit * (adjusted / h.line_range);
-            line = r.line +ℤ (h.line_base +ℤ pos (adjusted % h.line_range)) } in
+    let after = record r {
+      address = r.address + h.unit * (adjusted / h.line_range);
+      line = r.line +ℤ (h.line_base +ℤ pos (adjusted % h.line_range));
+    } in
     record { registers = after; rows = row after ∷ []; rest = rest }
 
 -- an extended opcode with its operands: DW_LNE_end_sequence, DW_LNE_set_address; others change nothing (6.2.5.3)
@@ -112,7 +114,7 @@ after_numbers (suc n) bs = after_numbers n (leb bs).rest
 -- the opcodes from 0 to 12, which those of the machine's later versions follow (6.2.5.2)
 abbrev pub standard : Header → Registers → List ℕ → List Effect
 standard h r bs =
-      extended r (take (leb bs).value (leb bs).rest) (drop (leb bs).value (leb bs).rest)
+    extended r (take (leb bs).value (leb bs).rest) (drop (leb bs).value (leb bs).rest)
     -- DW_LNS_copy, DW_LNS_advance_pc, DW_LNS_advance_line, DW_LNS_set_file
     ∷ record { registers = r; rows = row r ∷ []; rest = bs }
     ∷ silent (record r { address = r.address + h.unit * (leb bs).value }) (leb bs).rest
@@ -148,3 +150,19 @@ run (suc most) h r (op ∷ bs) =
 unfoldable pub rows : List ℕ → Option (List Row)
 rows table =
     if half_at table 4 == 4 then Some (run (length (program table)) (header table) initial (program table)) else None
+
+-- ---- what a table is to say
+
+-- lines from one on, each no less than the one before it
+abbrev pub Rises : ℕ → List PlacedLine → Type 0
+Rises from [] = Unit
+Rises from (l ∷ ls) = (from ≤ l.line) × Rises l.line ls
+
+-- the row of a line
+abbrev pub row_of : PlacedLine → Row
+row_of l = record { address = l.address; file = 1; line = pos l.line; is_end = false }
+
+-- the rows of lines after one, and of the end of the last one's bytes
+unfoldable pub rows_after : ℕ → List PlacedLine → ℕ → List Row
+rows_after from [] end = record { address = end; file = 1; line = pos from; is_end = true } ∷ []
+rows_after from (l ∷ ls) end = row_of l ∷ rows_after l.line ls end

@@ -9,5 +9,5 @@ mod symbols;
 
 pub use fault::ElfFault;
 pub use file::{Section, write_file};
-pub use lines::PlacedLine;
+pub use lines::{PlacedLine, write_lines};
 pub use symbols::{Symbol, SymbolTable, write_symbols};

@@ -1,7 +1,9 @@
 //! The line table: which line of the source has its bytes where.
-ghost use Rattle.std.specs.Prelude.{◌≡◌, ◌++◌, ◌+◌, ◌*◌, ◌^◌, ◌<◌, ◌≤◌, ◌∷◌, [], IfOk, IfErr, OnOk, length};
+ghost use Rattle.std.specs.Prelude.{◌≡◌, ◌++◌, ◌+◌, ◌*◌, ◌^◌, ◌<◌, ◌≤◌, ◌∷◌, [], IfOk, IfErr, OnOk, Some, SomeIff, length};
 ghost use Rattle.rv_elf.specs.declared.fault.ElfFault.TheVariants.{OutOfMemory, TooLarge};
-ghost use Rattle.rv_elf.specs.Support.LineBytes.{end_bytes, header_bytes, leb_bytes, program_bytes, row_bytes, rows_bytes, set_address, Rises};
+ghost use Rattle.rv_elf.specs.Support.LineBytes.{end_bytes, header_bytes, leb_bytes, program_bytes, row_bytes, rows_bytes, set_address, table_bytes, AreSmall};
+ghost use Rattle.rv_elf.specs.LineNumbers as spec;
+ghost use Rattle.rv_elf.specs.LineNumbers.{rows_after, Rises};
 
 use crate::bytes::{append_halves, append_words};
 use crate::fault::ElfFault;
@@ -42,7 +44,8 @@ fn append_address(out: &mut Vec<u8>, address: u32) -> Result<(), NoMemory>
 /// Appends a row after one of another line.
 fn append_row(out: &mut Vec<u8>, from: u32, placed: PlacedLine) -> Result<(), NoMemory>
     requires { from ≤ placed.line }
-    ensures { OnOk result (out.new.items ≡ out.old.items ++ row_bytes from placed) }
+    ensures bytes { OnOk result (out.new.items ≡ out.old.items ++ row_bytes from placed) }
+    ensures small { OnOk result ((placed.line < 2 ^ 32) × (placed.address < 2 ^ 32)) }
 {
     append_address(out, placed.address)?;
     out.extend_from_slice(&[3])?;
@@ -54,7 +57,9 @@ fn append_row(out: &mut Vec<u8>, from: u32, placed: PlacedLine) -> Result<(), No
 /// Returns the opcodes of lines, and of the end of the last one's bytes.
 fn program_of(alloc: Global, lines: &[PlacedLine], end: u32) -> Result<Vec<u8>, NoMemory>
     requires { Rises 1 lines.now }
-    ensures { IfOk result (λ p. p.items ≡ program_bytes end lines.now) }
+    ensures bytes { IfOk result (λ p. p.items ≡ program_bytes end lines.now) }
+    ensures small { OnOk result (AreSmall lines.now) }
+    ensures end { OnOk result (end < 2 ^ 32) }
 {
     let mut out = Vec::new(alloc);
     let mut from = 1;
@@ -65,4 +70,82 @@ fn program_of(alloc: Global, lines: &[PlacedLine], end: u32) -> Result<Vec<u8>, 
     append_address(&mut out, end)?;
     out.extend_from_slice(&[0, 1, 1])?;
     Ok(out)
+}
+
+/// Returns what follows the sizes in a header that has one file.
+fn header_of(alloc: Global, name: &[u8]) -> Result<Vec<u8>, NoMemory>
+    ensures { IfOk result (λ h. h.items ≡ header_bytes name.now) }
+{
+    let mut out = Vec::new(alloc);
+    out.extend_from_slice(&[1, 1, 1, 0xfb, 14, 13])?;
+    out.extend_from_slice(&[0, 1, 1, 1, 1, 0, 0, 0, 1, 0, 0, 1])?;
+    out.extend_from_slice(&[0])?;
+    out.extend_from_slice(name)?;
+    out.extend_from_slice(&[0, 0, 0, 0, 0])?;
+    Ok(out)
+}
+
+/// Returns the sum of two sizes, if it is below 4 GiB.
+fn joined_size(size: u32, bytes: &[u8]) -> Option<u32>
+    ensures { SomeIff result (size + length bytes.now < 2 ^ 32) (size + length bytes.now) }
+{
+    let more = u32::try_from(bytes.len()).ok()?;
+    size.checked_add(more)
+}
+
+/// Returns the sizes of a header and of a unit.
+fn sizes_of(header: &[u8], program: &[u8]) -> Option<(u32, u32)>
+    ensures { SomeIff result (6 + length header.now + length program.now < 2 ^ 32)
+        (length header.now, 6 + length header.now + length program.now) }
+{
+    let size = joined_size(0, header)?;
+    let with_version = joined_size(6, header)?;
+    let unit = joined_size(with_version, program)?;
+    Some((size, unit))
+}
+
+/// Returns the table of lines.
+#[tactic(auto, unfolding(crate::specs::Support::LineBytes::table_bytes))]
+fn table_of(alloc: Global, name: &[u8], lines: &[PlacedLine], end: u32) -> Result<Vec<u8>, ElfFault>
+    requires { Rises 1 lines.now }
+    ensures bytes { IfOk result (λ t. t.items ≡ table_bytes name.now end lines.now) }
+    ensures small { OnOk result (AreSmall lines.now) }
+    ensures end { OnOk result (end < 2 ^ 32) }
+    ensures within { OnOk result (length (table_bytes name.now end lines.now) < 4 + 2 ^ 32) }
+    ensures large { IfErr result (λ e. e ≡ TooLarge → 4 + 2 ^ 32 ≤ length (table_bytes name.now end lines.now)) }
+{
+    let program = program_of(alloc, lines, end)?;
+    let header = header_of(alloc, name)?;
+    let Some((header_size, unit_size)) = sizes_of(&header, &program) else {
+        return Err(ElfFault::TooLarge);
+    };
+    let mut out = Vec::new(alloc);
+    append_words(&mut out, &[unit_size])?;
+    append_halves(&mut out, &[4])?;
+    append_words(&mut out, &[header_size])?;
+    out.extend_from_slice(&header)?;
+    out.extend_from_slice(&program)?;
+    Ok(out)
+}
+
+/// Returns the table of lines, which are in order, of a source of this name; behind the last one's bytes is the address
+/// `end`.
+///
+/// # Errors
+///
+/// - `TooLarge` if the table would have 4 bytes more than 4 GiB, or more than that.
+/// - `OutOfMemory` if memory runs out.
+#[tactic(auto, using(crate::proofs::Rows::table_read))]
+pub fn write_lines(
+    alloc: Global,
+    name: &[u8],
+    lines: &[PlacedLine],
+    end: u32,
+) -> Result<Vec<u8>, ElfFault>
+    requires { Rises 1 lines.now }
+    ensures rows { IfOk result (λ t. spec.rows t.items ≡ Some (rows_after 1 lines.now end)) }
+    ensures large { IfErr result (λ e. e ≡ TooLarge → 4 + 2 ^ 32 ≤ length (table_bytes name.now end lines.now)) }
+{
+    let table = table_of(alloc, name, lines, end)?;
+    Ok(table)
 }

@@ -1,6 +1,6 @@
 -- The bytes that the code writes for a line table.
 -- Private contracts cite this; public ones say what is read of those bytes.
-use Rattle.std.specs.Prelude.{ℕ, zero, suc, ◌+◌, ◌-◌, ◌/◌, ◌%◌, ◌≤◌, List, [], ◌∷◌, ◌++◌, length, nat_lt, if◌then◌else◌}
+use Rattle.std.specs.Prelude.{ℕ, zero, suc, ◌+◌, ◌-◌, ◌/◌, ◌%◌, ◌^◌, ◌<◌, List, [], ◌∷◌, ◌++◌, length, nat_lt, if◌then◌else◌}
 use Rattle.rv_elf.specs.declared.lines.PlacedLine.{PlacedLine}
 use Rattle.rv_elf.specs.Support.Written.{half, word}
 
@@ -44,7 +44,7 @@ table_bytes name end ls =
     word (6 + length (header_bytes name) + length (program_bytes end ls))
     ++ (half 4 ++ (word (length (header_bytes name)) ++ (header_bytes name ++ program_bytes end ls)))
 
--- lines from one on, each no less than the one before it
-abbrev pub Rises : ℕ → List PlacedLine → Type 0
-Rises from [] = Unit
-Rises from (l ∷ ls) = (from ≤ l.line) × Rises l.line ls
+-- the numbers of lines fit
+abbrev pub AreSmall : List PlacedLine → Type 0
+AreSmall [] = Unit
+AreSmall (l ∷ ls) = (l.line < 2 ^ 32) × (l.address < 2 ^ 32) × AreSmall ls
