@@ -1,7 +1,7 @@
 -- The tables of a file that are found by the names of its sections.
-use Rattle.std.proofs.Common.{◌≡◌, ℕ, List, Some, refl, ap}
-use Rattle.std.specs.Prelude.{codes, Option}
-use Rattle.rv_elf.specs.Elf.{sections, half_at, contents, contents_in, text}
+use Rattle.std.proofs.Common.{◌≡◌, ◌∙◌, ℕ, List, [], ◌∷◌, map, Some, refl, ap, get_or}
+use Rattle.std.specs.Prelude.{codes, option_and_then, Option}
+use Rattle.rv_elf.specs.Elf.{Section, sections, half_at, contents, contents_in, text, no_section}
 use Rattle.rv_elf.specs.Symbols.{Symbol, symbols}
 use Rattle.rv_elf.specs.LineNumbers.{Row, rows}
 use Rattle.rv_elf.specs.Object.{symbols_of, lines_of}
@@ -26,12 +26,8 @@ lines_in p count = refl
 pub symbols_found : (file : List ℕ) (p : Parts) (count : ℕ) (all : List Symbol) → sections file ≡ sections_of p count →
     half_at file 50 ≡ 9 → symbols p.strings p.table ≡ all → symbols_of file ≡ Some all
 symbols_found file p count all is last e =
-    rw (
-      in_sections file p count (codes ".symtab") is last,
-      table_in p count,
-      in_sections file p count (codes ".strtab") is last,
-      strings_in p count,
-    )
+    rw (in_sections file p count (codes ".symtab") is last, table_in p count,
+        in_sections file p count (codes ".strtab") is last, strings_in p count)
     (ap (λ (x : List Symbol). Some x) e)
 
 pub lines_found : (file : List ℕ) (p : Parts) (count : ℕ) (all : Option (List Row)) → sections file ≡ sections_of p count →

@@ -69,7 +69,7 @@ contents_in names [] name = None
 contents_in names (s ∷ ss) name =
     if bytes_eq (text_at names s.name) name then Some s.contents else contents_in names ss name
 
-pub no_section : Section
+abbrev pub no_section : Section
 no_section = record
     { name = 0; kind = 0; flags = 0; address = 0; link = 0; info = 0; alignment = 0; entry_size = 0; contents = [] }
 

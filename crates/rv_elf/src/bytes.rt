@@ -8,8 +8,8 @@ use rv_base::NoMemory;
 pub fn append_halves(out: &mut Vec<u8>, numbers: &[u16]) -> Result<(), NoMemory>
     ensures { OnOk result (out.new.items ≡ out.old.items ++ halves numbers.now) }
 {
-    for number in numbers {
-        out.extend_from_slice(&number.to_le_bytes())?;
+    for half in numbers {
+        out.extend_from_slice(&half.to_le_bytes())?;
     }
     Ok(())
 }
@@ -18,8 +18,8 @@ pub fn append_halves(out: &mut Vec<u8>, numbers: &[u16]) -> Result<(), NoMemory>
 pub fn append_words(out: &mut Vec<u8>, numbers: &[u32]) -> Result<(), NoMemory>
     ensures { OnOk result (out.new.items ≡ out.old.items ++ words numbers.now) }
 {
-    for number in numbers {
-        out.extend_from_slice(&number.to_le_bytes())?;
+    for word in numbers {
+        out.extend_from_slice(&word.to_le_bytes())?;
     }
     Ok(())
 }

