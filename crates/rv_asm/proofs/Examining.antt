@@ -1,15 +1,12 @@
--- Laying out the lines of a source, one by one, and its faults.
-use Rattle.std.proofs.Common.{◌≡◌, ◌∙◌, ℕ, ◌≤◌, Bool, true, false, List, [], ◌∷◌, ◌++◌, ℤ, ap, refl, sym, arith, append-nil, append_assoc, zero, suc, ◌+◌, ◌%◌, cond, add-zero, ◌<◌, length, add-one}
-use Rattle.std.specs.Prelude.{◌||◌, is_some, nat_lt, Option, None, Some, IfSome, set, slice_get, Result, Ok, Err, ◌==◌}
-use Rattle.std.specs.List.{All, flat_map}
-use Rattle.std.proofs.lemmas.List.Elements.{All-nil, All-cons, All-append, All-weaker}
-use Rattle.rv_source.specs.declared.line.Label.{Label}
-use Rattle.rv_source.specs.declared.line.Label.TheVariants as label
-use Rattle.rv_asm.specs.declared.locals.LocalLabel.{LocalLabel}
-use Rattle.rv_base.specs.Tables.{lookup}
-use Rattle.rv_asm.specs.Layout.{names_in, locals_in, redefines, line_at, row_at, row_on, phase_two_fault, definitions}
-use Rattle.rv_asm.specs.Support.Steps.{relabels, address, names, known_on, fault_on, joined, all_faults, faults_at, new_among, LaysOut, Known, values_of, labelled, stated, known_before, Item, item_bytes, item_listed, item_faults, Adds, AddsLine, bytes_by, listed, Writes, blank, phase_one_fault, phase_three_fault, unread_kind, located, start, with_line, Written, cleared, known_after, judged}
+-- The lines of a source, laid out one by one, and its faults.
+use Rattle.std.proofs.Common.{◌≡◌, ℕ, zero, suc, ◌+◌, ◌<◌, ◌≤◌, Bool, true, false, cond, List, [], ◌∷◌, ◌++◌, length, refl, sym, ap, ◌∙◌, arith, add-one}
+use Rattle.std.specs.Prelude.{Option, None, Some, IfSome, is_some, set, slice_get, Result, Ok, Err, ◌==◌}
+use Rattle.std.specs.Option.{option_map, option_or}
+use Rattle.std.specs.Result.{result_err}
+use Rattle.std.specs.List.{flat_map}
+use Rattle.std.proofs.lemmas.List.{length-set, get_or-set_same, get_or-set_other}
 use Rattle.std.proofs.lemmas.Bool.Decides.{nat_tests}
+use Rattle.rv_base.specs.Limits.{ram_base}
 use Rattle.rv_base.specs.Lines.{lines}
 use Rattle.rv_source.specs.Reading.{Parsed}
 use Rattle.rv_source.specs.declared.statement.Statement.{Statement}
@@ -30,12 +27,14 @@ use Rattle.rv_program.specs.declared.fault.AsmFault.{AsmFault}
 use Rattle.rv_asm.specs.Lines.{Located}
 use Rattle.rv_asm.specs.Assembly.{all_parsed, assembled}
 use Rattle.rv_asm.specs.AllFaults.{kept, faults_of}
-use Rattle.rv_asm.specs.Support.Counted.{blank, fault_on, faults_at, all_faults, phase_one_fault, phase_three_fault, located}
-use Rattle.rv_asm.specs.Support.Steps.{Known, Item, start, known_before, labelled, with_line, item_faults, item_listed, Written, Writes, cleared, known_after, judged, Takes, LaidOut, IsExamined}
+use Rattle.rv_asm.specs.Support.Counted.{blank, fault_on, faults_at, all_faults, phase_one_fault, phase_three_fault, unread_kind, located}
+use Rattle.rv_asm.specs.declared.assembler.Laid.{Laid}
+use Rattle.rv_asm.specs.Support.Steps.{Known, start, known_before, labelled, with_line, item_faults, item_listed, Written, Writes, cleared, known_after, judged}
+use Rattle.rv_asm.specs.Support.Phases.{Takes, LaidOut, SoFar, IsExamined}
 use Rattle.rv_asm.proofs.Counting.{answer, first_found, found_by, image_by, faults_none, faults_more, first_append, first_same, found_one, found_two, found_three, assembled_is, none_appended, none_last, none_before}
 use Rattle.rv_asm.proofs.Laying.{IsUpTo, phase_two_is, not_stated, up_to_before, writes_none, writes_more}
-use Rattle.rv_asm.proofs.Lined.{noted_begun, noted_more}
-use Rattle.rv_asm.proofs.Reading.{LeftOf, length-parsed, is_before, read_line_at}
+use Rattle.rv_asm.proofs.Lined.{size_listed, noted_begun, noted_more}
+use Rattle.rv_asm.proofs.Reading.{LeftOf, length-parsed, is_before, unread_more, read_line_at}
 
 -- ---- the lines that are kept
 
@@ -148,9 +147,6 @@ module _ (texts rest : List (List ℕ)) (n : ℕ) (so : LeftOf texts rest n) (te
 
   fault_here : takes.fault ≡ judged ls n
   fault_here = takes.lays.fault_is ∙ rw (laid.known_is, ← at) (sym (judged_is ls n))
-
-  known_more : t ≡ known_before (kept ls (suc n)) (suc n)
-  known_more = takes.lays.known_is ∙ rw (fault_here, laid.known_is, ← at) (sym (known_kept ls n before))
 
   known_more : new.known ≡ known_before (kept ls (suc n)) (suc n)
   known_more = takes.lays.known_is ∙ rw (fault_here, laid.known_is, ← at) (sym (known_kept ls n before))

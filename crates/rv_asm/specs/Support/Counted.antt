@@ -1,7 +1,7 @@
 -- What is said of all lines by their numbers, and the lines of a listing.
 -- The language is this project's own: docs/ASSEMBLER.md.
 -- Not to audit: private contracts alone cite this.
-use Rattle.std.specs.Prelude.{ℕ, suc, Bool, ℤ, List, [], ◌∷◌, ◌++◌, map, length, get_or, Option, Some, None, if◌then◌else◌, Ok, ◌≡◌, ◌<◌}
+use Rattle.std.specs.Prelude.{ℕ, suc, ◌+◌, Bool, ℤ, List, [], ◌∷◌, ◌++◌, map, length, get_or, Option, Some, None, if◌then◌else◌, Ok, ◌≡◌, ◌<◌}
 use Rattle.std.specs.List.{flat_map, range_with_len}
 use Rattle.std.specs.Option.{option_map}
 use Rattle.std.specs.Result.{result_err}
@@ -18,7 +18,7 @@ pub use Rattle.rv_asm.specs.Layout.{address}
 use Rattle.rv_program.specs.Faults.{kind_of}
 use Rattle.rv_asm.specs.Assembly.{all_parsed, line_bytes, faults_in}
 use Rattle.std.specs.List.Sorted.{IsNonDecreasing, IsNonDecreasingBy}
-use Rattle.rv_asm.specs.Lines.{Listed, Located, bytes_of}
+use Rattle.rv_asm.specs.Lines.{Listed, Located, bytes_of, end_of, listed}
 
 -- a line with no label and no statement, as every line past the end
 abbrev pub blank : Parsed
@@ -106,8 +106,11 @@ pub record LieInOrder (p : Located) : Type 0 where
   pub rises : IsNonDecreasing p.addresses
   pub labels : LabelsRise p.labels
 
--- the bytes of each line are those of the assembly, and joined in order they are the image
+-- this is the listing of a source: the bytes of each line are those of the assembly, and joined in order they are
+-- the image, at whose end the lines end
 pub record AreLinesOf (source : List ℕ) (l : Listed) : Type 0 where
+  pub value : listed source ≡ Ok l
   pub each : (k : ℕ) → k < length (lines source) →
       line_bytes (all_parsed (lines source)) k ≡ Ok (bytes_of l (suc k))
   pub all : flat_map (λ k. bytes_of l (suc k)) (range_with_len 0 (length (lines source))) ≡ l.assembly.bytes
+  pub end : end_of l ≡ ram_base + length l.assembly.bytes

@@ -19,6 +19,8 @@ use Rattle.rv_asm.specs.declared.kept.Kept.TheVariants as kept
 use Rattle.rv_asm.specs.declared.kept.Single.{Single}
 use Rattle.rv_asm.specs.Symbols.{Definitions, atom_value, sum_value, operand_value}
 unfoldable pub use Rattle.rv_asm.specs.Layout.{known_before}
+use Rattle.rv_asm.specs.Layout.{line_at, row_at, phase_two_fault}
+use Rattle.rv_asm.specs.Support.Counted.{all_faults, phase_one_fault, faults_at, joined, address, names, fault_on, located, with_line as noted_with}
 use Rattle.rv_asm.specs.Listing.{bytes}
 use Rattle.rv_asm.specs.AllFaults.{new_labels, kept}
 
