@@ -1,7 +1,5 @@
 pub mod Sums
-pub mod DataBytes
 pub mod Rows
-pub mod Keeping
 pub mod Counting
 pub mod Reading
 pub mod Lined

@@ -7,9 +7,8 @@ ghost use Rattle.rv_source.specs.Reading.{parsed};
 ghost use Rattle.rv_tokens.specs.Support.Partial.{Fails as LineFails};
 ghost use Rattle.rv_program.specs.Faults.{Gives};
 ghost use Rattle.rv_asm.specs.Assembly.{all_parsed, assembled};
-ghost use Rattle.rv_asm.specs.Support.Counted.{faults_at, unread_kind, located};
+ghost use Rattle.rv_asm.specs.Support.Steps.{faults_at, unread_kind, located, item_faults, item_listed};
 ghost use Rattle.rv_asm.specs.Support.Phases.{IsExamined, SoFar};
-ghost use Rattle.rv_asm.specs.Support.Steps.{item_faults, item_listed};
 
 use crate::layout::Known;
 use crate::notes::{Notes, note};
@@ -70,7 +69,7 @@ pub struct Laid<'a> {
 impl<'a> Laid<'a> {
     ghost use Rattle.std.specs.Prelude.{◌≡◌, ◌++◌, ◌≤◌, ◌<◌, [], OnOk};
     ghost use Rattle.std.specs.List.{All};
-    ghost use Rattle.rv_asm.specs.Support.Counted.{faults_at, unread_kind};
+    ghost use Rattle.rv_asm.specs.Support.Steps.{faults_at, unread_kind};
     ghost use Rattle.rv_asm.specs.Support.Phases.{Takes};
 
     /// Performs phases one and two on one more line, or phase one alone if a line before it has a fault in phase

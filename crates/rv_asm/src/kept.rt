@@ -11,57 +11,9 @@ use crate::fixup::Waiting;
 use crate::instructions::{Instructions, loading};
 use crate::symbols::{Scope, added};
 use crate::values::{bits, gap};
-use rv_source::{Atom, Expression, Form, Operand, Statement, Value};
+use rv_source::{Atom, Expression, Form, List, Operand, Statement, Value};
 use std::alloc::{AllocError, Global};
-use std::marker::Model;
 use std::slice::from_ref;
-
-/// Bytes that wait for nothing. The view is the list of them.
-#[derive(Drop)]
-pub struct Ready(Vec<u8>);
-
-impl Model for Ready {
-    ghost use Rattle.std.specs.Prelude.{List, ℕ};
-
-    ghost Value = { List ℕ };
-
-    ghost view = { λ r. r.0.items };
-}
-
-impl Ready {
-    ghost use Rattle.std.specs.Prelude.{◌≡◌, ◌++◌, OnOk};
-
-    /// Appends the bytes.
-    pub fn append_to(&self, out: &mut Vec<u8>) -> Result<(), AllocError>
-        ensures { OnOk result (out.new.items ≡ out.old.items ++ self.now) }
-    {
-        Ok(out.extend_from_slice(&self.0)?)
-    }
-}
-
-/// The expressions of operands. The view is the list of them.
-#[derive(Drop)]
-pub struct Sums<'a>(Vec<Expression<'a>>);
-
-impl<'a> Model for Sums<'a> {
-    ghost use Rattle.std.specs.Prelude.{List};
-    ghost use Rattle.rv_source.specs.declared.expression.Term.{Term};
-
-    ghost Value = { List (List Term) };
-
-    ghost view = { λ s. s.0.items };
-}
-
-impl<'a> Sums<'a> {
-    ghost use Rattle.std.specs.Prelude.{◌≡◌};
-
-    /// Returns the expressions, from left to right.
-    pub fn as_slice(&self) -> &[Expression<'a>]
-        ensures { result.now ≡ self.now }
-    {
-        self.0.as_slice()
-    }
-}
 
 /// The value of an atom or its negative, with a number added to it, or subtracted from it.
 #[derive(Drop)]
@@ -86,10 +38,7 @@ pub enum Kept<'a> {
         value: Single<'a>,
     },
     /// What waits for values, each in its place.
-    Many {
-        waiting: Waiting,
-        values: List<Expression<'a>>,
-    },
+    Many { waiting: Waiting, values: List<Expression<'a>> },
 }
 
 /// Returns the number of an atom that is one.
@@ -166,7 +115,7 @@ fn symbol_of<'a>(operand: &Operand<'a>) -> Option<Single<'a>>
 }
 
 /// Returns what is kept of what waits for the values of operands.
-#[tactic(auto, using(crate::proofs::Keeping::many_kept, crate::proofs::Keeping::one_kept))]
+#[tactic(auto, using(crate::proofs::Rows::many_kept, crate::proofs::Rows::one_kept))]
 fn waiting_for<'a>(
     alloc: Global,
     waiting: Waiting,
@@ -211,7 +160,7 @@ fn padding<'a>(alloc: Global, count: u32) -> Result<Kept<'a>, AllocError>
 }
 
 /// Returns what is kept of a statement at an address, with its constant.
-#[tactic(auto, using(crate::proofs::Keeping::near_kept), unfolding(crate::specs::Listing::row, crate::specs::Support::Steps::kept_bytes))]
+#[tactic(auto, using(crate::proofs::Rows::near_kept), unfolding(crate::specs::Listing::row, crate::specs::Support::Steps::kept_bytes))]
 pub fn keep<'a>(
     alloc: Global,
     here: u32,
@@ -249,8 +198,6 @@ pub fn keep<'a>(
         Statement::Space { fill, .. } => space(alloc, bits(constant), fill),
         Statement::Align { .. } => padding(alloc, gap(here, 1 << bits(constant))),
         Statement::Balign { .. } => padding(alloc, gap(here, bits(constant))),
-        Statement::Constant { .. } | Statement::Marker => Ok(Kept::Ready(List::of(Vec::new(
-            alloc,
-        )))),
+        Statement::Constant { .. } | Statement::Marker => Ok(Kept::Ready(List::of(Vec::new(alloc)))),
     }
 }

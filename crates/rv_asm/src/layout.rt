@@ -31,9 +31,8 @@ impl Model for Known {
 impl Known {
     ghost use Rattle.std.specs.Prelude.{◌≡◌, ◌≤◌, ◌<◌, ◌∷◌, [], OnOk, IfOk};
     ghost use Rattle.std.specs.List.{All};
-    ghost use Rattle.rv_asm.specs.Support.Counted.{relabels};
+    ghost use Rattle.rv_asm.specs.Support.Steps.{relabels, start, labelled, LaysOut, new_among};
     ghost use Rattle.rv_asm.specs.Support.Statements.{image_end};
-    ghost use Rattle.rv_asm.specs.Support.Steps.{start, labelled, LaysOut, new_among};
 
     pub fn new(alloc: Global) -> Self
         ensures { result ≡ start }
@@ -115,7 +114,7 @@ impl Known {
     /// Lays out one more line: defines its labels and places its statement. Returns its fault in phase two, if
     /// it has one: then its statement is left out, and so are labels that define a name a second time. `number`
     /// counts from 0.
-    #[tactic(auto, using(crate::proofs::Laying::not_some))]
+    #[tactic(auto, using(crate::proofs::Examining::not_some))]
     pub fn add<'a>(
         &mut self,
         alloc: Global,

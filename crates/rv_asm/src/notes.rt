@@ -113,7 +113,7 @@ pub fn note(
     labels: &[Label],
     known: &Known,
 ) -> Result<(), AllocError>
-    ensures { OnOk result (notes.new ≡ option_map (with_line here labels.now known.now.address) notes.old) }
+    ensures { OnOk result (notes.new ≡ option_map (noted_with here labels.now known.now.address) notes.old) }
 {
     match notes {
         Some(notes) => notes.add(alloc, here, labels, known),

@@ -1,6 +1,6 @@
 -- The lines of a source that are laid out so far, and what is found of a source.
 -- Not to audit: private contracts alone cite this.
-use Rattle.std.specs.Prelude.{◌≡◌, ℕ, ◌+◌, List, [], ◌++◌, length, Option, Result, Ok}
+use Rattle.std.specs.Prelude.{◌≡◌, ℕ, ◌+◌, List, [], ◌++◌, length, Option, Ok}
 use Rattle.std.specs.Option.{option_map}
 use Rattle.rv_base.specs.Limits.{ram_base}
 use Rattle.rv_base.specs.Lines.{lines}
@@ -12,8 +12,7 @@ use Rattle.rv_asm.specs.AllFaults.{kept, faults_of}
 use Rattle.rv_asm.specs.Assembly.{all_parsed, assembled}
 use Rattle.rv_asm.specs.Layout.{Known, known_before}
 use Rattle.rv_asm.specs.Lines.{Located}
-use Rattle.rv_asm.specs.Support.Counted.{all_faults, faults_at, located, phase_one_fault, with_line}
-use Rattle.rv_asm.specs.Support.Steps.{LaysOut, Writes, judged}
+use Rattle.rv_asm.specs.Support.Steps.{all_faults, faults_at, located, phase_one_fault, noted_with, LaysOut, Writes, judged}
 
 -- line k is read and laid out, its fault is appended, and it is noted
 pub record Takes (k : ℕ) (text : List ℕ) (old new : Laid) : Type 0 where
@@ -22,7 +21,7 @@ pub record Takes (k : ℕ) (text : List ℕ) (old new : Laid) : Type 0 where
   pub fault : Option FaultKind
   pub lays : LaysOut k old.known line fault new.known old.items.items new.items.items
   pub finds : new.misplaced.items ≡ old.misplaced.items ++ faults_at k fault
-  pub notes_line : new.notes ≡ option_map (with_line old.known.address line.labels new.known.address) old.notes
+  pub notes_line : new.notes ≡ option_map (noted_with old.known.address line.labels new.known.address) old.notes
 
 -- the first n lines are laid out; these are the notes before them
 pub record LaidOut (ls : List Parsed) (n : ℕ) (first : Option Located) (l : Laid) : Type 0 where

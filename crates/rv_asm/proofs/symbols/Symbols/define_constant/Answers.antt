@@ -4,7 +4,7 @@ use Rattle.std.proofs.Math.Bool.{or-false}
 use Rattle.rv_base.specs.Tables.{lookup}
 use Rattle.rv_asm.specs.Listing.{row}
 use Rattle.rv_asm.specs.Values.{is_word}
-use Rattle.rv_asm.proofs.Laying.{not_some}
+use Rattle.rv_asm.proofs.Examining.{not_some}
 use Rattle.rv_asm.proofs.symbols.Symbols.define_constant.Goals as goal
 
 pub define-requires-clause-absent : goal.define-requires-clause-absent
