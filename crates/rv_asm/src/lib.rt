@@ -26,6 +26,7 @@ mod values;
 pub use assembler::{Reviewed, assemble};
 pub use listing::{Listing, NearLabel, Places, list};
 pub use locals::LocalLabel;
-pub use rejected::review;
+pub use notes::PlacedName;
+pub use rejected::{Reviewed, review};
 pub use rv_program::{AsmFault, FaultKind, Program};
 pub use values::fits;
