@@ -14,7 +14,7 @@ pub const ABBREVIATIONS: &[u8] = &[
 
 /// The extensions that the board has, for disassemblers (RISC-V ELF psABI, section 9.4).
 pub const ATTRIBUTES: &[u8] =
-    b"A\x34\0\0\0riscv\0\x01\x2a\0\0\0\x05rv32i2p1_m2p0_zicsr2p0_zifencei2p0\0";
+    b"A\x33\0\0\0riscv\0\x01\x29\0\0\0\x05rv32i2p1_m2p0_zicsr2p0_zifencei2p0\0";
 
 /// DW_LANG_Mips_Assembler, which debuggers take for any assembler.
 const ASSEMBLER: u16 = 0x8001;
