@@ -1,5 +1,5 @@
 // What is known of a line of the source, or of anything else, beside the pointer that rests on it. Escape takes it away.
-import { $ } from "./dom.mjs";
+import { $, targetOf } from "./dom.mjs";
 import { editor } from "./editor.mjs";
 import { lookRow } from "./lab.mjs";
 import { explainedHtml } from "./reference.mjs";
@@ -57,6 +57,10 @@ export function makeHint() {
         const line = editor.lineAt(clientY), mine = resting, isAsked = line && state.isSame && !state.isBusy && !state.turn;
         const row = isAsked ? await lookRow(line) : undefined;
         if (mine === resting) showHint(line ? lineHint(line, row) : "", { x: clientX, y: clientY });
+    });
+    onRest($("panel-listing"), (event) => {
+        const line = Number(targetOf(event, "tr")?.dataset.line);
+        if (line) showHint(lineHint(line), { x: event.clientX, y: event.clientY });
     });
     editor.cm.on("scroll", hideHint);
     document.addEventListener("keydown", ({ key }) => key === "Escape" && hideHint());

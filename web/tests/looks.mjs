@@ -209,6 +209,15 @@ async function hint() {
     check("Escape takes it away", await page.run(`${element("hint")}.hidden`));
     await page.run(`${element("tab-instruction")}.click()`);
     await page.until(`document.getElementById("panel-instruction").textContent.includes("opcode")`);
+    await page.run(`${element("tab-listing")}.click()`);
+    await page.until(`document.querySelector("#panel-listing tr[data-line='${line}']")`);
+    const row = await page.run(`${boxOf}(document.querySelector("#panel-listing tr[data-line='${line}']").getBoundingClientRect())`);
+    await page.call("Input.dispatchMouseEvent", { type: "mouseMoved", x: row.x + 30, y: row.y + row.height / 2 });
+    await page.until(`!${element("hint")}.hidden`);
+    contains("in the listing, too", await hintText(), /funct3.*sb sh sw · rs2,m/s);
+    await page.press("Escape");
+    await page.run(`${element("tab-instruction")}.click()`);
+    await page.until(`document.getElementById("panel-instruction").textContent.includes("opcode")`);
     contains("the instruction at pc has a tab", await page.text("#panel-instruction"), /lui · rd,u/);
     await page.run(`${element("tab-control")}.click()`);
 }

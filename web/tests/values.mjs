@@ -72,6 +72,15 @@ async function saidInRun() {
 
 async function allAnswer() {
     await choose("echo");
+    await lab("w", "80000000");
+    await lab("p mstatus", "mstatus");
+    await page.click("#ask-line");
+    await page.press("ArrowUp");
+    await page.press("ArrowUp");
+    same("arrows bring back what was given", await page.run(`document.getElementById("ask-line").value`), "w");
+    await page.press("ArrowDown");
+    await page.press("ArrowDown");
+    same("up to an empty line", await page.run(`document.getElementById("ask-line").value`), "");
     await lab("q", "The page has no end but that of its tab");
     contains("q is answered", await answer(), /What is typed is kept/);
     await press("S", "step");
