@@ -1,5 +1,5 @@
 -- A memory as the table of its pages.
-use Rattle.std.proofs.Common.{◌≡◌, ℕ, zero, suc, ◌+◌, ◌-◌, ◌*◌, ◌/◌, ◌%◌, ◌<◌, ◌≤◌, List, [], ◌∷◌, ◌++◌, false, length, get_or, slice_index_or, arith, refl, sym, ap, ◌∙◌, length-append}
+use Rattle.std.proofs.Common.{◌≡◌, ℕ, zero, suc, ◌+◌, ◌-◌, ◌*◌, ◌/◌, ◌%◌, ◌<◌, ◌≤◌, List, [], ◌∷◌, ◌++◌, length, get_or, arith, refl, sym, ap, ◌∙◌, length-append}
 use Rattle.std.proofs.Math.ListN.{set}
 use Rattle.std.proofs.lemmas.List.{get_or_append_left, get_or-append_right}
 use Rattle.rv_isa.specs.declared.op.Width.{Width}
@@ -102,13 +102,3 @@ pub made_of_set : (ps : List PageState) (i : ℕ) (q : PageState)
 made_of_set [] i q = refl
 made_of_set (p ∷ ps) zero q = refl
 made_of_set (p ∷ ps) (suc i) q = ap (λ ms. p.made ∷ ms) (made_of_set ps i q)
-
-pub made_of_get : (ps : List PageState) (i : ℕ) (d : PageState) → i < length ps
-    → slice_index_or (made_of ps) i false ≡ (get_or ps i d).made
-made_of_get [] i d l = absurd (omega arith)
-made_of_get (p ∷ ps) zero d l = refl
-made_of_get (p ∷ ps) (suc i) d l = made_of_get ps i d (omega arith)
-
-pub index_in : (ps : List PageState) (off n : ℕ) → HasWholePages ps → 0 < n
-    → off + n ≤ length (all_bytes ps) → off / 4096 < length ps
-index_in ps off n w z l = omega (arith, length_all_bytes ps w)
