@@ -1,5 +1,5 @@
 -- The rows of src/lib.rt, computed.
-use Rattle.std.proofs.Common.{◌≡◌, refl, true, ℕ}
+use Rattle.std.proofs.Common.{◌≡◌, refl, true}
 use Rattle.std.specs.Fmt.{digits}
 use Rattle.std.specs.List.{list_all}
 use Rattle.rv_base.specs.Lines.{split}
