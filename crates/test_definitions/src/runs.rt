@@ -226,7 +226,7 @@ pub const CALL_INSIDE: [(u16, u32); 6] = [
 ];
 
 /// External interrupts, one within the handler of another. Sources 3 and 5 have priorities 2 and 5. The handler of 3
-/// claims it into x10, keeps mepc and mstatus, raises the threshold to 2 and enables interrupts again, so that 5 comes
+/// claims it into x10, keeps mepc and mstatus, raises the threshold to 1 and enables interrupts again, so that 5 comes
 /// in before x21 becomes 1. The handler of 5 claims it into x13, reads mepc and mcause, and completes it.
 pub const EXTERNAL: [(Operation, [u8; 3], i32, u32); 37] = [
     // lui x5,0xc200
@@ -271,8 +271,8 @@ pub const EXTERNAL: [(Operation, [u8; 3], i32, u32); 37] = [
     (Operation::Csrrs, [11, 0, 0], 833, 0x341025f3),
     // csrrs x16,mstatus,x0
     (Operation::Csrrs, [16, 0, 0], 768, 0x30002873),
-    // addi x7,x0,2
-    (Operation::Addi, [7, 0, 0], 2, 0x00200393),
+    // addi x7,x0,1
+    (Operation::Addi, [7, 0, 0], 1, 0x00100393),
     // sw x7,0(x5)
     (Operation::Sw, [0, 5, 7], 0, 0x0072a023),
     // auipc x9,0x0
