@@ -26,8 +26,12 @@ lines_in p count = refl
 pub symbols_found : (file : List ℕ) (p : Parts) (count : ℕ) (all : List Symbol) → sections file ≡ sections_of p count →
     half_at file 50 ≡ 9 → symbols p.strings p.table ≡ all → symbols_of file ≡ Some all
 symbols_found file p count all is last e =
-    rw (in_sections file p count (codes ".symtab") is last, table_in p count,
-        in_sections file p count (codes ".strtab") is last, strings_in p count)
+    rw (
+      in_sections file p count (codes ".symtab") is last,
+      table_in p count,
+      in_sections file p count (codes ".strtab") is last,
+      strings_in p count,
+    )
     (ap (λ (x : List Symbol). Some x) e)
 
 pub lines_found : (file : List ℕ) (p : Parts) (count : ℕ) (all : Option (List Row)) → sections file ≡ sections_of p count →

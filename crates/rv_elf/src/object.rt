@@ -18,7 +18,8 @@ use rv_base::RAM_BASE;
 use std::alloc::Global;
 
 /// The names of the sections.
-const SECTION_NAMES: &[u8] = b"\0.symtab\0.text\0.strtab\0.riscv.attributes\0.debug_abbrev\0.debug_info\0.debug_line\0.debug_aranges\0.shstrtab\0";
+const SECTION_NAMES: &[u8] =
+    b"\0.symtab\0.text\0.strtab\0.riscv.attributes\0.debug_abbrev\0.debug_info\0.debug_line\0.debug_aranges\0.shstrtab\0";
 
 /// The index of the section with the image.
 pub const TEXT: u16 = 2;

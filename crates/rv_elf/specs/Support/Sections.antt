@@ -14,8 +14,17 @@ section_names = 0 ∷ (codes ".symtab" ++ 0 ∷ (codes ".text" ++ 0 ∷ (codes "
 
 -- a section that isn't loaded, by the offset of its name, its kind and its bytes
 abbrev pub plain : ℕ → ℕ → List ℕ → Section
-plain name kind bytes = record { name = name; kind = kind; flags = 0; address = 0; link = 0; info = 0;
-    alignment = 1; entry_size = 0; contents = bytes }
+plain name kind bytes = record {
+  name = name;
+  kind = kind;
+  flags = 0;
+  address = 0;
+  link = 0;
+  info = 0;
+  alignment = 1;
+  entry_size = 0;
+  contents = bytes;
+}
 
 -- what the sections of a file have
 pub record Parts : Type 0 where
@@ -28,18 +37,18 @@ pub record Parts : Type 0 where
   pub lines : List ℕ
   pub ranges : List ℕ
 
--- the parts of an image and its tables, 
+-- the parts of an image and its tables,
 abbrev pub parts : List ℕ → Tables → Parts
 parts image t = record {
-    table = t.symbols.table.items;
-    image = image;
-    strings = t.symbols.strings.items;
-    attributes = ATTRIBUTES.now;
-    abbreviations = ABBREVIATIONS.now;
-    info = t.info.items;
-    lines = t.lines.items;
-    ranges = t.ranges.items;
-  }
+  table = t.symbols.table.items;
+  image = image;
+  strings = t.symbols.strings.items;
+  attributes = ATTRIBUTES.now;
+  abbreviations = ABBREVIATIONS.now;
+  info = t.info.items;
+  lines = t.lines.items;
+  ranges = t.ranges.items;
+}
 
 -- the sections, with the number of symbols
 abbrev pub sections_of : Parts → ℕ → List Section

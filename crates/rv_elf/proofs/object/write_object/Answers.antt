@@ -9,11 +9,11 @@ pub returns-clause-symbols : goal.returns-clause-symbols
 returns-clause-symbols c =
     let tables : Tables = record { symbols = c.in_ok-symbols.symbols; info = c.in_ok-info.info; lines = c.in_ok-lines.lines; ranges = c.in_ok-ranges.ranges } in
     symbols_found c.in_ok-file.file.items (parts c.args.object.now.image.now tables) _ _
-        c.in_ok-file.ensures.sections c.in_ok-file.ensures.names c.in_ok-symbols.ensures.symbols
+    c.in_ok-file.ensures.sections c.in_ok-file.ensures.names c.in_ok-symbols.ensures.symbols
 
 pub returns-clause-lines : goal.returns-clause-lines
 returns-clause-lines c =
     let tables : Tables = record { symbols = c.in_ok-symbols.symbols; info = c.in_ok-info.info; lines = c.in_ok-lines.lines; ranges = c.in_ok-ranges.ranges } in
     lines_found c.in_ok-file.file.items (parts c.args.object.now.image.now tables) _ _
-        c.in_ok-file.ensures.sections c.in_ok-file.ensures.names
-        (c.in_ok-lines.ensures.rows ∙ ap (λ (e : ℕ). Some (rows_after 1 c.args.object.now.lines.now e)) c.in-Some.ensures)
+    c.in_ok-file.ensures.sections c.in_ok-file.ensures.names
+    (c.in_ok-lines.ensures.rows ∙ ap (λ (e : ℕ). Some (rows_after 1 c.args.object.now.lines.now e)) c.in-Some.ensures)
