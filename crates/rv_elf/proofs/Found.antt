@@ -1,7 +1,7 @@
 -- The tables of a file that are found by the names of its sections.
-use Rattle.std.proofs.Common.{◌≡◌, ◌∙◌, ℕ, List, [], ◌∷◌, map, Some, refl, ap, get_or}
-use Rattle.std.specs.Prelude.{codes, option_and_then, Option}
-use Rattle.rv_elf.specs.Elf.{Section, sections, half_at, contents, contents_in, text, no_section}
+use Rattle.std.proofs.Common.{◌≡◌, ℕ, List, Some, refl, ap}
+use Rattle.std.specs.Prelude.{codes, Option}
+use Rattle.rv_elf.specs.Elf.{sections, half_at, contents, contents_in, text}
 use Rattle.rv_elf.specs.Symbols.{Symbol, symbols}
 use Rattle.rv_elf.specs.LineNumbers.{Row, rows}
 use Rattle.rv_elf.specs.Object.{symbols_of, lines_of}

@@ -4,3 +4,4 @@ pub mod Named
 pub mod Places
 pub mod Reading
 pub mod Rows
+pub mod Sizes

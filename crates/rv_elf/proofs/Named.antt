@@ -52,7 +52,7 @@ symbols_back at (s ∷ ss) strings small within is =
     )
     (ap (λ (x : List Symbol). named s ∷ x) (symbols_back (at + (length s.name + 1)) ss strings small.1 within.1 there))
 
-length_entries : (at : ℕ) (ss : List Symbol) → length (entries at ss) ≡ 16 * length ss
+pub length_entries : (at : ℕ) (ss : List Symbol) → length (entries at ss) ≡ 16 * length ss
 unfolding entry
 length_entries at [] = refl
 length_entries at (s ∷ ss) = omega (arith, length_entries (at + (length s.name + 1)) ss)

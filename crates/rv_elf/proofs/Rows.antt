@@ -1,5 +1,5 @@
 -- The rows that are read back from a line table.
-use Rattle.std.proofs.Common.{◌≡◌, ◌∙◌, ℕ, zero, suc, ◌+◌, ◌-◌, ◌*◌, ◌/◌, ◌%◌, ◌^◌, ◌<◌, ◌≤◌, Bool, true, false, List, [], ◌∷◌, ◌++◌, take, drop, length, map, ℤ, pos, negsuc, Some, refl, sym, ap, ap₂, arith, append_assoc, length-append, ⊎_elim}
+use Rattle.std.proofs.Common.{◌≡◌, ◌∙◌, ℕ, zero, suc, ◌+◌, ◌-◌, ◌*◌, ◌/◌, ◌%◌, ◌^◌, ◌<◌, ◌≤◌, List, [], ◌∷◌, ◌++◌, drop, length, ℤ, pos, negsuc, Some, refl, sym, ap, ap₂, arith, append_assoc, length-append, ⊎_elim}
 use Rattle.std.specs.Prelude.{◌+ℤ◌}
 use Rattle.std.proofs.lemmas.Bool.{cases_lt}
 use Rattle.std.proofs.lemmas.Bool.Decides.{nat_tests}
@@ -9,7 +9,6 @@ use Rattle.std.proofs.Math.Seq.{drop-append_seam, take-length}
 use Rattle.rv_elf.specs.Elf.{word_at}
 use Rattle.rv_elf.specs.LineNumbers.{Leb, leb, signed, Registers, initial, Row, row, end_row, Header, header, program, effect, run, rows, Rises, row_of, rows_after}
 use Rattle.rv_elf.specs.declared.lines.PlacedLine.{PlacedLine}
-use Rattle.rv_elf.specs.Support.Written.{word}
 use Rattle.rv_elf.specs.Support.LineBytes.{leb_bytes, line_step, set_address, row_bytes, rows_bytes, end_bytes, program_bytes, header_bytes, table_bytes, AreSmall}
 use Rattle.rv_elf.proofs.Leb.{top, last, next}
 

@@ -1,5 +1,6 @@
 pub mod Elf
 pub mod LineNumbers
 pub mod Object
+pub mod Size
 pub mod Support
 pub mod Symbols

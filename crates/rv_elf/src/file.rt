@@ -199,7 +199,7 @@ fn write_parts(alloc: Global, sections: &[Section<'_>], loaded: usize) -> Result
 ///
 /// - `TooLarge` if the headers and the sections together have 4 GiB or more.
 /// - `OutOfMemory` if memory runs out.
-#[tactic(auto, using(crate::proofs::Reading::file_sections, crate::proofs::Reading::file_loaded, crate::proofs::Reading::names_back))]
+#[tactic(auto, using(crate::proofs::Reading::file_sections, crate::proofs::Reading::file_loaded, crate::proofs::Reading::names_back, crate::proofs::Sizes::file_has, crate::proofs::Sizes::file_within))]
 pub fn write_file(
     alloc: Global,
     sections: &[Section<'_>],
@@ -210,6 +210,9 @@ pub fn write_file(
     ensures sections { IfOk result (λ f. spec.sections f.items ≡ sections.now) }
     ensures loaded { IfOk result (λ f. spec.loaded f.items ≡ Some (image_at (get_or sections.now loaded no_section).contents)) }
     ensures names { IfOk result (λ f. half_at f.items 50 ≡ length sections.now - 1) }
+    ensures size { IfOk result (λ f. length f.items
+        ≡ 84 + 40 * length (spec.sections f.items) + length (flat_map (λ s. s.contents) (spec.sections f.items))) }
+    ensures within { IfOk result (λ f. length f.items < 2 ^ 32) }
     ensures large { IfErr result (λ e. e ≡ TooLarge →
         2 ^ 32 ≤ 84 + 40 * length sections.now + length (flat_map (λ s. s.contents) sections.now)) }
 {

@@ -1,5 +1,8 @@
 //! What debuggers ask of a file beside its lines: the compilation unit, its range of addresses, and the extensions that
 //! the machine has. No contract says what these bytes mean.
+ghost use Rattle.std.specs.Prelude.{◌≡◌, ◌≢◌, ◌+◌, ◌^◌, ◌≤◌, IfErr, IfOk, OnOk, length};
+ghost use Rattle.rv_elf.specs.declared.fault.ElfFault.TheVariants.{TooLarge};
+
 use crate::bytes::{append_halves, append_words};
 use crate::fault::ElfFault;
 use rv_base::{NoMemory, RAM_BASE};
@@ -20,7 +23,10 @@ pub const ATTRIBUTES: &[u8] =
 const ASSEMBLER: u16 = 0x8001;
 
 /// Returns a unit of a section: its size, and its bytes.
-fn unit_of(alloc: Global, bytes: &[u8]) -> Result<Vec<u8>, ElfFault> {
+fn unit_of(alloc: Global, bytes: &[u8]) -> Result<Vec<u8>, ElfFault>
+    ensures size { IfOk result (λ v. length v.items ≡ 4 + length bytes.now) }
+    ensures large { IfErr result (λ e. e ≡ TooLarge → 2 ^ 32 ≤ length bytes.now) }
+{
     let Ok(size) = u32::try_from(bytes.len()) else {
         return Err(ElfFault::TooLarge);
     };
@@ -31,19 +37,19 @@ fn unit_of(alloc: Global, bytes: &[u8]) -> Result<Vec<u8>, ElfFault> {
 }
 
 /// Appends a text with its null byte.
-fn append_text(out: &mut Vec<u8>, text: &[u8]) -> Result<(), NoMemory> {
+fn append_text(out: &mut Vec<u8>, text: &[u8]) -> Result<(), NoMemory>
+    ensures { OnOk result (length out.new.items ≡ length out.old.items + length text.now + 1) }
+{
     out.extend_from_slice(text)?;
     out.extend_from_slice(&[0])?;
     Ok(())
 }
 
 /// Returns the compilation unit of a source of this name in a folder, with an image of this size (DWARF 4, section 3.1).
-pub fn write_info(
-    alloc: Global,
-    name: &[u8],
-    folder: &[u8],
-    size: u32,
-) -> Result<Vec<u8>, ElfFault> {
+pub fn write_info(alloc: Global, name: &[u8], folder: &[u8], size: u32) -> Result<Vec<u8>, ElfFault>
+    ensures size { IfOk result (λ v. length v.items ≡ 44 + length name.now + length folder.now) }
+    ensures large { IfErr result (λ e. e ≡ TooLarge → 2 ^ 32 ≤ 40 + length name.now + length folder.now) }
+{
     let mut out = Vec::new(alloc);
     append_halves(&mut out, &[4])?;
     append_words(&mut out, &[0])?;
@@ -57,7 +63,10 @@ pub fn write_info(
 }
 
 /// Returns the range of addresses of the compilation unit (DWARF 4, section 6.1.2).
-pub fn write_ranges(alloc: Global, size: u32) -> Result<Vec<u8>, ElfFault> {
+pub fn write_ranges(alloc: Global, size: u32) -> Result<Vec<u8>, ElfFault>
+    ensures size { IfOk result (λ v. length v.items ≡ 32) }
+    ensures large { IfErr result (λ e. e ≢ TooLarge) }
+{
     let mut out = Vec::new(alloc);
     append_halves(&mut out, &[2])?;
     append_words(&mut out, &[0])?;

@@ -4,6 +4,7 @@ ghost use Rattle.rv_elf.specs.declared.fault.ElfFault.TheVariants.{OutOfMemory, 
 ghost use Rattle.rv_elf.specs.Support.LineBytes.{end_bytes, header_bytes, leb_bytes, program_bytes, row_bytes, rows_bytes, set_address, table_bytes, AreSmall};
 ghost use Rattle.rv_elf.specs.LineNumbers as spec;
 ghost use Rattle.rv_elf.specs.LineNumbers.{rows_after, Rises};
+ghost use Rattle.rv_elf.specs.Size.{lines_size};
 
 use crate::bytes::{append_halves, append_words};
 use crate::fault::ElfFault;
@@ -135,7 +136,7 @@ fn table_of(alloc: Global, name: &[u8], lines: &[PlacedLine], end: u32) -> Resul
 ///
 /// - `TooLarge` if the table would have 4 bytes more than 4 GiB, or more than that.
 /// - `OutOfMemory` if memory runs out.
-#[tactic(auto, using(crate::proofs::Rows::table_read))]
+#[tactic(auto, using(crate::proofs::Rows::table_read, crate::proofs::Sizes::table_has, crate::proofs::Sizes::table_exceeds))]
 pub fn write_lines(
     alloc: Global,
     name: &[u8],
@@ -144,7 +145,9 @@ pub fn write_lines(
 ) -> Result<Vec<u8>, ElfFault>
     requires { Rises 1 lines.now }
     ensures rows { IfOk result (λ t. spec.rows t.items ≡ Some (rows_after 1 lines.now end)) }
-    ensures large { IfErr result (λ e. e ≡ TooLarge → 4 + 2 ^ 32 ≤ length (table_bytes name.now end lines.now)) }
+    ensures size { IfOk result (λ t. length t.items ≡ lines_size name.now lines.now) }
+    ensures within { IfOk result (λ t. length t.items < 4 + 2 ^ 32) }
+    ensures large { IfErr result (λ e. e ≡ TooLarge → 4 + 2 ^ 32 ≤ lines_size name.now lines.now) }
 {
     let table = table_of(alloc, name, lines, end)?;
     Ok(table)

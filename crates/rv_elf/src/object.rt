@@ -1,12 +1,15 @@
 //! The file of an assembled source: its image, its symbols and its lines.
-ghost use Rattle.std.specs.Prelude.{◌≡◌, ◌+◌, ◌∷◌, IfOk, IfSome, Some, length, map};
+ghost use Rattle.std.specs.Prelude.{◌≡◌, ◌+◌, ◌*◌, ◌^◌, ◌<◌, ◌≤◌, ◌∷◌, IfErr, IfOk, OnOk, Some, SomeIff, length, map};
+ghost use Rattle.rv_elf.specs.declared.fault.ElfFault.TheVariants.{TooLarge};
 ghost use Rattle.rv_base.specs.Limits.{ram_base};
 ghost use Rattle.rv_elf.specs.Elf.{half_at, image_at};
 ghost use Rattle.rv_elf.specs.Elf as elf;
 ghost use Rattle.rv_elf.specs.LineNumbers.{rows_after, Rises};
 ghost use Rattle.rv_elf.specs.Object.{lines_of, symbols_of};
+ghost use Rattle.rv_elf.specs.Size.{file_size};
 ghost use Rattle.rv_elf.specs.Symbols.{named, null_symbol};
 ghost use Rattle.rv_elf.specs.Support.Sections.{parts, sections_of};
+ghost use Rattle.rv_elf.specs.Support.Written.{bodies};
 ghost use Rattle.rv_elf.specs.Support.Sections as spec;
 
 use crate::fault::ElfFault;
@@ -77,6 +80,10 @@ fn write_sections(
     ensures sections { IfOk result (λ f. elf.sections f.items ≡ sections_of (parts image.now tables.now) count) }
     ensures names { IfOk result (λ f. half_at f.items 50 ≡ 9) }
     ensures loaded { IfOk result (λ f. elf.loaded f.items ≡ Some (image_at image.now)) }
+    ensures size { IfOk result (λ f. length f.items
+        ≡ 84 + 40 * length (elf.sections f.items) + length (bodies (elf.sections f.items))) }
+    ensures within { IfOk result (λ f. length f.items < 2 ^ 32) }
+    ensures large { IfErr result (λ e. e ≡ TooLarge → 2 ^ 32 ≤ 484 + length (bodies (sections_of (parts image.now tables.now) count))) }
 {
     let mut null = plain(0, 0, &[]);
     null.alignment = 0;
@@ -101,19 +108,22 @@ fn write_sections(
         plain(79, 1, &tables.ranges),
         plain(94, 3, SECTION_NAMES),
     ];
-    write_file(alloc, &sections, 2)
+    let bytes = write_file(alloc, &sections, 2)?;
+    Ok(bytes)
 }
 
 /// Returns the address following an image, if it has 32 bits.
 fn end_of(image: &[u8]) -> Option<u32>
-    ensures { IfSome result (λ end. end ≡ ram_base + length image.now) }
+    ensures { SomeIff result (ram_base + length image.now < 2 ^ 32) (ram_base + length image.now) }
 {
     let size = u32::try_from(image.len()).ok()?;
     RAM_BASE.checked_add(size)
 }
 
 /// Returns the number of entries of a symbol table, if it has 32 bits: the first names nothing.
-fn entries_of(symbols: &[Symbol<'_>]) -> Option<u32> {
+fn entries_of(symbols: &[Symbol<'_>]) -> Option<u32>
+    ensures { SomeIff result (1 + length symbols.now < 2 ^ 32) (1 + length symbols.now) }
+{
     let count = u32::try_from(symbols.len()).ok()?;
     count.checked_add(1)
 }
@@ -122,14 +132,22 @@ fn entries_of(symbols: &[Symbol<'_>]) -> Option<u32> {
 ///
 /// # Errors
 ///
-/// - `TooLarge` if the file, or one of its tables, would have 4 GiB or more.
+/// - `TooLarge` if the address following the image has more than 32 bits, or if the file would have 4 GiB or more.
 /// - `OutOfMemory` if memory runs out.
+#[tactic(auto, using(crate::proofs::Sizes::strings_exceed, crate::proofs::Sizes::symbols_exceed))]
 pub fn write_object(alloc: Global, object: &Object<'_>) -> Result<Vec<u8>, ElfFault>
     requires { Rises 1 object.now.lines.now }
     ensures image { IfOk result (λ f. elf.loaded f.items ≡ Some (image_at object.now.image.now)) }
     ensures symbols { IfOk result (λ f. symbols_of f.items ≡ Some (null_symbol ∷ map named object.now.symbols.now)) }
     ensures lines { IfOk result (λ f. lines_of f.items
         ≡ Some (rows_after 1 object.now.lines.now (ram_base + length object.now.image.now))) }
+    ensures size { IfOk result (λ f. length f.items ≡ file_size object.now.image.now
+        (map (λ s. s.name) object.now.symbols.now) object.now.lines.now object.now.name.now object.now.folder.now) }
+    ensures end { OnOk result (ram_base + length object.now.image.now < 2 ^ 32) }
+    ensures within { IfOk result (λ f. length f.items < 2 ^ 32) }
+    ensures large { IfErr result (λ e. e ≡ TooLarge → ram_base + length object.now.image.now < 2 ^ 32 →
+        2 ^ 32 ≤ file_size object.now.image.now (map (λ s. s.name) object.now.symbols.now) object.now.lines.now
+        object.now.name.now object.now.folder.now) }
 {
     let Some(end) = end_of(object.image) else {
         return Err(ElfFault::TooLarge);

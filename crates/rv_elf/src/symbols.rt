@@ -4,6 +4,7 @@ ghost use Rattle.rv_elf.specs.declared.fault.ElfFault.TheVariants.{OutOfMemory, 
 ghost use Rattle.rv_elf.specs.Symbols.{named, null_symbol};
 ghost use Rattle.std.specs.List.{flat_map};
 ghost use Rattle.rv_elf.specs.Symbols as spec;
+ghost use Rattle.rv_elf.specs.Size.{symbols_size};
 ghost use Rattle.rv_elf.specs.Support.Tables.{entry, table_of, strings_of, names, AreSmall, IsSmall, Within};
 
 use crate::bytes::{append_halves, append_words};
@@ -110,9 +111,10 @@ fn tables_of(alloc: Global, symbols: &[Symbol<'_>]) -> Result<SymbolTable, ElfFa
 ///
 /// - `TooLarge` if the strings have 4 GiB or more.
 /// - `OutOfMemory` if memory runs out.
-#[tactic(auto, using(crate::proofs::Named::tables_read))]
+#[tactic(auto, using(crate::proofs::Named::tables_read, crate::proofs::Sizes::tables_have))]
 pub fn write_symbols(alloc: Global, symbols: &[Symbol<'_>]) -> Result<SymbolTable, ElfFault>
     ensures symbols { IfOk result (λ t. spec.symbols t.strings.items t.table.items ≡ null_symbol ∷ map named symbols.now) }
+    ensures size { IfOk result (λ t. length t.table.items + length t.strings.items ≡ 17 + symbols_size (map (λ s. s.name) symbols.now)) }
     ensures large { IfErr result (λ e. e ≡ TooLarge
         → 2 ^ 32 ≤ 1 + length (flat_map (λ s. s.name ++ 0 ∷ []) symbols.now)) }
 {

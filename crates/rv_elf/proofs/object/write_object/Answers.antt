@@ -1,8 +1,9 @@
-use Rattle.std.proofs.Common.{◌∙◌, ℕ, Some, ap}
+use Rattle.std.proofs.Common.{◌∙◌, ℕ, Some, ap, map}
 use Rattle.rv_elf.specs.LineNumbers.{rows_after}
 use Rattle.rv_elf.specs.declared.object.Tables.{Tables}
-use Rattle.rv_elf.specs.Support.Sections.{parts, Parts}
+use Rattle.rv_elf.specs.Support.Sections.{parts}
 use Rattle.rv_elf.proofs.Found.{symbols_found, lines_found}
+use Rattle.rv_elf.proofs.Sizes.{object_has}
 use Rattle.rv_elf.proofs.object.write_object.Goals as goal
 
 pub returns-clause-symbols : goal.returns-clause-symbols
@@ -16,4 +17,12 @@ returns-clause-lines c =
     let tables : Tables = record { symbols = c.in_ok-symbols.symbols; info = c.in_ok-info.info; lines = c.in_ok-lines.lines; ranges = c.in_ok-ranges.ranges } in
     lines_found c.in_ok-file.file.items (parts c.args.object.now.image.now tables) _ _
     c.in_ok-file.ensures.sections c.in_ok-file.ensures.names
-    (c.in_ok-lines.ensures.rows ∙ ap (λ (e : ℕ). Some (rows_after 1 c.args.object.now.lines.now e)) c.in-Some.ensures)
+    (c.in_ok-lines.ensures.rows ∙ ap (λ (e : ℕ). Some (rows_after 1 c.args.object.now.lines.now e)) c.in-Some.ensures.1)
+
+pub returns-clause-size : goal.returns-clause-size
+returns-clause-size c =
+    let tables : Tables = record { symbols = c.in_ok-symbols.symbols; info = c.in_ok-info.info; lines = c.in_ok-lines.lines; ranges = c.in_ok-ranges.ranges } in
+    object_has c.in_ok-file.file.items c.args.object.now.image.now tables c.in-Some-entries_of.count
+    (map (λ s. s.name) c.args.object.now.symbols.now) c.args.object.now.lines.now c.args.object.now.name.now
+    c.args.object.now.folder.now c.in_ok-file.ensures.sections c.in_ok-file.ensures.size c.in_ok-symbols.ensures.size
+    c.in_ok-info.ensures.size c.in_ok-lines.ensures.size c.in_ok-ranges.ensures.size
