@@ -1,9 +1,10 @@
 -- What the ELF file of a source says of its labels and lines.
 -- To audit: public contracts cite this.
-use Rattle.std.specs.Prelude.{ℕ, zero, suc, List, [], ◌∷◌, ◌++◌, map, take, drop, length, nat_lt, Option, if◌then◌else◌}
-use Rattle.std.specs.Option.{option_map, unwrap_or}
+use Rattle.std.specs.Prelude.{ℕ, zero, suc, ◌-◌, List, [], ◌∷◌, ◌++◌, map, take, drop, length, nat_lt, if◌then◌else◌}
+use Rattle.std.specs.Option.{unwrap_or}
 use Rattle.rv_asm.specs.Lines.{Listed, address_of, bytes_of}
 use Rattle.rv_elf.specs.Elf.{text}
+use Rattle.rv_elf.specs.Size.{file_size}
 use Rattle.rv_elf.specs.Symbols.{Symbol}
 use Rattle.rv_elf.specs.declared.lines.PlacedLine.{PlacedLine}
 
@@ -24,3 +25,9 @@ placed_line l n =
 unfoldable pub placed_from : Listed → ℕ → ℕ → List PlacedLine
 placed_from l n zero = []
 placed_from l n (suc count) = placed_line l n ++ placed_from l (suc n) count
+
+-- the number of bytes of the file of a source of this name in a folder: a symbol has the source's name, and one each
+-- label's
+abbrev pub size_of : Listed → List ℕ → List ℕ → ℕ
+size_of l name folder = file_size l.assembly.bytes (name ∷ map (λ p. p.0) l.labels)
+    (placed_from l 1 (length l.addresses - 1)) name folder

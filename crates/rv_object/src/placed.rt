@@ -1,7 +1,8 @@
 //! The lines of a source that have bytes.
-ghost use Rattle.std.specs.Prelude.{◌≡◌, ◌++◌, ◌-◌, ◌≤◌, IfOk, IfSome, OnOk, length, option_to_list};
+ghost use Rattle.std.specs.Prelude.{◌≡◌, ◌++◌, ◌-◌, ◌^◌, ◌<◌, ◌≤◌, IfErr, IfOk, OnOk, SomeIff, length, option_to_list};
 ghost use Rattle.rv_asm.specs.Seen.{seen};
 ghost use Rattle.rv_elf.specs.LineNumbers.{Rises};
+ghost use Rattle.rv_elf.specs.declared.fault.ElfFault.TheVariants.{OutOfMemory, TooLarge};
 ghost use Rattle.rv_object.specs.Placed.{placed_from, placed_line};
 
 use rv_asm::Listing;
@@ -21,7 +22,8 @@ fn placed_line(listing: Listing<'_>, line: u32) -> Option<PlacedLine>
 
 /// Appends a line with its address, if it has bytes.
 fn append_line(listing: Listing<'_>, line: u32, out: &mut Vec<PlacedLine>) -> Result<(), ElfFault>
-    ensures { OnOk result (out.new.items ≡ out.old.items ++ placed_line (seen listing.entry) line) }
+    ensures ok { OnOk result (out.new.items ≡ out.old.items ++ placed_line (seen listing.entry) line) }
+    ensures err { IfErr result (λ e. e ≡ OutOfMemory) }
 {
     if let Some(placed) = placed_line(listing, line) {
         if out.push(placed).is_err() {
@@ -33,7 +35,7 @@ fn append_line(listing: Listing<'_>, line: u32, out: &mut Vec<PlacedLine>) -> Re
 
 /// Returns the number of lines, if it has 32 bits.
 fn count_of(listing: Listing<'_>) -> Option<u32>
-    ensures { IfSome result (λ n. n ≡ length (seen listing.entry).addresses - 1) }
+    ensures { SomeIff result (length (seen listing.entry).addresses - 1 < 2 ^ 32) (length (seen listing.entry).addresses - 1) }
 {
     u32::try_from(listing.len()).ok()
 }
@@ -42,6 +44,8 @@ fn count_of(listing: Listing<'_>) -> Option<u32>
 pub fn placed_lines(alloc: Global, listing: Listing<'_>) -> Result<Vec<PlacedLine>, ElfFault>
     ensures value { IfOk result (λ v. v.items ≡ placed_from (seen listing.entry) 1 (length (seen listing.entry).addresses - 1)) }
     ensures rises { IfOk result (λ v. Rises 1 v.items) }
+    ensures within { OnOk result (length (seen listing.entry).addresses - 1 < 2 ^ 32) }
+    ensures large { IfErr result (λ e. e ≡ TooLarge → 2 ^ 32 ≤ length (seen listing.entry).addresses - 1) }
 {
     let Some(count) = count_of(listing) else {
         return Err(ElfFault::TooLarge);
