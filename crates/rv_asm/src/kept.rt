@@ -38,7 +38,10 @@ pub enum Kept<'a> {
         value: Single<'a>,
     },
     /// What waits for values, each in its place.
-    Many { waiting: Waiting, values: List<Expression<'a>> },
+    Many {
+        waiting: Waiting,
+        values: List<Expression<'a>>,
+    },
 }
 
 /// Returns the number of an atom that is one.
@@ -198,6 +201,8 @@ pub fn keep<'a>(
         Statement::Space { fill, .. } => space(alloc, bits(constant), fill),
         Statement::Align { .. } => padding(alloc, gap(here, 1 << bits(constant))),
         Statement::Balign { .. } => padding(alloc, gap(here, bits(constant))),
-        Statement::Constant { .. } | Statement::Marker => Ok(Kept::Ready(List::of(Vec::new(alloc)))),
+        Statement::Constant { .. } | Statement::Marker => Ok(Kept::Ready(List::of(Vec::new(
+            alloc,
+        )))),
     }
 }

@@ -27,6 +27,6 @@ pub use assembler::{Reviewed, assemble};
 pub use listing::{Listing, NearLabel, Places, list};
 pub use locals::LocalLabel;
 pub use notes::PlacedName;
-pub use rejected::{Reviewed, review};
+pub use rejected::review;
 pub use rv_program::{AsmFault, FaultKind, Program};
 pub use values::fits;
