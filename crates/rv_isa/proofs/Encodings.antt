@@ -3,7 +3,7 @@ use Rattle.std.proofs.Common.{◌≡◌, ℕ, ◌+◌, ◌*◌, ◌^◌, ◌<◌
 use Rattle.std.specs.Prelude.{◌↔◌, fold}
 use Rattle.rv_isa.proofs.OneLayout.{kept}
 use Rattle.rv_isa.specs.Fields.{kind_of, unsigned}
-use Rattle.rv_isa.specs.Support.Kinds.{branch_operation, load_operation, store_operation, imm_operation, shift_operation, alu_operation, csr_operation, csr_imm_operation, fields_of, word, IsInRange, IsMeaning}
+use Rattle.rv_isa.specs.Support.Kinds.{fields_of, word, IsInRange, IsMeaning}
 use Rattle.rv_isa.specs.Support.Codes.{codes_of, placed}
 use Rattle.rv_isa.specs.Table.{kind_in, row, Encoding, R}
 use Rattle.rv_isa.specs.Encoded.{parts, encoded, HasImmediate, AreInRange}
@@ -38,7 +38,7 @@ twice (pos n) = omega arith
 twice (negsuc n) = omega arith
 
 worded : (x : Operation) (f : Fields) → encoded (fields_of (kind_in (row x).1 f)) ≡ packed (parts (row x).1 f)
-unfolding fields_of branch_operation load_operation store_operation imm_operation shift_operation alu_operation csr_operation csr_imm_operation
+unfolding fields_of
 worded o.Lui f = omega (arith, twice f.imm)
 worded x f = omega (arith, twice f.imm)
 
@@ -58,7 +58,7 @@ kind_in_range f r = ranged f.operation f r.0 r.1 r.2 r.3
 -- ---- the fields of a kind in range
 
 fields_in_range : (k : Kind) → IsInRange k → AreInRange (fields_of k)
-unfolding fields_of branch_operation load_operation store_operation imm_operation shift_operation alu_operation csr_operation csr_imm_operation
+unfolding fields_of
 fields_in_range (Branch cond.Eq _ _ _) r = grind arith
 fields_in_range (Load loads.Lb _ _ _) r = grind arith
 fields_in_range (Store width.One _ _ _) r = grind arith

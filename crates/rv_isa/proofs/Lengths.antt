@@ -5,7 +5,7 @@ use Rattle.std.specs.Prelude.{ℤ, pos, negsuc}
 use Rattle.std.specs.Fmt.{decimal, signed_decimal}
 use Rattle.rv_isa.specs.Number.{IsWithin}
 use Rattle.rv_isa.specs.Table.{mnemonic}
-use Rattle.rv_isa.specs.Support.Kinds.{branch_operation, load_operation, store_operation, imm_operation, shift_operation, alu_operation, csr_operation, csr_imm_operation, IsInRange}
+use Rattle.rv_isa.specs.Support.Kinds.{IsInRange}
 use Rattle.rv_isa.specs.Text.{target, register_text, text}
 use Rattle.rv_isa.specs.declared.kind.Kind.{Kind}
 use Rattle.rv_isa.specs.declared.kind.Kind.TheVariants.{Branch, Load, Store, OpImm, Shift, Op, Csr, CsrImm}
@@ -54,7 +54,7 @@ jump_length (negsuc n) h =
 ruleset lengths = (small_length, register_length, upper_length, csr_number_length, immediate_length, branch_length, jump_length)
 
 pub text_length : (k : Kind) → IsInRange k → length (text k) ≤ 19
-unfolding text mnemonic branch_operation load_operation store_operation imm_operation shift_operation alu_operation csr_operation csr_imm_operation
+unfolding text mnemonic
 text_length (Branch cond.Eq _ _ _) r = simp length-append (grind (arith, lengths))
 text_length (Load loads.Lb _ _ _) r = simp length-append (grind (arith, lengths))
 text_length (Store width.One _ _ _) r = simp length-append (grind (arith, lengths))

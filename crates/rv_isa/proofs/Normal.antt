@@ -3,7 +3,7 @@ use Rattle.std.proofs.Common.{◌≡◌, ◌∙◌, ℕ, ℤ, pos, negsuc, refl,
 use Rattle.rv_isa.specs.Fields.{kind_of, with_fields}
 use Rattle.rv_isa.specs.Table.{kind_in, row, Encoding, R}
 use Rattle.rv_isa.specs.Support.Codes.{codes_of, normal}
-use Rattle.rv_isa.specs.Support.Kinds.{branch_operation, load_operation, store_operation, imm_operation, shift_operation, alu_operation, csr_operation, csr_imm_operation, fields_of, IsInRange}
+use Rattle.rv_isa.specs.Support.Kinds.{fields_of, IsInRange}
 use Rattle.rv_isa.specs.declared.fields.Fields.{Fields}
 use Rattle.rv_isa.specs.declared.format.Codes.{Codes}
 use Rattle.rv_isa.specs.declared.op.Operation.{Operation}
@@ -28,7 +28,7 @@ fields : (x : Operation) (rd rs1 rs2 : ℕ) (imm : ℤ) → SFits w32 imm
     → IsInRange (kind_in (row x).1 (with_fields x rd rs1 rs2 imm))
     → fields_of (kind_in (row x).1 (with_fields x rd rs1 rs2 imm))
     ≡ normal (codes_of (row x).1).format (with_fields x rd rs1 rs2 imm)
-unfolding fields_of branch_operation load_operation store_operation imm_operation shift_operation alu_operation csr_operation csr_imm_operation
+unfolding fields_of
 fields o.Lui rd rs1 rs2 (pos n) b r = let small = b.sfits in grind arith
 fields x rd rs1 rs2 (pos n) b r = let small = b.sfits in grind arith
 fields o.Lui rd rs1 rs2 (negsuc n) b r = let small = b.sfits in grind arith

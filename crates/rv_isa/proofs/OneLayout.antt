@@ -1,7 +1,7 @@
 -- An instruction has one layout: `kind_of` undoes `fields_of`.
 use Rattle.std.proofs.Common.{◌≡◌, ℕ, ◌^◌, ◌<◌, refl, ap, arith}
 use Rattle.rv_isa.specs.Fields.{kind_of, unsigned}
-use Rattle.rv_isa.specs.Support.Kinds.{branch_operation, load_operation, store_operation, imm_operation, shift_operation, alu_operation, csr_operation, csr_imm_operation, fields_of, IsInRange}
+use Rattle.rv_isa.specs.Support.Kinds.{fields_of, IsInRange}
 use Rattle.rv_isa.specs.declared.kind.Kind.{Kind}
 use Rattle.rv_isa.specs.declared.kind.Kind.TheVariants.{Lui, Auipc, Branch, Load, Store, OpImm, Shift, Op, Fence, FenceI, Csr, CsrImm}
 use Rattle.std.specs.Prelude.{pos}
@@ -17,7 +17,7 @@ word_of : (n : ℕ) → n < 2 ^ 20 → unsigned (pos n) ≡ n
 word_of n h = omega arith
 
 pub kept : (k : Kind) → IsInRange k → kind_of (fields_of k) ≡ k
-unfolding kind_of fields_of branch_operation load_operation store_operation imm_operation shift_operation alu_operation csr_operation csr_imm_operation
+unfolding kind_of fields_of
 kept (Lui rd imm) r = ap (Lui rd) (word_of imm r.1)
 kept (Auipc rd imm) r = ap (Auipc rd) (word_of imm r.1)
 kept (Branch cond.Eq _ _ _) r = refl

@@ -1,6 +1,6 @@
 //! Instructions: kinds in range, laid out flat.
 use crate::layout::fields_of;
-use crate::op::kind_of;
+use crate::table::kind_of;
 use crate::{Fields, Kind, encode};
 use std::fmt;
 use std::marker::Model;

@@ -1,17 +1,14 @@
-//! Kinds laid out as fields, and put together again.
-//!
-//! `fields_of` lays a kind out, and a function for each form of several operations puts it together. They are
-//! inlined: where the form of a kind or an operation is known, no match is left of them.
+//! Kinds laid out as fields, and put together again: which field each operand of a kind is.
 ghost use Rattle.std.specs.Prelude.{◌≡◌, ◌<◌, ◌^◌};
 ghost use Rattle.rv_isa.specs.Fields as spec;
 ghost use Rattle.rv_isa.specs.Support.Kinds as layout;
 ghost use Rattle.rv_isa.specs.Support.Codes as codes;
 ghost use Rattle.rv_isa.specs.Fields.{with_fields};
 ghost use Rattle.rv_isa.specs.Support.Kinds.{IsInRange};
-ghost use Rattle.rv_isa.specs.declared.kind.Kind.TheVariants as kind;
 
 use crate::format::Format;
-use crate::{AluOp, Cond, CsrOp, Fields, ImmOp, Kind, LoadOp, Operation, Reg, ShiftOp, Width};
+use crate::kind::kind;
+use crate::{Fields, Kind, Operation, Reg};
 
 // ---- a kind's fields
 
@@ -51,7 +48,7 @@ pub(crate) fn normal(format: Format, fields: Fields) -> Fields
     }
 }
 
-/// Returns the fields of a kind.
+/// Returns the fields of a kind. Where the kind is known, no match is left.
 #[inline(always)]
 #[tactic(auto, unfolding(crate::specs::Support::Kinds::fields_of))]
 pub(crate) fn fields_of(kind: Kind) -> Fields
@@ -59,161 +56,66 @@ pub(crate) fn fields_of(kind: Kind) -> Fields
     ensures { result ≡ layout.fields_of kind }
 {
     let x0 = Reg::of(0);
+    let copy = kind;
+    let operation = Operation::of(copy);
     match kind {
-        Kind::Lui { rd, imm } => with(Operation::Lui, rd, x0, x0, imm as i32),
-        Kind::Auipc { rd, imm } => with(Operation::Auipc, rd, x0, x0, imm as i32),
-        Kind::Jal { rd, offset } => with(Operation::Jal, rd, x0, x0, offset),
-        Kind::Jalr { rd, base, offset } => with(Operation::Jalr, rd, base, x0, offset),
-        Kind::Branch {
-            cond,
-            rs1,
-            rs2,
-            offset,
-        } => with(cond.operation(), x0, rs1, rs2, offset),
-        Kind::Load {
-            op,
-            rd,
-            base,
-            offset,
-        } => with(op.operation(), rd, base, x0, offset),
-        Kind::Store {
-            width,
-            source,
-            base,
-            offset,
-        } => with(width.store_operation(), x0, base, source, offset),
-        Kind::OpImm { op, rd, rs1, imm } => with(op.operation(), rd, rs1, x0, imm),
-        Kind::Shift {
-            op,
-            rd,
-            rs1,
-            amount,
-        } => with(op.operation(), rd, rs1, x0, i32::from(amount)),
-        Kind::Op { op, rd, rs1, rs2 } => with(op.operation(), rd, rs1, rs2, 0),
-        Kind::Fence { rd, rs1, imm } => with(Operation::Fence, rd, rs1, x0, i32::from(imm)),
-        Kind::FenceI { rd, rs1, imm } => with(Operation::FenceI, rd, rs1, x0, i32::from(imm)),
-        Kind::Csr { op, rd, rs1, csr } => with(op.operation(), rd, rs1, x0, i32::from(csr)),
-        Kind::CsrImm { op, rd, imm, csr } => with(
-            op.imm_operation(),
-            rd,
-            Reg::of(imm),
-            x0,
-            i32::from(csr),
-        ),
-        Kind::Ecall => with(Operation::Ecall, x0, x0, x0, 0),
-        Kind::Ebreak => with(Operation::Ebreak, x0, x0, x0, 0),
-        Kind::Mret => with(Operation::Mret, x0, x0, x0, 0),
-        Kind::Wfi => with(Operation::Wfi, x0, x0, x0, 0),
+        kind!(Lui rd imm) => with(operation, rd, x0, x0, imm as i32),
+        kind!(Auipc rd imm) => with(operation, rd, x0, x0, imm as i32),
+        kind!(Jal rd offset) => with(operation, rd, x0, x0, offset),
+        kind!(Jalr rd base offset) => with(operation, rd, base, x0, offset),
+        kind!(Branch _ rs1 rs2 offset) => with(operation, x0, rs1, rs2, offset),
+        kind!(Load _ rd base offset) => with(operation, rd, base, x0, offset),
+        kind!(Store _ source base offset) => with(operation, x0, base, source, offset),
+        kind!(OpImm _ rd rs1 imm) => with(operation, rd, rs1, x0, imm),
+        kind!(Shift _ rd rs1 amount) => with(operation, rd, rs1, x0, i32::from(amount)),
+        kind!(Op _ rd rs1 rs2) => with(operation, rd, rs1, rs2, 0),
+        kind!(Fence rd rs1 imm) => with(operation, rd, rs1, x0, i32::from(imm)),
+        kind!(FenceI rd rs1 imm) => with(operation, rd, rs1, x0, i32::from(imm)),
+        kind!(Csr _ rd rs1 csr) => with(operation, rd, rs1, x0, i32::from(csr)),
+        kind!(CsrImm _ rd imm csr) => with(operation, rd, Reg::of(imm), x0, i32::from(csr)),
+        Kind::Ecall | Kind::Ebreak | Kind::Mret | Kind::Wfi => with(operation, x0, x0, x0, 0),
     }
 }
 
-// ---- the kind of each form of several operations, whose fields are read where they are used
+// ---- the kind of fields, which are read where they are used
 
-/// Returns a branch.
-#[inline(always)]
-pub(crate) fn branch(cond: Cond, fields: &Fields) -> Kind
-    ensures { result ≡ kind.Branch cond fields.now.rs1 fields.now.rs2 fields.now.imm }
-{
-    Kind::Branch {
-        cond,
-        rs1: fields.rs1,
-        rs2: fields.rs2,
-        offset: fields.imm,
-    }
+/// Expands to a kind of a row of the table, with the operands that the fields have for it.
+macro_rules! made {
+    ($f:ident (Lui)) => { kind!(Lui ($f.rd) ($f.imm.cast_unsigned())) };
+    ($f:ident (Auipc)) => { kind!(Auipc ($f.rd) ($f.imm.cast_unsigned())) };
+    ($f:ident (Jal)) => { kind!(Jal ($f.rd) ($f.imm)) };
+    ($f:ident (Jalr)) => { kind!(Jalr ($f.rd) ($f.rs1) ($f.imm)) };
+    ($f:ident (Branch $cond:tt)) => { kind!(Branch $cond ($f.rs1) ($f.rs2) ($f.imm)) };
+    ($f:ident (Store $width:tt)) => { kind!(Store $width ($f.rs2) ($f.rs1) ($f.imm)) };
+    ($f:ident (Shift $op:tt)) => { kind!(Shift $op ($f.rd) ($f.rs1) (low_byte($f.imm))) };
+    ($f:ident (Op $op:tt)) => { kind!(Op $op ($f.rd) ($f.rs1) ($f.rs2)) };
+    ($f:ident (Csr $op:tt)) => { kind!(Csr $op ($f.rd) ($f.rs1) (low_half($f.imm))) };
+    ($f:ident (CsrImm $op:tt)) => { kind!(CsrImm $op ($f.rd) ($f.rs1.number()) (low_half($f.imm))) };
+    ($f:ident ($kind:ident $op:tt)) => { kind!($kind $op ($f.rd) ($f.rs1) ($f.imm)) };
+    ($f:ident (Fence)) => { kind!(Fence ($f.rd) ($f.rs1) (low_half($f.imm))) };
+    ($f:ident (FenceI)) => { kind!(FenceI ($f.rd) ($f.rs1) (low_half($f.imm))) };
+    ($f:ident ($kind:ident)) => { Kind::$kind };
 }
 
-/// Returns a load.
-#[inline(always)]
-pub(crate) fn load(op: LoadOp, fields: &Fields) -> Kind
-    ensures { result ≡ kind.Load op fields.now.rd fields.now.rs1 fields.now.imm }
-{
-    Kind::Load {
-        op,
-        rd: fields.rd,
-        base: fields.rs1,
-        offset: fields.imm,
-    }
+pub(crate) use made;
+
+/// Expands to the pattern of a kind of a row of the table.
+macro_rules! any {
+    ((Branch $cond:tt)) => { Kind::Branch { cond: $cond, .. } };
+    ((Store $width:tt)) => { Kind::Store { width: $width, .. } };
+    (($kind:ident $op:tt)) => { Kind::$kind { op: $op, .. } };
+    (($kind:ident)) => { Kind::$kind { .. } };
 }
 
-/// Returns a store.
-#[inline(always)]
-pub(crate) fn store(width: Width, fields: &Fields) -> Kind
-    ensures { result ≡ kind.Store width fields.now.rs2 fields.now.rs1 fields.now.imm }
-{
-    Kind::Store {
-        width,
-        source: fields.rs2,
-        base: fields.rs1,
-        offset: fields.imm,
-    }
-}
+pub(crate) use any;
 
-/// Returns an operation on a register and an immediate.
+/// Returns an immediate of five bits.
 #[inline(always)]
-pub(crate) fn op_imm(op: ImmOp, fields: &Fields) -> Kind
-    ensures { result ≡ kind.OpImm op fields.now.rd fields.now.rs1 fields.now.imm }
+pub(crate) fn low_byte(imm: i32) -> u8
+    requires { spec.unsigned imm < 2 ^ 5 }
+    ensures { result ≡ spec.unsigned imm }
 {
-    Kind::OpImm {
-        op,
-        rd: fields.rd,
-        rs1: fields.rs1,
-        imm: fields.imm,
-    }
-}
-
-/// Returns a shift by an immediate.
-#[inline(always)]
-pub(crate) fn shift(op: ShiftOp, fields: &Fields) -> Kind
-    requires { spec.unsigned fields.now.imm < 2 ^ 5 }
-    ensures { result ≡ kind.Shift op fields.now.rd fields.now.rs1 (spec.unsigned fields.now.imm) }
-{
-    Kind::Shift {
-        op,
-        rd: fields.rd,
-        rs1: fields.rs1,
-        amount: fields.imm.cast_unsigned() as u8,
-    }
-}
-
-/// Returns an operation on two registers.
-#[inline(always)]
-pub(crate) fn op(op: AluOp, fields: &Fields) -> Kind
-    ensures { result ≡ kind.Op op fields.now.rd fields.now.rs1 fields.now.rs2 }
-{
-    Kind::Op {
-        op,
-        rd: fields.rd,
-        rs1: fields.rs1,
-        rs2: fields.rs2,
-    }
-}
-
-/// Returns a change of a control register by a register.
-#[inline(always)]
-pub(crate) fn csr(op: CsrOp, fields: &Fields) -> Kind
-    requires { spec.unsigned fields.now.imm < 2 ^ 12 }
-    ensures { result ≡ kind.Csr op fields.now.rd fields.now.rs1 (spec.unsigned fields.now.imm) }
-{
-    Kind::Csr {
-        op,
-        rd: fields.rd,
-        rs1: fields.rs1,
-        csr: low_half(fields.imm),
-    }
-}
-
-/// Returns a change of a control register by a number.
-#[inline(always)]
-pub(crate) fn csr_imm(op: CsrOp, fields: &Fields) -> Kind
-    requires { spec.unsigned fields.now.imm < 2 ^ 12 }
-    ensures { result ≡ kind.CsrImm op fields.now.rd fields.now.rs1 (spec.unsigned fields.now.imm) }
-{
-    Kind::CsrImm {
-        op,
-        rd: fields.rd,
-        imm: fields.rs1.number(),
-        csr: low_half(fields.imm),
-    }
+    imm.cast_unsigned() as u8
 }
 
 /// Returns an immediate of twelve bits.

@@ -33,87 +33,61 @@ operations =
     ∷ Srl ∷ Or ∷ And ∷ Sub ∷ Sra ∷ Mul ∷ Mulh ∷ Mulhsu ∷ Mulhu ∷ Div ∷ Divu ∷ Rem ∷ Remu ∷ Fence ∷ FenceI
     ∷ Csrrw ∷ Csrrs ∷ Csrrc ∷ Csrrwi ∷ Csrrsi ∷ Csrrci ∷ Ecall ∷ Ebreak ∷ Mret ∷ Wfi ∷ []
 
--- ---- the operation of each form
-
-unfoldable pub branch_operation : Cond → Operation
-branch_operation cond.Eq = Beq
-branch_operation cond.Ne = Bne
-branch_operation cond.Lt = Blt
-branch_operation cond.Ge = Bge
-branch_operation cond.Ltu = Bltu
-branch_operation cond.Geu = Bgeu
-
-unfoldable pub load_operation : LoadOp → Operation
-load_operation loads.Lb = Lb
-load_operation loads.Lh = Lh
-load_operation loads.Lw = Lw
-load_operation loads.Lbu = Lbu
-load_operation loads.Lhu = Lhu
-
-unfoldable pub store_operation : Width → Operation
-store_operation width.One = Sb
-store_operation width.Two = Sh
-store_operation width.Four = Sw
-
-unfoldable pub imm_operation : ImmOp → Operation
-imm_operation immediate.Addi = Addi
-imm_operation immediate.Slti = Slti
-imm_operation immediate.Sltiu = Sltiu
-imm_operation immediate.Xori = Xori
-imm_operation immediate.Ori = Ori
-imm_operation immediate.Andi = Andi
-
-unfoldable pub shift_operation : ShiftOp → Operation
-shift_operation shift.Slli = Slli
-shift_operation shift.Srli = Srli
-shift_operation shift.Srai = Srai
-
-unfoldable pub alu_operation : AluOp → Operation
-alu_operation alu.Add = Add
-alu_operation alu.Sll = Sll
-alu_operation alu.Slt = Slt
-alu_operation alu.Sltu = Sltu
-alu_operation alu.Xor = Xor
-alu_operation alu.Srl = Srl
-alu_operation alu.Or = Or
-alu_operation alu.And = And
-alu_operation alu.Sub = Sub
-alu_operation alu.Sra = Sra
-alu_operation alu.Mul = Mul
-alu_operation alu.Mulh = Mulh
-alu_operation alu.Mulhsu = Mulhsu
-alu_operation alu.Mulhu = Mulhu
-alu_operation alu.Div = Div
-alu_operation alu.Divu = Divu
-alu_operation alu.Rem = Rem
-alu_operation alu.Remu = Remu
-
-unfoldable pub csr_operation : CsrOp → Operation
-csr_operation csr.Write = Csrrw
-csr_operation csr.Set = Csrrs
-csr_operation csr.Clear = Csrrc
-
-unfoldable pub csr_imm_operation : CsrOp → Operation
-csr_imm_operation csr.Write = Csrrwi
-csr_imm_operation csr.Set = Csrrsi
-csr_imm_operation csr.Clear = Csrrci
-
 -- the operation of a kind
 abbrev pub operation_of : Kind → Operation
 operation_of (kind.Lui _ _) = Lui
 operation_of (kind.Auipc _ _) = Auipc
 operation_of (kind.Jal _ _) = Jal
 operation_of (kind.Jalr _ _ _) = Jalr
-operation_of (kind.Branch op _ _ _) = branch_operation op
-operation_of (kind.Load op _ _ _) = load_operation op
-operation_of (kind.Store op _ _ _) = store_operation op
-operation_of (kind.OpImm op _ _ _) = imm_operation op
-operation_of (kind.Shift op _ _ _) = shift_operation op
-operation_of (kind.Op op _ _ _) = alu_operation op
+operation_of (kind.Branch cond.Eq _ _ _) = Beq
+operation_of (kind.Branch cond.Ne _ _ _) = Bne
+operation_of (kind.Branch cond.Lt _ _ _) = Blt
+operation_of (kind.Branch cond.Ge _ _ _) = Bge
+operation_of (kind.Branch cond.Ltu _ _ _) = Bltu
+operation_of (kind.Branch cond.Geu _ _ _) = Bgeu
+operation_of (kind.Load loads.Lb _ _ _) = Lb
+operation_of (kind.Load loads.Lh _ _ _) = Lh
+operation_of (kind.Load loads.Lw _ _ _) = Lw
+operation_of (kind.Load loads.Lbu _ _ _) = Lbu
+operation_of (kind.Load loads.Lhu _ _ _) = Lhu
+operation_of (kind.Store width.One _ _ _) = Sb
+operation_of (kind.Store width.Two _ _ _) = Sh
+operation_of (kind.Store width.Four _ _ _) = Sw
+operation_of (kind.OpImm immediate.Addi _ _ _) = Addi
+operation_of (kind.OpImm immediate.Slti _ _ _) = Slti
+operation_of (kind.OpImm immediate.Sltiu _ _ _) = Sltiu
+operation_of (kind.OpImm immediate.Xori _ _ _) = Xori
+operation_of (kind.OpImm immediate.Ori _ _ _) = Ori
+operation_of (kind.OpImm immediate.Andi _ _ _) = Andi
+operation_of (kind.Shift shift.Slli _ _ _) = Slli
+operation_of (kind.Shift shift.Srli _ _ _) = Srli
+operation_of (kind.Shift shift.Srai _ _ _) = Srai
+operation_of (kind.Op alu.Add _ _ _) = Add
+operation_of (kind.Op alu.Sll _ _ _) = Sll
+operation_of (kind.Op alu.Slt _ _ _) = Slt
+operation_of (kind.Op alu.Sltu _ _ _) = Sltu
+operation_of (kind.Op alu.Xor _ _ _) = Xor
+operation_of (kind.Op alu.Srl _ _ _) = Srl
+operation_of (kind.Op alu.Or _ _ _) = Or
+operation_of (kind.Op alu.And _ _ _) = And
+operation_of (kind.Op alu.Sub _ _ _) = Sub
+operation_of (kind.Op alu.Sra _ _ _) = Sra
+operation_of (kind.Op alu.Mul _ _ _) = Mul
+operation_of (kind.Op alu.Mulh _ _ _) = Mulh
+operation_of (kind.Op alu.Mulhsu _ _ _) = Mulhsu
+operation_of (kind.Op alu.Mulhu _ _ _) = Mulhu
+operation_of (kind.Op alu.Div _ _ _) = Div
+operation_of (kind.Op alu.Divu _ _ _) = Divu
+operation_of (kind.Op alu.Rem _ _ _) = Rem
+operation_of (kind.Op alu.Remu _ _ _) = Remu
 operation_of (kind.Fence _ _ _) = Fence
 operation_of (kind.FenceI _ _ _) = FenceI
-operation_of (kind.Csr op _ _ _) = csr_operation op
-operation_of (kind.CsrImm op _ _ _) = csr_imm_operation op
+operation_of (kind.Csr csr.Write _ _ _) = Csrrw
+operation_of (kind.Csr csr.Set _ _ _) = Csrrs
+operation_of (kind.Csr csr.Clear _ _ _) = Csrrc
+operation_of (kind.CsrImm csr.Write _ _ _) = Csrrwi
+operation_of (kind.CsrImm csr.Set _ _ _) = Csrrsi
+operation_of (kind.CsrImm csr.Clear _ _ _) = Csrrci
 operation_of kind.Ecall = Ecall
 operation_of kind.Ebreak = Ebreak
 operation_of kind.Mret = Mret
@@ -121,23 +95,26 @@ operation_of kind.Wfi = Wfi
 
 -- ---- the fields, the word and the ranges of a kind
 
--- those that it doesn't have are 0
+-- the fields of a kind with this operation; those that it doesn't have are 0
+abbrev laid : Operation → Kind → Fields
+laid x (kind.Lui rd imm) = with_fields x rd 0 0 (pos imm)
+laid x (kind.Auipc rd imm) = with_fields x rd 0 0 (pos imm)
+laid x (kind.Jal rd offset) = with_fields x rd 0 0 offset
+laid x (kind.Jalr rd base offset) = with_fields x rd base 0 offset
+laid x (kind.Branch _ rs1 rs2 offset) = with_fields x 0 rs1 rs2 offset
+laid x (kind.Load _ rd base offset) = with_fields x rd base 0 offset
+laid x (kind.Store _ source base offset) = with_fields x 0 base source offset
+laid x (kind.OpImm _ rd rs1 imm) = with_fields x rd rs1 0 imm
+laid x (kind.Shift _ rd rs1 amount) = with_fields x rd rs1 0 (pos amount)
+laid x (kind.Op _ rd rs1 rs2) = with_fields x rd rs1 rs2 (pos 0)
+laid x (kind.Fence rd rs1 imm) = with_fields x rd rs1 0 (pos imm)
+laid x (kind.FenceI rd rs1 imm) = with_fields x rd rs1 0 (pos imm)
+laid x (kind.Csr _ rd rs1 n) = with_fields x rd rs1 0 (pos n)
+laid x (kind.CsrImm _ rd imm n) = with_fields x rd imm 0 (pos n)
+laid x _ = with_fields x 0 0 0 (pos 0)
+
 unfoldable pub fields_of : Kind → Fields
-fields_of (kind.Lui rd imm) = with_fields Lui rd 0 0 (pos imm)
-fields_of (kind.Auipc rd imm) = with_fields Auipc rd 0 0 (pos imm)
-fields_of (kind.Jal rd offset) = with_fields Jal rd 0 0 offset
-fields_of (kind.Jalr rd base offset) = with_fields Jalr rd base 0 offset
-fields_of (kind.Branch op rs1 rs2 offset) = with_fields (branch_operation op) 0 rs1 rs2 offset
-fields_of (kind.Load op rd base offset) = with_fields (load_operation op) rd base 0 offset
-fields_of (kind.Store op source base offset) = with_fields (store_operation op) 0 base source offset
-fields_of (kind.OpImm op rd rs1 imm) = with_fields (imm_operation op) rd rs1 0 imm
-fields_of (kind.Shift op rd rs1 amount) = with_fields (shift_operation op) rd rs1 0 (pos amount)
-fields_of (kind.Op op rd rs1 rs2) = with_fields (alu_operation op) rd rs1 rs2 (pos 0)
-fields_of (kind.Fence rd rs1 imm) = with_fields Fence rd rs1 0 (pos imm)
-fields_of (kind.FenceI rd rs1 imm) = with_fields FenceI rd rs1 0 (pos imm)
-fields_of (kind.Csr op rd rs1 n) = with_fields (csr_operation op) rd rs1 0 (pos n)
-fields_of (kind.CsrImm op rd imm n) = with_fields (csr_imm_operation op) rd imm 0 (pos n)
-fields_of k = with_fields (operation_of k) 0 0 0 (pos 0)
+fields_of k = laid (operation_of k) k
 
 unfoldable pub word : Kind → ℕ
 word k = encoded (fields_of k)
