@@ -1,10 +1,12 @@
--- The decision by spans is the one by regions.
+-- The decision by spans is the one by number.
 use Rattle.std.proofs.Common.{rules}
-use Rattle.std.proofs.Common.{◌≡◌, ℕ, zero, suc, ◌+◌, ◌-◌, ◌*◌, ◌%◌, ◌^◌, ◌<◌, ◌≤◌, ◌⊎◌, inl, inr, Bool, true, false, cond, List, [], ◌∷◌, length, drop, get_or, Option, Some, None, refl, ap, sym, subst, ◌∙◌, arith, add-one, add-zero, nat_lt, nat_le, ◌/◌, ◌==◌, eqb-true, mul_assoc, div-add-mod', add-sub_of_le}
+use Rattle.std.proofs.Common.{◌≡◌, ℕ, zero, suc, ◌+◌, ◌-◌, ◌*◌, ◌%◌, ◌^◌, ◌<◌, ◌≤◌, ◌⊎◌, inl, inr, Bool, true, false, cond, List, [], ◌∷◌, length, drop, get_or, Option, Some, None, refl, ap, sym, ◌∙◌, arith, add-one, add-zero, nat_lt, nat_le, ◌/◌, ◌==◌, eqb-true, mul_assoc, div-add-mod', add-sub_of_le}
 use Rattle.std.specs.Prelude.{if◌then◌else◌, ◌&&◌, ◌||◌, find, unwrap_or}
 use Rattle.std.specs.List.{list_any, list_all, range_with_len}
 use Rattle.std.specs.Option.{option_map_or}
+use Rattle.std.proofs.lemmas.Bool.{and_parts, or_parts}
 use Rattle.std.proofs.lemmas.Bool.Decides.{nat_tests}
+use Rattle.std.proofs.lemmas.Grind.{common_steps}
 use Rattle.std.proofs.lemmas.Nat.{pow_pos, pow-add, mod_below, div-mul-add}
 use Rattle.rv_isa.specs.Width.{bytes_of}
 use Rattle.rv_isa.specs.declared.op.Width.{Width}
@@ -20,7 +22,6 @@ use Rattle.rv_pmp.specs.declared.span.Span.{Span}
 use Rattle.rv_pmp.specs.Mode.{is_machine}
 use Rattle.rv_pmp.specs.Entry.{matched, permits, trailing_ones}
 use Rattle.rv_pmp.specs.Support.ActiveEntries.{is_matching, entry_answer, decision, some_on, some_locked, active_of, actives_from}
-use Rattle.rv_pmp.specs.Support.Guards.{Guard, region, guards_from, answer, answer_of}
 use Rattle.rv_pmp.specs.Pmp.{PmpState, decided, decider, entry_at, grants, lower_of, matches, off_entry}
 use Rattle.rv_pmp.specs.Support.Span.{is_between, span, span_of, holds, meets, no_bytes}
 
@@ -51,8 +52,7 @@ decision-drop : (mode : Mode) (access : Access) (first last : ℕ) (xs : List Ac
 unfolding decision step
 decision-drop mode access first last [] i a h = absurd (omega arith)
 decision-drop mode access first last (x ∷ xs) zero a h = refl
-decision-drop mode access first last (x ∷ xs) (suc i) a h =
-    decision-drop mode access first last xs i a (omega arith)
+decision-drop mode access first last (x ∷ xs) (suc i) a h = grind (arith, decision-drop mode access first last xs i a)
 
 pub decision-entry_answer : (mode : Mode) (access : Access) (first last : ℕ) (xs : List ActiveEntry) (i : ℕ)
     (a : ActiveEntry) (granted : Bool)
@@ -77,8 +77,7 @@ unfolding decision
 decision-end mode access first last [] zero h = refl
 decision-end mode access first last [] (suc i) h = refl
 decision-end mode access first last (x ∷ xs) zero h = absurd (omega arith)
-decision-end mode access first last (x ∷ xs) (suc i) h =
-    decision-end mode access first last xs i (omega arith)
+decision-end mode access first last (x ∷ xs) (suc i) h = grind (arith, decision-end mode access first last xs i)
 
 -- ---- a region as a span
 
@@ -125,22 +124,7 @@ top_between false lower address byte e = grind (arith, nat_tests)
 
 -- the bytes of block q, where blocks have d bytes
 block_between : (byte d q : ℕ) → 0 < d → (byte / d == q) ≡ is_between (q * d) (q * d + d) byte
-block_between byte d q some = go (byte / d == q) refl where
-  go : (b : Bool) → (byte / d == q) ≡ b → b ≡ is_between (q * d) (q * d + d) byte
-  go true same =
-      let here : byte / d ≡ q = eqb-true (byte / d) q same in
-      let place : q * d + byte % d ≡ byte = ap (λ n. n * d + byte % d) (sym here) ∙ div-add-mod' byte d in
-      let rest = mod_below byte d some in
-      grind (arith, nat_tests)
-  go false other = by (is_between (q * d) (q * d + d) byte) refl where
-    by : (c : Bool) → is_between (q * d) (q * d + d) byte ≡ c → false ≡ c
-    by false out = refl
-    by true within =
-        let from : q * d ≤ byte = grind (arith, nat_tests) in
-        let below : byte - q * d < d = grind (arith, nat_tests) in
-        let here : byte / d ≡ q
-        = ap (λ n. n / d) (sym (add-sub_of_le from)) ∙ div-mul-add q d (byte - q * d) below in
-        absurd (grind (arith, nat_tests))
+block_between byte d q some = grind (arith, nat_tests, common_steps, eqb-true, div-add-mod', mod_below, add-sub_of_le, div-mul-add)
 
 matched-between : (m : Matching) (lower address byte : ℕ)
     → matched m lower address byte ≡ is_between (span m lower address).first (span m lower address).«end» byte
@@ -149,10 +133,10 @@ matched-between Tor lower address byte = top_between (nat_lt lower address) lowe
 matched-between Na4 lower address byte = grind (arith, nat_tests)
 matched-between Napot lower address byte = search (rules, block_between, pow_pos)
 
-region-between : (lower : ℕ) (e : Entry) (byte : ℕ)
-    → region lower e byte ≡ is_between (span_of lower e).first (span_of lower e).«end» byte
-unfolding region span_of
-region-between lower e byte = matched-between e.matching lower e.address byte
+entry-between : (lower : ℕ) (e : Entry) (byte : ℕ)
+    → matched e.matching lower e.address byte ≡ is_between (span_of lower e).first (span_of lower e).«end» byte
+unfolding span_of
+entry-between lower e byte = matched-between e.matching lower e.address byte
 
 -- ---- the bytes that an entry matches, and the first entry that matches a byte
 
@@ -171,10 +155,7 @@ found_first : (p : ℕ → Bool) (a n i : ℕ) → i < n → ((k : ℕ) → a �
 found_first p a zero i below none is = absurd (omega (arith, below))
 found_first p a (suc n) zero below none is = search rules
 found_first p a (suc n) (suc i) below none is =
-    let here : p a ≡ false = none a (omega arith) (omega arith) in
-    let on : a + 1 + i ≡ a + suc i = omega arith in
-    rw here (found_first p (a + 1) n i (omega (arith, below))
-    (λ k h g. none k (omega (arith, h)) (omega (arith, g))) (ap p on ∙ is) ∙ ap Some on)
+    grind (arith, nat_tests, common_steps, found_first p (a + 1) n i)
 
 pub none_up_to : (pmp : PmpState) (addr n : ℕ) → ((k : ℕ) → k < n → matches pmp k addr ≡ false)
     → matches pmp n addr ≡ false → (k : ℕ) → k < n + 1 → matches pmp k addr ≡ false
@@ -193,14 +174,6 @@ no_match pmp addr n all none = search rules
 
 -- ---- tests of the bytes of an access
 
-list_any-same : (p q : ℕ → Bool) → ((x : ℕ) → p x ≡ q x) → (xs : List ℕ) → list_any p xs ≡ list_any q xs
-list_any-same p q same [] = refl
-list_any-same p q same (x ∷ xs) = cc (same x, list_any-same p q same xs)
-
-list_all-same : (p q : ℕ → Bool) → ((x : ℕ) → p x ≡ q x) → (xs : List ℕ) → list_all p xs ≡ list_all q xs
-list_all-same p q same [] = refl
-list_all-same p q same (x ∷ xs) = cc (same x, list_all-same p q same xs)
-
 any_between : (f l a n : ℕ)
     → list_any (is_between f l) (range_with_len a (suc n)) ≡ (nat_lt f l && (nat_lt f (a + suc n) && nat_lt a l))
 any_between f l a zero = grind (arith, nat_tests)
@@ -215,15 +188,22 @@ any_meets : (s : Span) (a n : ℕ) → IsWhole s
     → list_any (is_between s.first s.«end») (range_with_len a (suc n)) ≡ meets s a (a + suc n)
 any_meets s a n w = search (rules, any_between, nat_tests)
 
-list_any-region : (lower : ℕ) (e : Entry) (a n : ℕ)
-    → list_any (region lower e) (range_with_len a (suc n)) ≡ meets (span_of lower e) a (a + suc n)
-list_any-region lower e a n = search (rules, list_any-same, region-between, any_meets, whole)
+-- whether an entry matches any of the bytes of an access, and all of them
+any_matched : (lower : ℕ) (e : Entry) (a n : ℕ)
+    → list_any (matched e.matching lower e.address) (range_with_len a (suc n))
+    ≡ meets (span_of lower e) a (a + suc n)
+any_matched lower e a n =
+    ap (λ (p : ℕ → Bool). list_any p (range_with_len a (suc n))) (λ i byte. entry-between lower e byte i)
+    ∙ any_meets (span_of lower e) a n (whole lower e)
 
-list_all-region : (lower : ℕ) (e : Entry) (a n : ℕ)
-    → list_all (region lower e) (range_with_len a (suc n)) ≡ holds (span_of lower e) a (a + suc n)
-list_all-region lower e a n = search (rules, list_all-same, region-between, all_between)
+all_matched : (lower : ℕ) (e : Entry) (a n : ℕ)
+    → list_all (matched e.matching lower e.address) (range_with_len a (suc n))
+    ≡ holds (span_of lower e) a (a + suc n)
+all_matched lower e a n =
+    ap (λ (p : ℕ → Bool). list_all p (range_with_len a (suc n))) (λ i byte. entry-between lower e byte i)
+    ∙ all_between (span_of lower e).first (span_of lower e).«end» a n
 
--- ---- the decision by spans is the one by regions
+-- ---- the decision by spans is the one by number
 
 -- the decision of the entries from one on: the answer of that one, whether it matches addresses or not, or of
 -- the rest
@@ -234,41 +214,79 @@ decision-more : (mode : Mode) (access : Access) (first last lower : ℕ) (e : En
 unfolding decision actives_from step span_of
 decision-more mode access first last lower e es = search rules
 
-pub decision-spans : (mode : Mode) (access : Access) (a n lower : ℕ) (es : List Entry)
+-- what is said of the numbers after one is what is said of those before them
+found_after : (p q : ℕ → Bool) (f g : ℕ → Bool) (d : Bool) → ((n : ℕ) → p (suc n) ≡ q n)
+    → ((n : ℕ) → f (suc n) ≡ g n) → (a next count : ℕ) → next ≡ suc a
+    → option_map_or f (find p (range_with_len next count)) d
+    ≡ option_map_or g (find q (range_with_len a count)) d
+found_after p q f g d tests says a next zero is = refl
+found_after p q f g d tests says a next (suc count) is =
+    grind (arith, nat_tests, common_steps, found_after p q f g d tests says (a + 1) (next + 1) count)
+
+-- the address register before an entry of a list, with that before the first, and whether the entry matches a byte
+abbrev lower_from : ℕ → List Entry → ℕ → ℕ
+lower_from lower es zero = lower
+lower_from lower es (suc n) = (get_or es n off_entry).address
+
+abbrev matches_from : ℕ → List Entry → ℕ → ℕ → Bool
+matches_from lower es n byte =
+    matched (get_or es n off_entry).matching (lower_from lower es n) (get_or es n off_entry).address byte
+
+-- the decision of the first of the entries with these numbers that matches any of the bytes
+abbrev decided_from : Mode → Access → List ℕ → ℕ → List Entry → List ℕ → Bool
+decided_from mode access bytes lower es ns =
+    option_map_or (λ n. list_all (matches_from lower es n) bytes && permits (get_or es n off_entry) mode access)
+    (find (λ n. list_any (matches_from lower es n) bytes) ns) (is_machine mode)
+
+matches-after : (lower : ℕ) (e : Entry) (es : List Entry) (n : ℕ)
+    → matches_from lower (e ∷ es) (suc n) ≡ matches_from e.address es n
+matches-after lower e es zero = refl
+matches-after lower e es (suc n) = refl
+
+decided-after : (mode : Mode) (access : Access) (bytes : List ℕ) (lower : ℕ) (e : Entry) (es : List Entry)
+    → decided_from mode access bytes lower (e ∷ es) (range_with_len 1 (length es))
+    ≡ decided_from mode access bytes e.address es (range_with_len 0 (length es))
+decided-after mode access bytes lower e es =
+    found_after _ _ _ _ (is_machine mode)
+    (λ n. ap (λ (m : ℕ → Bool). list_any m bytes) (matches-after lower e es n))
+    (λ n. ap (λ (m : ℕ → Bool). list_all m bytes && permits (get_or es n off_entry) mode access)
+    (matches-after lower e es n)) 0 1 (length es) refl
+
+decision-spans : (mode : Mode) (access : Access) (a n lower : ℕ) (es : List Entry)
     → unwrap_or (decision mode access a (a + suc n) (actives_from lower es)) (is_machine mode)
-    ≡ answer mode access (range_with_len a (suc n))
-    (find (λ g. list_any g.region (range_with_len a (suc n))) (guards_from lower es))
-unfolding decision actives_from guards_from step
+    ≡ decided_from mode access (range_with_len a (suc n)) lower es (range_with_len 0 (length es))
+unfolding decision actives_from step
 decision-spans mode access a n lower [] = refl
 decision-spans mode access a n lower (e ∷ es) =
-    rw (decision-more mode access a (a + suc n) lower e es, list_any-region lower e a n)
-    (go (meets (span_of lower e) a (a + suc n)) (decision-spans mode access a n e.address es))
+    ap (λ (o : Option Bool). unwrap_or o (is_machine mode)) (decision-more mode access a (a + suc n) lower e es)
+    ∙ go (meets (span_of lower e) a (a + suc n))
+    (list_any (matched e.matching lower e.address) (range_with_len a (suc n))) (sym (any_matched lower e a n))
+    (decision-spans mode access a n e.address es
+    ∙ sym (decided-after mode access (range_with_len a (suc n)) lower e es))
   where
     rest : Option Bool
     rest = decision mode access a (a + suc n) (actives_from e.address es)
 
-    go : (b : Bool)
-        → unwrap_or rest (is_machine mode)
-        ≡ answer mode access (range_with_len a (suc n))
-        (find (λ g. list_any g.region (range_with_len a (suc n))) (guards_from e.address es))
-        → unwrap_or
-        (if b then Some (holds (span_of lower e) a (a + suc n) && permits e mode access) else rest)
+    says : ℕ → Bool
+    says n' =
+        list_all (matches_from lower (e ∷ es) n') (range_with_len a (suc n))
+        && permits (get_or (e ∷ es) n' off_entry) mode access
+
+    after : Option ℕ
+    after =
+        find (λ n'. list_any (matches_from lower (e ∷ es) n') (range_with_len a (suc n)))
+        (range_with_len 1 (length es))
+
+    go : (b c : Bool) → b ≡ c → unwrap_or rest (is_machine mode) ≡ option_map_or says after (is_machine mode)
+        → unwrap_or (if b then Some (holds (span_of lower e) a (a + suc n) && permits e mode access) else rest)
         (is_machine mode)
-        ≡ answer mode access (range_with_len a (suc n))
-        (cond b (Some (record { entry = e; region = region lower e }))
-        (find (λ g. list_any g.region (range_with_len a (suc n))) (guards_from e.address es)))
-    go true h = ap (λ b. b && permits e mode access) (sym (list_all-region lower e a n))
-    go false h = h
+        ≡ option_map_or says (cond c (Some 0) after) (is_machine mode)
+    go true true same h = ap (λ b. b && permits e mode access) (sym (all_matched lower e a n))
+    go true false same h = absurd cc
+    go false true same h = absurd cc
+    go false false same h = h
 
 -- ---- answers without a search
-
-neither : (a b : Bool) → (a || b) ≡ false → (a ≡ false) × (b ≡ false)
-neither true b h = cc
-neither false b h = (refl, h)
-
-both : (a b : Bool) → (a && b) ≡ true → (a ≡ true) × (b ≡ true)
-both true b h = (refl, h)
-both false b h = cc
 
 -- if no entry matches addresses, none decides
 pub decision-off : (mode : Mode) (access : Access) (first last lower : ℕ) (es : List Entry)
@@ -276,7 +294,7 @@ pub decision-off : (mode : Mode) (access : Access) (first last lower : ℕ) (es 
 unfolding decision actives_from
 decision-off mode access first last lower [] off = refl
 decision-off mode access first last lower (e ∷ es) off =
-    let parts = neither (is_matching e.matching) (some_on es) off in
+    let parts = or_parts (is_matching e.matching) (some_on es) off in
     rw parts.0 (decision-off mode access first last e.address es parts.1)
 
 -- a span that has any byte of a part of a word has all of it
@@ -291,7 +309,7 @@ pub decision-word : (access : Access) (first last lower : ℕ) (es : List Entry)
 unfolding decision actives_from step
 decision-word access first last lower [] free some within = refl
 decision-word access first last lower (e ∷ es) free some within =
-    let parts = neither e.locked (some_locked es) free in
+    let parts = or_parts e.locked (some_locked es) free in
     rw (decision-more Machine access first last lower e es)
     (go (meets (span_of lower e) first last) refl parts.0
     (decision-word access first last e.address es parts.1 some within))
@@ -308,86 +326,11 @@ decision-word access first last lower (e ∷ es) free some within =
 
 -- ---- the answer of the registers
 
--- ---- the decision by number is the one by the list of the entries with their regions
-
--- what is said of the numbers after one is what is said of those before them
-found_after : (p q : ℕ → Bool) (f g : ℕ → Bool) (d : Bool) → ((n : ℕ) → p (suc n) ≡ q n)
-    → ((n : ℕ) → f (suc n) ≡ g n) → (a next count : ℕ) → next ≡ suc a
-    → option_map_or f (find p (range_with_len next count)) d
-    ≡ option_map_or g (find q (range_with_len a count)) d
-found_after p q f g d tests says a next zero is = refl
-found_after p q f g d tests says a next (suc count) is =
-    go (p next) (q a) (ap p is ∙ tests a)
-    (found_after p q f g d tests says (a + 1) (next + 1) count (omega arith))
-  where
-    go : (b c : Bool) → b ≡ c
-        → option_map_or f (find p (range_with_len (next + 1) count)) d
-        ≡ option_map_or g (find q (range_with_len (a + 1) count)) d
-        → option_map_or f (cond b (Some next) (find p (range_with_len (next + 1) count))) d
-        ≡ option_map_or g (cond c (Some a) (find q (range_with_len (a + 1) count))) d
-    go true true same rest = ap f is ∙ says a
-    go true false same rest = absurd cc
-    go false true same rest = absurd cc
-    go false false same rest = rest
-
--- the entries with another address register before the first
-lower_from : ℕ → List Entry → ℕ → ℕ
-lower_from lower es zero = lower
-lower_from lower es (suc n) = (get_or es n off_entry).address
-
-matches_from : ℕ → List Entry → ℕ → ℕ → Bool
-matches_from lower es n byte =
-    matched (get_or es n off_entry).matching (lower_from lower es n) (get_or es n off_entry).address byte
-
-grants_by : Mode → Access → List ℕ → ℕ → List Entry → ℕ → Bool
-grants_by mode access bytes lower es n =
-    list_all (matches_from lower es n) bytes && permits (get_or es n off_entry) mode access
-
-matches-after : (lower : ℕ) (e : Entry) (es : List Entry) (n byte : ℕ)
-    → matches_from lower (e ∷ es) (suc n) byte ≡ matches_from e.address es n byte
-unfolding matches_from lower_from
-matches-after lower e es zero byte = refl
-matches-after lower e es (suc n) byte = refl
-
-by_number : (mode : Mode) (access : Access) (bytes : List ℕ) (lower : ℕ) (es : List Entry)
-    → option_map_or (grants_by mode access bytes lower es)
-    (find (λ n. list_any (matches_from lower es n) bytes) (range_with_len 0 (length es))) (is_machine mode)
-    ≡ answer mode access bytes (find (λ g. list_any g.region bytes) (guards_from lower es))
-unfolding guards_from grants_by matches_from lower_from region
-by_number mode access bytes lower [] = refl
-by_number mode access bytes lower (e ∷ es) =
-    go (list_any (λ byte. matched e.matching lower e.address byte) bytes)
-    (found_after _ _ _ _ (is_machine mode) (λ n. list_any-same _ _ (matches-after lower e es n) bytes)
-    (λ n. ap (λ b. b && permits (get_or es n off_entry) mode access)
-    (list_all-same _ _ (matches-after lower e es n) bytes)) 0 1 (length es) refl
-    ∙ by_number mode access bytes e.address es)
-  where
-    go : (b : Bool)
-        → option_map_or (grants_by mode access bytes lower (e ∷ es))
-        (find (λ n. list_any (matches_from lower (e ∷ es) n) bytes) (range_with_len 1 (length es)))
-        (is_machine mode)
-        ≡ answer mode access bytes (find (λ g. list_any g.region bytes) (guards_from e.address es))
-        → option_map_or (grants_by mode access bytes lower (e ∷ es))
-        (cond b (Some 0) (find (λ n. list_any (matches_from lower (e ∷ es) n) bytes)
-        (range_with_len 1 (length es)))) (is_machine mode)
-        ≡ answer mode access bytes (cond b (Some (record { entry = e; region = region lower e }))
-        (find (λ g. list_any g.region bytes) (guards_from e.address es)))
-    go true rest = refl
-    go false rest = rest
-
-found_same : (p q : ℕ → Bool) (f g : ℕ → Bool) (d : Bool) → ((n : ℕ) → p n ≡ q n)
-    → ((n : ℕ) → f n ≡ g n) → (xs : List ℕ)
-    → option_map_or f (find p xs) d ≡ option_map_or g (find q xs) d
-found_same p q f g d tests says [] = refl
-found_same p q f g d tests says (x ∷ xs) = search rules
-
 same_lower : (pmp : PmpState) (n : ℕ) → lower_of pmp n ≡ lower_from 0 pmp.entries n
-unfolding lower_from
 same_lower pmp zero = refl
 same_lower pmp (suc n) = refl
 
 same_matches : (pmp : PmpState) (n byte : ℕ) → matches pmp n byte ≡ matches_from 0 pmp.entries n byte
-unfolding matches_from
 same_matches pmp n byte = search (rules, same_lower)
 
 -- the decision of an entry, if any
@@ -398,23 +341,23 @@ decision_of : (pmp : PmpState) (mode : Mode) (access : Access) (bytes : List ℕ
 decision_of pmp mode access bytes None = refl
 decision_of pmp mode access bytes (Some n) = refl
 
-pub by_list : (pmp : PmpState) (mode : Mode) (access : Access) (first count : ℕ)
-    → grants pmp mode access first count ≡ answer_of mode access first count 0 pmp.entries
-unfolding grants grants_by
-by_list pmp mode access first count =
-    let bytes = range_with_len first count in
-    let same : (n byte : ℕ) → matches pmp n byte ≡ matches_from 0 pmp.entries n byte = same_matches pmp in
+by_entries : (pmp : PmpState) (mode : Mode) (access : Access) (bytes : List ℕ)
+    → decided pmp mode access bytes (decider pmp bytes)
+    ≡ decided_from mode access bytes 0 pmp.entries (range_with_len 0 (length pmp.entries))
+by_entries pmp mode access bytes =
     decision_of pmp mode access bytes (decider pmp bytes)
-    ∙ found_same _ _ _ _ (is_machine mode) (λ n. list_any-same _ _ (same n) bytes)
-    (λ n. ap (λ b. b && permits (entry_at pmp n) mode access) (list_all-same _ _ (same n) bytes))
-    (range_with_len 0 (length pmp.entries))
-    ∙ by_number mode access bytes 0 pmp.entries
+    ∙ ap (λ (m : ℕ → ℕ → Bool). option_map_or (λ n. list_all (m n) bytes && permits (entry_at pmp n) mode access)
+    (find (λ n. list_any (m n) bytes) (range_with_len 0 (length pmp.entries))) (is_machine mode))
+    (λ i n byte. same_matches pmp n byte i)
 
 pub decision-grants : (pmp : PmpState) (mode : Mode) (access : Access) (first count : ℕ) → 0 < count
     → unwrap_or (decision mode access first (first + count) (actives_from 0 pmp.entries)) (is_machine mode)
     ≡ grants pmp mode access first count
+unfolding grants
 decision-grants pmp mode access first zero h = absurd (omega arith)
-decision-grants pmp mode access first (suc n) h = search (rules, decision-spans, by_list)
+decision-grants pmp mode access first (suc n) h =
+    decision-spans mode access first n 0 pmp.entries
+    ∙ sym (by_entries pmp mode access (range_with_len first (suc n)))
 
 pub grants-off : (pmp : PmpState) (mode : Mode) (access : Access) (first count : ℕ) → 0 < count
     → some_on pmp.entries ≡ false → grants pmp mode access first count ≡ is_machine mode
@@ -441,48 +384,49 @@ grants-aligned pmp access first Four free aligned = search (rules, grants-word)
 any_byte : (p : ℕ → Bool) (first count i : ℕ) → i < count → list_any p (range_with_len first count) ≡ false
     → p (first + i) ≡ false
 any_byte p first zero i h none = absurd (omega arith)
-any_byte p first (suc count) zero h none = rw add-zero ((neither (p first) _ none).0)
+any_byte p first (suc count) zero h none = rw add-zero ((or_parts (p first) _ none).0)
 any_byte p first (suc count) (suc i) h none =
-    subst (λ a. p a ≡ false) (omega arith)
-    (any_byte p (first + 1) count i (omega arith) ((neither (p first) _ none).1))
+    grind (arith, nat_tests, common_steps, or_parts, any_byte p (first + 1) count i)
 
 all_bytes : (p : ℕ → Bool) (first count i : ℕ) → i < count → list_all p (range_with_len first count) ≡ true
     → p (first + i) ≡ true
 all_bytes p first zero i h all = absurd (omega arith)
-all_bytes p first (suc count) zero h all = rw add-zero ((both (p first) _ all).0)
+all_bytes p first (suc count) zero h all = rw add-zero ((and_parts (p first) _ all).0)
 all_bytes p first (suc count) (suc i) h all =
-    subst (λ a. p a ≡ true) (omega arith)
-    (all_bytes p (first + 1) count i (omega arith) ((both (p first) _ all).1))
+    grind (arith, nat_tests, common_steps, and_parts, all_bytes p (first + 1) count i)
 
-answer_each : (mode : Mode) (access : Access) (first count i lower : ℕ) (es : List Entry) → i < count
-    → answer_of mode access first count lower es ≡ true → answer_of mode access (first + i) 1 lower es ≡ true
-unfolding guards_from
-answer_each mode access first count i lower [] h granted = granted
-answer_each mode access first count i lower (e ∷ es) h granted =
-    go (list_any (region lower e) (range_with_len first count)) refl
-    (answer_each mode access first count i e.address es h) granted
+decided_each : (pmp : PmpState) (mode : Mode) (access : Access) (first count i : ℕ) → i < count → (ns : List ℕ)
+    → decided pmp mode access (range_with_len first count)
+    (find (λ n. list_any (matches pmp n) (range_with_len first count)) ns) ≡ true
+    → decided pmp mode access (range_with_len (first + i) 1)
+    (find (λ n. list_any (matches pmp n) (range_with_len (first + i) 1)) ns) ≡ true
+decided_each pmp mode access first count i h [] granted = granted
+decided_each pmp mode access first count i h (n ∷ ns) granted =
+    go (list_any (matches pmp n) bytes) refl (decided_each pmp mode access first count i h ns) granted
   where
-    rest : ℕ → ℕ → Option Guard
-    rest a n = find (λ g. list_any g.region (range_with_len a n)) (guards_from e.address es)
+    bytes : List ℕ
+    bytes = range_with_len first count
 
-    go : (b : Bool) → list_any (region lower e) (range_with_len first count) ≡ b
-        → (answer mode access (range_with_len first count) (rest first count) ≡ true
-        → answer mode access (range_with_len (first + i) 1) (rest (first + i) 1) ≡ true)
-        → answer mode access (range_with_len first count)
-        (cond b (Some (record { entry = e; region = region lower e })) (rest first count)) ≡ true
-        → answer mode access (range_with_len (first + i) 1)
-        (cond (region lower e (first + i) || false) (Some (record { entry = e; region = region lower e }))
-        (rest (first + i) 1)) ≡ true
-    go true m tail r =
-        let parts =
-        both (list_all (region lower e) (range_with_len first count)) (permits e mode access) r in
-        let held = all_bytes (region lower e) first count i h parts.0 in
+    one : List ℕ
+    one = range_with_len (first + i) 1
+
+    go : (b : Bool) → list_any (matches pmp n) bytes ≡ b
+        → (decided pmp mode access bytes (find (λ n. list_any (matches pmp n) bytes) ns) ≡ true
+        → decided pmp mode access one (find (λ n. list_any (matches pmp n) one) ns) ≡ true)
+        → decided pmp mode access bytes (cond b (Some n) (find (λ n. list_any (matches pmp n) bytes) ns)) ≡ true
+        → decided pmp mode access one
+        (cond (matches pmp n (first + i) || false) (Some n) (find (λ n. list_any (matches pmp n) one) ns)) ≡ true
+    go true m later r =
+        let parts = and_parts (list_all (matches pmp n) bytes) (permits (entry_at pmp n) mode access) r in
+        let held = all_bytes (matches pmp n) first count i h parts.0 in
         rw (held, held) parts.1
-    go false m tail r = rw (any_byte (region lower e) first count i h m) (tail r)
+    go false m later r = rw (any_byte (matches pmp n) first count i h m) (later r)
 
 pub grants_each : (pmp : PmpState) (mode : Mode) (access : Access) (first count i : ℕ) → i < count
     → grants pmp mode access first count ≡ true → grants pmp mode access (first + i) 1 ≡ true
-grants_each pmp mode access first count i h granted = search (rules, by_list, answer_each)
+unfolding grants
+grants_each pmp mode access first count i h granted =
+    decided_each pmp mode access first count i h (range_with_len 0 (length pmp.entries)) granted
 
 -- the answer of `allowed`: that of the entry that decides, or that of the mode
 pub grants-some : (pmp : PmpState) (mode : Mode) (access : Access) (first count : ℕ) (granted : Bool)

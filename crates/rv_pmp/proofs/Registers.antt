@@ -5,7 +5,9 @@ use Rattle.std.specs.Prelude.{slice_get, slice_set, if◌then◌else◌, ◌&&�
 use Rattle.std.specs.List.{range_with_len}
 use Rattle.std.specs.Option.{option_map, option_map_or}
 use Rattle.std.proofs.Math.ListN.{get_or-eq_default}
-use Rattle.std.proofs.Math.Seq.{ext_get_or, get_or-set_same, get_or-set_other}
+use Rattle.std.proofs.Math.Bool.{and-false, and-true}
+use Rattle.std.proofs.Math.Seq.{get_or-set_same, get_or-set_other}
+use Rattle.std.proofs.lemmas.List.FromFn.{fill_by_all, get_or-map-range_with_len, length-map-range_with_len}
 use Rattle.std.proofs.lemmas.Bool.Decides.{nat_tests}
 use Rattle.rv_pmp.specs.declared.entry.Entry.{Entry}
 use Rattle.rv_pmp.specs.declared.register.PmpRegister.{PmpRegister}
@@ -88,12 +90,17 @@ config-at es p byte i within =
     changed (λ e. configured e byte) es (with_config es p byte) p i within
     (λ inside. with_config-at es p byte off_entry inside) (λ outside. with_config-past es p byte outside)
 
--- ---- what is written of an entry, by the tests that `written` asks
-
-abbrev choose : PmpState → ℕ → ℕ → Bool → Bool → Bool → Entry
-choose pmp word i b c t =
-    if b then configured (entry_at pmp i) (byte_of word (i % 4))
-    else (if c && not t then addressed (entry_at pmp i) word else entry_at pmp i)
+address-at : (es : List Entry) (p word i : ℕ) → i < length es
+    → at (with_address es p word) i
+    ≡ (if (i == p) && not (starts_locked es (p + 1)) then addressed (at es i) word else at es i)
+address-at es p word i within = go (starts_locked es (p + 1)) refl where
+  go : (t : Bool) → starts_locked es (p + 1) ≡ t
+      → at (with_address es p word) i ≡ (if (i == p) && not t then addressed (at es i) word else at es i)
+  go true locked = rw (with_address-locked es p word locked, and-false (i == p)) refl
+  go false free =
+      changed (λ e. addressed e word) es (with_address es p word) p i within
+      (λ inside. with_address-at es p word off_entry inside free) (λ past. with_address-past es p word past)
+      ∙ ap (λ b. if b then addressed (at es i) word else at es i) (sym (and-true (i == p)))
 
 -- ---- a write to a configuration register
 
@@ -149,63 +156,33 @@ module _ (pmp : PmpState) (addr word i : ℕ) where
   unfolding starts_locked is_locked_tor
   top = by_number (λ e. e.locked && (matching_code e.matching == 1)) pmp.entries (i + 1)
 
+  no_config : is_address addr ≡ true → i < 16 → (addr == 0x3A0 + i / 4) ≡ false
+  no_config is small = grind (arith, nat_tests)
+
+  same_test : is_address addr ≡ true → (c : Bool) → (addr == 0x3B0 + i) ≡ c
+      → ((i == addr - 0x3B0) && not (starts_locked pmp.entries (addr - 0x3B0 + 1)))
+      ≡ (c && not (is_locked_tor pmp (i + 1)))
+  same_test is true here =
+      let place : addr - 0x3B0 ≡ i = grind (arith, nat_tests) in
+      let same : (i == addr - 0x3B0) ≡ true = grind (arith, nat_tests) in
+      ap (λ b. b && not (starts_locked pmp.entries (addr - 0x3B0 + 1))) same
+      ∙ ap (λ k. not (starts_locked pmp.entries (k + 1))) place ∙ ap not top
+  same_test is false apart =
+      let differ : (i == addr - 0x3B0) ≡ false = grind (arith, nat_tests) in
+      ap (λ b. b && not (starts_locked pmp.entries (addr - 0x3B0 + 1))) differ
+
   address_written : is_address addr ≡ true → i < 16 → i < length pmp.entries
       → at (with_address pmp.entries (addr - 0x3B0) word) i ≡ written pmp addr word i
   address_written is small within =
-      go (starts_locked pmp.entries (addr - 0x3B0 + 1)) refl (addr == 0x3B0 + i) refl where
-        no_config : (addr == 0x3A0 + i / 4) ≡ false
-        no_config = grind (arith, nat_tests)
-
-        chosen : (c t : Bool) → (addr == 0x3B0 + i) ≡ c → is_locked_tor pmp (i + 1) ≡ t
-            → written pmp addr word i ≡ choose pmp word i false c t
-        chosen c t at_address is_top =
-            ap (λ b. choose pmp word i b (addr == 0x3B0 + i) (is_locked_tor pmp (i + 1))) no_config
-            ∙ ap (λ c. choose pmp word i false c (is_locked_tor pmp (i + 1))) at_address
-            ∙ ap (λ t. choose pmp word i false c t) is_top
-
-        one_changed : starts_locked pmp.entries (addr - 0x3B0 + 1) ≡ false
-            → at (with_address pmp.entries (addr - 0x3B0) word) i
-            ≡ (if i == addr - 0x3B0 then addressed (entry_at pmp i) word else entry_at pmp i)
-        one_changed free =
-            changed (λ e. addressed e word) pmp.entries (with_address pmp.entries (addr - 0x3B0) word) (addr - 0x3B0) i
-            within (λ inside. with_address-at pmp.entries (addr - 0x3B0) word off_entry inside free)
-            (λ past. with_address-past pmp.entries (addr - 0x3B0) word past)
-
-        go : (t : Bool) → starts_locked pmp.entries (addr - 0x3B0 + 1) ≡ t → (c : Bool) → (addr == 0x3B0 + i) ≡ c
-            → at (with_address pmp.entries (addr - 0x3B0) word) i ≡ written pmp addr word i
-        go true locked true here =
-            let place : addr - 0x3B0 ≡ i = grind (arith, nat_tests) in
-            ap (λ l. at l i) (with_address-locked pmp.entries (addr - 0x3B0) word locked)
-            ∙ sym (chosen true true here (sym top ∙ ap (λ n. starts_locked pmp.entries (n + 1)) (sym place) ∙ locked))
-        go true locked false apart =
-            ap (λ l. at l i) (with_address-locked pmp.entries (addr - 0x3B0) word locked)
-            ∙ sym (chosen false (is_locked_tor pmp (i + 1)) apart refl)
-        go false free true here =
-            let place : addr - 0x3B0 ≡ i = grind (arith, nat_tests) in
-            let same : (i == addr - 0x3B0) ≡ true = grind (arith, nat_tests) in
-            one_changed free
-            ∙ ap (λ b. if b then addressed (entry_at pmp i) word else entry_at pmp i) same
-            ∙ sym (chosen true false here (sym top ∙ ap (λ n. starts_locked pmp.entries (n + 1)) (sym place) ∙ free))
-        go false free false apart =
-            let differ : (i == addr - 0x3B0) ≡ false = grind (arith, nat_tests) in
-            one_changed free
-            ∙ ap (λ b. if b then addressed (entry_at pmp i) word else entry_at pmp i) differ
-            ∙ sym (chosen false (is_locked_tor pmp (i + 1)) apart refl)
+      address-at pmp.entries (addr - 0x3B0) word i within
+      ∙ ap (λ b. if b then addressed (entry_at pmp i) word else entry_at pmp i)
+      (same_test is (addr == 0x3B0 + i) refl)
+      ∙ sym (ap (λ b. if b then configured (entry_at pmp i) (byte_of word (i % 4))
+      else (if (addr == 0x3B0 + i) && not (is_locked_tor pmp (i + 1)) then addressed (entry_at pmp i) word
+      else entry_at pmp i)) (no_config is small))
 
 abbrev with_entries : List Entry → PmpState
 with_entries es = record { entries = es }
-
-written-at : (f : ℕ → Entry) (a n i : ℕ) → i < n → at (map f (range_with_len a n)) i ≡ f (a + i)
-written-at f a zero i less = absurd (omega arith)
-written-at f a (suc n) zero less = ap f (sym (add-zero a))
-written-at f a (suc n) (suc i) less =
-    let place : a + 1 + i ≡ a + suc i = omega arith in
-    written-at f (a + 1) n i (omega arith) ∙ ap f place
-
-written-past : (f : ℕ → Entry) (a n i : ℕ) → n ≤ i → at (map f (range_with_len a n)) i ≡ off_entry
-written-past f a zero i past = refl
-written-past f a (suc n) zero past = absurd (omega arith)
-written-past f a (suc n) (suc i) past = written-past f (a + 1) n i (omega arith)
 
 -- each entry after a write
 pub stored_entry : (pmp new : PmpState) (addr word : ℕ) → write_register pmp addr word ≡ Some new → (n : ℕ)
@@ -218,13 +195,12 @@ stored_entry pmp new addr word is n = by (is_config addr || is_address addr) is 
   one : (b : Bool) → nat_lt n (length pmp.entries) ≡ b
       → at all n ≡ (if b then written pmp addr word n else entry_at pmp n)
   one true less =
-      let first : 0 + n ≡ n = omega arith in
-      written-at (written pmp addr word) 0 (length pmp.entries) n (grind (arith, nat_tests))
-      ∙ ap (written pmp addr word) first
+      get_or-map-range_with_len (written pmp addr word) 0 (length pmp.entries) n n off_entry
+      (grind (arith, nat_tests)) (omega arith)
   one false not_less =
       let past : length pmp.entries ≤ n = grind (arith, nat_tests) in
-      written-past (written pmp addr word) 0 (length pmp.entries) n past
-      ∙ sym (get_or-eq_default pmp.entries off_entry past)
+      let long = length-map-range_with_len (written pmp addr word) 0 (length pmp.entries) in
+      get_or-eq_default all off_entry (omega (arith, long, past)) ∙ sym (get_or-eq_default pmp.entries off_entry past)
 
   by : (there : Bool) → (if there then Some (with_entries all) else None) ≡ Some new
       → entry_at new n ≡ (if nat_lt n (length pmp.entries) then written pmp addr word n else entry_at pmp n)
@@ -237,20 +213,11 @@ module _ (pmp : PmpState) (addr word : ℕ) (sixteen : length pmp.entries ≡ 16
   entries : List Entry
   entries = map (written pmp addr word) (range_with_len 0 (length pmp.entries))
 
-  entries-length : length entries ≡ length pmp.entries
-  unfolding entries
-  entries-length = search rules
-
   same : (new : List Entry) → length new ≡ length pmp.entries
       → ((i : ℕ) → i < 16 → at new i ≡ written pmp addr word i) → new ≡ entries
   unfolding entries
   same new long each =
-      ext_get_or off_entry new entries (long ∙ sym entries-length)
-      (λ i less. let within : i < length pmp.entries = omega arith in
-      let first : 0 + i ≡ i = omega arith in
-      each i (omega arith)
-      ∙ sym (written-at (written pmp addr word) 0 (length pmp.entries) i within
-      ∙ ap (written pmp addr word) first))
+      fill_by_all (written pmp addr word) new (length pmp.entries) off_entry long (λ k less. each k (omega arith))
 
   pub stores : write_register pmp addr word
       ≡ option_map (λ register. with_entries (with_word pmp.entries register word)) (register_at addr)

@@ -1,6 +1,5 @@
 -- Definitions that aren't to audit: each file says why.
 pub mod ActiveEntries
-pub mod Guards
 pub mod PermissionCache
 pub mod Registers
 pub mod Span
