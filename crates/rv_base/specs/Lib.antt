@@ -4,6 +4,6 @@ pub mod Limits
 pub mod Lines
 pub mod Numbers
 pub mod Registers
-pub mod Support
+pub mod Room
 pub mod Tables
 pub mod Words

@@ -2,7 +2,7 @@
 ghost use Rattle.std.specs.Prelude.{◌≡◌, ◌++◌, ◌+◌, ◌%◌, ◌<◌, ◌≤◌, false, codes, length, vec_len, vec_capacity};
 ghost use Rattle.std.specs.Fmt.{digits};
 ghost use Rattle.rv_base.specs.Digits.{digit, hex, short_hex};
-ghost use Rattle.rv_base.specs.Support.Room.{HasRoom, Appended};
+ghost use Rattle.rv_base.specs.Room.{HasRoom, Appended};
 
 use crate::append_within;
 

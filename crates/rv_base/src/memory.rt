@@ -1,6 +1,6 @@
 //! Out of memory, and text that needs none.
 ghost use Rattle.std.specs.Prelude.{◌≡◌, ◌++◌, ◌+◌, length, vec_len, vec_capacity, ◌≤◌};
-ghost use Rattle.rv_base.specs.Support.Room.{HasRoom};
+ghost use Rattle.rv_base.specs.Room.{HasRoom};
 
 use std::alloc::AllocError;
 

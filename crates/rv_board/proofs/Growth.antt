@@ -1,12 +1,12 @@
 -- An event for which room may have to be made is a step that writes.
 use Rattle.std.proofs.Common.{◌≡◌, ℕ, true, List, Option, Some, None}
 use Rattle.std.specs.Prelude.{slice_get}
-use Rattle.rv_ram.specs.Support.Room.{RoomRule}
+use Rattle.rv_ram.specs.Room.{RoomRule}
 use Rattle.rv_hart.proofs.Growth as hart
 use Rattle.rv_board.specs.Support.State.{BoardState}
 use Rattle.rv_board.specs.Move.{writes}
 use Rattle.rv_board.specs.Support.MoveParts.{writes_by}
-use Rattle.rv_board.specs.Support.Room.{NextWantsRoom, RoomIsWritten, wants_room, wants_room_by}
+use Rattle.rv_board.specs.Room.{NextWantsRoom, RoomIsWritten, wants_room, wants_room_by}
 use Rattle.rv_board.specs.declared.event.Event.{Event}
 use Rattle.rv_board.specs.declared.event.Event.TheVariants.{Step, Line, Rx}
 

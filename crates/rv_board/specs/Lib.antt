@@ -4,5 +4,7 @@ pub mod Boot
 pub mod Exchange
 pub mod Laws
 pub mod Move
+pub mod PlainSteps
+pub mod Room
 pub mod Support
 pub mod UserRun

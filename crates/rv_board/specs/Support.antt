@@ -1,7 +1,5 @@
 -- Definitions that aren't to audit: each file says why.
 pub mod ImageFit
 pub mod MoveParts
-pub mod PlainSteps
-pub mod Room
 pub mod RunWhile
 pub mod State

@@ -4,7 +4,7 @@ ghost use Rattle.rv_board.specs.Laws.{KeepsLocked};
 ghost use Rattle.rv_board.specs.Move.{run};
 ghost use Rattle.rv_board.specs.BoardState.{BoardState};
 ghost use Rattle.rv_board.specs.declared.event.Event.{Event};
-ghost use Rattle.rv_board.specs.Support.Room.{RoomIsWritten};
+ghost use Rattle.rv_board.specs.Room.{RoomIsWritten};
 
 /// Law: a locked entry of protection is as it was after any events, with its address, its configuration and,
 /// if it is the top of a range, the address below it. RISC-V Privileged Architecture 20211203, section 3.7.1.

@@ -1,14 +1,14 @@
 -- A store for which room may have to be made goes into the memory or to the transmit register, and is no
 -- fault.
-use Rattle.std.proofs.Common.{◌≡◌, ◌∙◌, ℕ, true, ap, refl}
+use Rattle.std.proofs.Common.{◌≡◌, ◌∙◌, ℕ, true, ap, refl, sym}
 use Rattle.std.specs.Prelude.{is_some}
 use Rattle.rv_isa.specs.declared.op.Width.{Width}
-use Rattle.rv_ram.specs.Support.Room.{RoomRule}
+use Rattle.rv_ram.specs.Room.{RoomRule}
 use Rattle.rv_mmio.specs.declared.serial.SerialReg.TheVariants.{Tx, Rx, Status}
 use Rattle.rv_bus.specs.State.{BusState}
 use Rattle.rv_bus.specs.Access.{store, keeps_stores}
-use Rattle.rv_bus.specs.Support.AtLocation.{is_written, location, store_at}
-use Rattle.rv_bus.specs.Support.Room.{wants_room, wants_room_at}
+use Rattle.rv_bus.specs.Support.AtLocation.{is_written, location, store_at, wants_room_at}
+use Rattle.rv_bus.specs.Room.{wants_room}
 use Rattle.rv_bus.proofs.Rows as rows
 use Rattle.rv_bus.specs.declared.locations.Location.{Location}
 use Rattle.rv_bus.specs.declared.locations.Location.TheVariants.{Ram, Halt, Timer, Plic, Serial, Nowhere}
@@ -27,8 +27,7 @@ at_location rule b v w Nowhere is = absurd cc
 
 pub room_stores : (rule : RoomRule) (b : BusState) (a v : ℕ) (w : Width) → wants_room rule b a w v ≡ true
     → (keeps_stores b a ≡ true) × (is_some (store b a w v) ≡ true)
-unfolding wants_room
 room_stores rule b a v w is =
-    let at = at_location rule b v w (location b a w) is in
     let row = rows.at_location b a w in
+    let at = at_location rule b v w (location b a w) (sym (row.room rule v) ∙ is) in
     (row.writes ∙ at.0, ap is_some (row.store v) ∙ at.1)

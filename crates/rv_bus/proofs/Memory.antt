@@ -15,7 +15,7 @@ is_within bs i = by (nat_lt i (length bs)) refl where
   by true is = ap is_some (slice_get-get_or bs i 0 (ltb-true i (length bs) is))
   by false is = ap is_some (slice_get_past bs i (ltb-false i (length bs) is))
 
-has_byte : (ram : List ℕ) (a : ℕ) → is_some (ram_byte ram a) ≡ in_memory ram a
+pub has_byte : (ram : List ℕ) (a : ℕ) → is_some (ram_byte ram a) ≡ in_memory ram a
 has_byte ram a = by (nat_le ram_base a) where
   by : (t : Bool) → is_some (if t then slice_get ram (a - ram_base) else None)
       ≡ (t && nat_lt (a - ram_base) (length ram))

@@ -9,15 +9,18 @@ use Rattle.rv_isa.specs.declared.op.Width.{Width}
 use Rattle.rv_isa.specs.Width.{bytes_of}
 use Rattle.rv_isa.specs.declared.op.Width.TheVariants.{One, Two, Four}
 use Rattle.rv_ram.specs.Bytes.{value_at}
-use Rattle.rv_mmio.specs.declared.serial.SerialReg.TheVariants.{Tx}
+use Rattle.rv_ram.specs.Room.{RoomRule}
+use Rattle.rv_mmio.specs.Room.{is_full}
+use Rattle.rv_mmio.specs.declared.serial.SerialReg.TheVariants.{Rx, Status, Tx}
 use Rattle.rv_bus.specs.State.{BusState}
 use Rattle.rv_bus.specs.Table.{Window, window_at, windows}
 use Rattle.rv_bus.specs.Access.{load, store, keeps_stores, fetch}
+use Rattle.rv_bus.specs.Room.{wants_room}
 use Rattle.rv_bus.specs.Support.Locations.{controller, device_in, for_width, has, location_of, registers, takes}
-use Rattle.rv_bus.specs.Support.AtLocation.{IsFor, Reached, in_memory, location, reach_at, is_written, fetch_at}
+use Rattle.rv_bus.specs.Support.AtLocation.{IsFor, Reached, in_memory, location, reach_at, is_written, fetch_at, wants_room_at}
 use Rattle.rv_bus.specs.declared.locations.Location.{Location}
-use Rattle.rv_bus.specs.declared.locations.Location.TheVariants.{Nowhere, Plic, Ram, Serial}
-use Rattle.rv_bus.proofs.Memory.{fetch_is, writes_is}
+use Rattle.rv_bus.specs.declared.locations.Location.TheVariants.{Halt, Nowhere, Plic, Ram, Serial, Timer}
+use Rattle.rv_bus.proofs.Memory.{fetch_is, has_byte, writes_is}
 use Rattle.rv_bus.proofs.Windows.{at_device, each_device, one_address}
 
 -- the bytes of the narrowest access that a device takes
@@ -169,6 +172,37 @@ module _ (b : BusState) (a : ℕ) (w : Width) where
       ∙ writing (in_memory b.ram a) (a == 0x10000000) (for_width (device_in registers a) w)
       (device_written (a == 0x10000000))
 
+  -- ---- room
+
+  module _ (rule : RoomRule) (v : ℕ) where
+    without : (p : Location) → is_written p ≡ false → wants_room_at rule b p w v ≡ false
+    without (Ram off) is = absurd cc
+    without (Serial Tx) is = absurd cc
+    without (Serial Rx) is = refl
+    without (Serial Status) is = refl
+    without Halt is = refl
+    without (Timer reg) is = refl
+    without (Plic off) is = refl
+    without Nowhere is = refl
+
+    device_room : (u : Bool)
+        → (u && is_full b.serial) ≡ wants_room_at rule b (for_width (if u then Serial Tx else others) w) w v
+    device_room true = refl
+    device_room false = sym (without (for_width others w) (no_others (takes others w)))
+
+    by_place : (t room : Bool) (p : Location) → room ≡ wants_room_at rule b p w v
+        → (if t then rule b.ram (a - ram_base) w v else room)
+        ≡ wants_room_at rule b (if t then Ram (a - ram_base) else p) w v
+    by_place true room p is = refl
+    by_place false room p is = is
+
+    has_room : wants_room rule b a w v ≡ wants_room_at rule b (location b a w) w v
+    unfolding location_of wants_room
+    has_room =
+        ap (λ t. if t then rule b.ram (a - ram_base) w v else (a == 0x10000000) && is_full b.serial) (has_byte b.ram a)
+        ∙ by_place (in_memory b.ram a) ((a == 0x10000000) && is_full b.serial) (for_width (device_in registers a) w)
+        (device_room (a == 0x10000000))
+
   -- a part of what a window reaches
   twice : {A : Type 0} (part : Reached → A) (found : Option Window)
       → option_map (λ x. part (reaches x)) found ≡ option_map part (option_map reaches found)
@@ -183,6 +217,7 @@ module _ (b : BusState) (a : ℕ) (w : Width) where
         store = λ v. twice (λ (x : Reached). x.1 v) (window_at b a (bytes_of w))
             ∙ ap (option_map (λ (x : Reached). x.1 v)) rows;
         writes = written;
+        room = has_room;
         fetch = fetches;
       }
 

@@ -1,4 +1,6 @@
 pub mod Access
+pub mod Room
 pub mod State
 pub mod Support
 pub mod Table
+pub mod Ticks

@@ -1,6 +1,4 @@
 -- Definitions that aren't to audit: each file says why.
 pub mod AtLocation
 pub mod Locations
-pub mod Room
-pub mod Ticks
 pub mod Within

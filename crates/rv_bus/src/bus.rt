@@ -13,8 +13,8 @@ ghost use Rattle.rv_mmio.specs.Timer.{timer_ticked};
 ghost use Rattle.rv_bus.specs.Access.{load, store, keeps_stores, fetch, ram_byte, lines_of};
 ghost use Rattle.rv_bus.specs.Support.AtLocation.{IsFor, location};
 ghost use Rattle.rv_bus.specs.Support.Within.{IsWithin};
-ghost use Rattle.rv_bus.specs.Support.Room.{wants_room};
-ghost use Rattle.rv_bus.specs.Support.Ticks.{mark_before, next_tick, ticked};
+ghost use Rattle.rv_bus.specs.Room.{wants_room};
+ghost use Rattle.rv_bus.specs.Ticks.{mark_before, next_tick, ticked};
 ghost use Rattle.rv_bus.specs.declared.bus.StoreRefusal.TheVariants as refusal;
 
 use crate::locations::{Location, find_location};
@@ -60,7 +60,7 @@ pub struct Mark {
 impl Model for Mark {
     ghost use Rattle.std.specs.Coded.{codes};
     ghost use Rattle.rv_plic.specs.Support.Codes.{plic_code};
-    ghost use Rattle.rv_bus.specs.Support.Ticks.{MarkState};
+    ghost use Rattle.rv_bus.specs.Ticks.{MarkState};
 
     ghost Value = { MarkState };
 
@@ -81,7 +81,7 @@ pub struct Tick {
 impl Model for Tick {
     ghost use Rattle.std.specs.Coded.{codes};
     ghost use Rattle.rv_plic.specs.Support.Codes.{sources_code};
-    ghost use Rattle.rv_bus.specs.Support.Ticks.{TickState};
+    ghost use Rattle.rv_bus.specs.Ticks.{TickState};
 
     ghost Value = { TickState };
 
@@ -226,7 +226,7 @@ impl<M: ByteMemory> Bus<M> {
     /// Stores the low bytes of a value at an address that is a multiple of their number. A refused store
     /// changes nothing. It may be out of memory only where room has to be made: in the memory, by the
     /// memory's own rule, or in the console where it has none, which is at most once in 4096 bytes.
-    #[tactic(auto, using(crate::proofs::Others::fetch_put), unfolding(crate::specs::Support::Room::wants_room))]
+    #[tactic(auto, using(crate::proofs::Others::fetch_put))]
     pub fn store(&mut self, addr: u32, width: Width, value: u32) -> Result<(), StoreRefusal>
         requires { addr % bytes_of width ≡ 0 }
         ensures ok { OnOk result (store self.old addr width value ≡ Some self.new) }

@@ -16,7 +16,7 @@ use Rattle.rv_io.specs.declared.fault.ReadFault.{ReadFault}
 use Rattle.rv_io.specs.declared.fault.ReadFault.TheVariants as read
 use Rattle.rv_io.specs.declared.fault.TextName.TheVariants as text
 use Rattle.rv_options.specs.declared.Options.{Options}
-use Rattle.rv_cli.specs.Support.Conversions.{source_fault, unopened_fault, unread_fault}
+use Rattle.rv_cli.specs.Conversions.{source_fault, unopened_fault, unread_fault}
 use Rattle.rv_cli.specs.Support.Meanings.{IsRunOf}
 use Rattle.rv_cli.specs.Output.{IsOutput, OpensFor}
 use Rattle.rv_cli.specs.declared.fault.CliFault.TheVariants.{OutOfMemory, ReadInput, ReadSource}

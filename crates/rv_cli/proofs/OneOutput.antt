@@ -15,7 +15,7 @@ use Rattle.rv_program.specs.Program.{Assembly}
 use Rattle.rv_program.specs.declared.fault.AsmFault.{AsmFault}
 use Rattle.rv_io.specs.Support.Calls.{Texts}
 use Rattle.rv_options.specs.declared.Options.{Options}
-use Rattle.rv_cli.specs.Support.Conversions.{unopened_fault}
+use Rattle.rv_cli.specs.Conversions.{unopened_fault}
 use Rattle.rv_cli.specs.Support.Meanings.{ending_of}
 use Rattle.rv_cli.specs.Output.{IsOutput, OpensFor, printed}
 use Rattle.rv_cli.specs.declared.fault.CliFault.{CliFault}

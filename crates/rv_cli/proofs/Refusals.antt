@@ -8,7 +8,7 @@ use Rattle.rv_io.specs.Texts.{Gave, IsSound, Side, Wrote}
 use Rattle.rv_io.proofs.Sound.{sound}
 use Rattle.rv_io.specs.declared.fault.ReadFault.{ReadFault}
 use Rattle.rv_io.specs.declared.fault.ReadFault.TheVariants as read
-use Rattle.rv_cli.specs.Support.Conversions.{unread_fault}
+use Rattle.rv_cli.specs.Conversions.{unread_fault}
 use Rattle.rv_cli.specs.declared.fault.CliFault.{CliFault}
 use Rattle.rv_cli.specs.declared.fault.CliFault.TheVariants.{ReadSource, ReadInput, ReadCommands, Source, Input, BadPages, BadSlots, ImageTooLarge, OutOfMemory, Write}
 use Rattle.rv_io.specs.declared.fault.TextName.TheVariants as text

@@ -1,3 +1,4 @@
+pub mod Conversions
 pub mod Faults
 pub mod Output
 pub mod Run

@@ -1,5 +1,4 @@
 -- Definitions that aren't to audit: each file says why.
-pub mod Conversions
 pub mod Meanings
 pub mod Numbered
 pub mod Shown

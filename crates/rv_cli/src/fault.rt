@@ -4,7 +4,7 @@ ghost use Rattle.rv_monitor.specs.Views as spec;
 ghost use Rattle.rv_cli.specs.Support.Shown.{IsAppended, input_line_of};
 ghost use Rattle.rv_cli.specs.Faults.{fault_row, status_of};
 ghost use Rattle.rv_cli.specs.Support.Numbered.{has_number, line_of, source_line_of};
-ghost use Rattle.rv_cli.specs.Support.Conversions.{unreadable};
+ghost use Rattle.rv_cli.specs.Conversions.{unreadable};
 
 use rv_base::NoMemory;
 use rv_board::BootFault;
@@ -75,7 +75,7 @@ impl From<NoMemory> for CliFault {
 /// A text that can't be read: its file isn't opened, its reader fails, or it is too long.
 impl From<TextName> for CliFault {
     ghost use Rattle.std.specs.Prelude.{◌≡◌};
-    ghost use Rattle.rv_cli.specs.Support.Conversions.{unreadable};
+    ghost use Rattle.rv_cli.specs.Conversions.{unreadable};
 
     ghost from_gives = { λ text fault. fault ≡ unreadable text };
 
@@ -91,7 +91,7 @@ impl From<TextName> for CliFault {
 /// The fault of texts that were not read.
 impl From<ReadFault> for CliFault {
     ghost use Rattle.std.specs.Prelude.{◌≡◌};
-    ghost use Rattle.rv_cli.specs.Support.Conversions.{unread_fault};
+    ghost use Rattle.rv_cli.specs.Conversions.{unread_fault};
 
     ghost from_gives = { λ why fault. fault ≡ unread_fault why };
 
@@ -106,7 +106,7 @@ impl From<ReadFault> for CliFault {
 /// The fault of a board that isn't booted.
 impl From<BootFault> for CliFault {
     ghost use Rattle.std.specs.Prelude.{◌≡◌};
-    ghost use Rattle.rv_cli.specs.Support.Conversions.{unbooted_fault};
+    ghost use Rattle.rv_cli.specs.Conversions.{unbooted_fault};
 
     ghost from_gives = { λ why fault. fault ≡ unbooted_fault why };
 
@@ -123,7 +123,7 @@ impl From<BootFault> for CliFault {
 /// The fault of a source that is not assembled.
 impl From<AsmFault> for CliFault {
     ghost use Rattle.std.specs.Prelude.{◌≡◌};
-    ghost use Rattle.rv_cli.specs.Support.Conversions.{source_fault};
+    ghost use Rattle.rv_cli.specs.Conversions.{source_fault};
 
     ghost from_gives = { λ why fault. fault ≡ source_fault why.kind why };
 
@@ -138,7 +138,7 @@ impl From<AsmFault> for CliFault {
 /// The fault of a program that opens no session.
 impl From<OpenFault> for CliFault {
     ghost use Rattle.std.specs.Prelude.{◌≡◌};
-    ghost use Rattle.rv_cli.specs.Support.Conversions.{unopened_fault};
+    ghost use Rattle.rv_cli.specs.Conversions.{unopened_fault};
 
     ghost from_gives = { λ why fault. fault ≡ unopened_fault why };
 

@@ -4,7 +4,7 @@ ghost use Rattle.rv_cli.specs.Output.{IsOutput, OpensFor};
 ghost use Rattle.rv_cli.specs.Support.Meanings.{IsRunOf};
 ghost use Rattle.rv_cli.specs.Run.{Runs};
 ghost use Rattle.rv_io.specs.Texts.{side, side_if};
-ghost use Rattle.rv_io.specs.Support.Within.{AreWithin};
+ghost use Rattle.rv_io.specs.Within.{AreWithin};
 ghost use Rattle.rv_cli.specs.declared.fault.CliFault.TheVariants.{OutOfMemory, ReadInput, ReadSource, Write};
 
 use crate::fault::{CliFault, Ending};

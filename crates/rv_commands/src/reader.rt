@@ -3,7 +3,7 @@ ghost use Rattle.std.specs.Prelude.{◌≡◌, ◌≤◌, ◌<◌, ℕ, ℤ, Lis
 ghost use Rattle.std.specs.Option.{option_copied};
 ghost use Rattle.rv_base.specs.Words.{words};
 ghost use Rattle.rv_commands.specs.Commands.{number_between, command_by, command_of};
-ghost use Rattle.rv_commands.specs.Support.Named.{IsNamed};
+ghost use Rattle.rv_commands.specs.Named.{IsNamed};
 ghost use Rattle.rv_commands.specs.Support.Operands.{alone, only, number_alone, address_alone};
 
 use crate::address::address;

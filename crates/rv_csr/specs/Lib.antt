@@ -1,3 +1,4 @@
+pub mod Later
 pub mod Registers
 pub mod State
 pub mod Support

@@ -2,7 +2,7 @@
 ghost use Rattle.std.specs.Prelude.{◌≡◌, ℕ, ◌+◌, ◌%◌, ◌^◌, ◌<◌, ◌≤◌, true, false, Some, None, is_some, MatchOption};
 ghost use Rattle.rv_csr.specs.Support.RegisterCases.{value_of, with_value};
 ghost use Rattle.rv_csr.specs.Support.Interruptible.{any_enabled};
-ghost use Rattle.rv_csr.specs.Support.Later.{later};
+ghost use Rattle.rv_csr.specs.Later.{later};
 ghost use Rattle.rv_csr.specs.Registers as registers;
 ghost use Rattle.rv_csr.specs.State.{csrs_at_reset};
 ghost use Rattle.rv_csr.specs.Traps as traps;

@@ -9,7 +9,7 @@ use Rattle.rv_isa.specs.declared.op.Width.{Width}
 use Rattle.rv_isa.specs.declared.kind.Kind.{Kind}
 use Rattle.rv_isa.specs.declared.kind.Kind.TheVariants.{Store}
 use Rattle.rv_pmp.specs.declared.access.Access.TheVariants.{Write}
-use Rattle.rv_ram.specs.Support.Room.{RoomRule}
+use Rattle.rv_ram.specs.Room.{RoomRule}
 use Rattle.rv_bus.specs.State.{BusState}
 use Rattle.rv_bus.specs.Access.{keeps_stores}
 use Rattle.rv_bus.specs.Access as bus
@@ -17,7 +17,7 @@ use Rattle.rv_bus.proofs.Growth.{room_stores}
 use Rattle.rv_hart.specs.State.{Machine}
 use Rattle.rv_hart.specs.Effect.{effect, execute, plus, reg}
 use Rattle.rv_hart.specs.Support.EffectParts.{misaligned_store, refused_store, store_effect, store_result, may_access}
-use Rattle.rv_hart.specs.Support.Room.{attempt_grows, may_grow, store_grows, wants_room}
+use Rattle.rv_hart.specs.Room.{attempt_grows, may_grow, store_grows, wants_room}
 use Rattle.rv_hart.specs.Step.{fetched, ticked, tries, writes, is_kept_store}
 use Rattle.rv_hart.specs.declared.trap.Trap.{Trap}
 

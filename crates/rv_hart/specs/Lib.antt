@@ -1,6 +1,9 @@
 pub mod Effect
 pub mod Fetch
+pub mod HartView
 pub mod Laws
+pub mod Room
 pub mod State
 pub mod Step
 pub mod Support
+pub mod Walk

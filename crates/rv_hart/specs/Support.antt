@@ -1,10 +1,7 @@
 -- Definitions that aren't to audit: each file says why.
 pub mod Coherent
 pub mod EffectParts
-pub mod HartView
 pub mod Keeps
 pub mod Plain
-pub mod Room
 pub mod Shortcuts
 pub mod StepParts
-pub mod Walk

@@ -1,3 +1,5 @@
+pub mod Memory
 pub mod Readers
 pub mod Support
 pub mod Texts
+pub mod Within

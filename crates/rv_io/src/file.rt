@@ -27,7 +27,7 @@ impl<R: Read + Drop> Drop for FileIn<R> {
 }
 
 impl<R: Read> Model for FileIn<R> {
-    ghost use Rattle.rv_io.specs.Support.Memory.{FileText};
+    ghost use Rattle.rv_io.specs.Memory.{FileText};
 
     ghost Value = { FileText };
 
@@ -81,7 +81,7 @@ pub struct FileOut<W: Write> {
 }
 
 impl<W: Write> Model for FileOut<W> {
-    ghost use Rattle.rv_io.specs.Support.Memory.{FileText};
+    ghost use Rattle.rv_io.specs.Memory.{FileText};
 
     ghost Value = { FileText };
 

@@ -1,7 +1,7 @@
 //! Texts in memory, which are read and written some bytes a call, with a call that fails if one is asked for.
 ghost use Rattle.std.specs.Prelude.{◌≡◌, ◌≤◌, ◌↔◌, ◌==◌, ◌&&◌, ◌||◌, [], IfErr, IfOk, IsErr, None, OnErr, OnOk, Some, false, length, min, nat_lt, true};
 ghost use Rattle.std.specs.Io.KnownBytes.{ReadConsumes, WriteAppends};
-ghost use Rattle.rv_io.specs.Support.Memory.{after_call};
+ghost use Rattle.rv_io.specs.Memory.{after_call};
 
 use crate::text::{InFailed, OutFailed, TextIn, TextOut};
 use std::alloc::Global;
@@ -18,7 +18,7 @@ pub struct MemoryIn<'a> {
 
 impl<'a> Model for MemoryIn<'a> {
     ghost use Rattle.std.specs.Prelude.{◌≤◌};
-    ghost use Rattle.rv_io.specs.Support.Memory.{MemoryText};
+    ghost use Rattle.rv_io.specs.Memory.{MemoryText};
 
     ghost Value = { MemoryText };
 
@@ -125,7 +125,7 @@ pub struct MemoryOut {
 }
 
 impl Model for MemoryOut {
-    ghost use Rattle.rv_io.specs.Support.Memory.{MemoryText};
+    ghost use Rattle.rv_io.specs.Memory.{MemoryText};
 
     ghost Value = { MemoryText };
 

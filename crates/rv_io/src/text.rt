@@ -3,7 +3,7 @@ ghost use Rattle.std.specs.Prelude.{◌≡◌, ◌≤◌, ◌<◌, ◌==◌, ◌
 ghost use Rattle.std.specs.Io.KnownBytes.{ReadConsumes, WriteAppends};
 ghost use Rattle.rv_io.specs.Support.Calls.{FailsToRead, WroteNone, WroteUpTo};
 ghost use Rattle.rv_io.specs.Texts.{Gave, Wrote, side};
-ghost use Rattle.rv_io.specs.Support.Within.{IsWithin};
+ghost use Rattle.rv_io.specs.Within.{IsWithin};
 
 use crate::fault::{ReadFault, TextName};
 use rv_base::TEXT_LIMIT;

@@ -4,7 +4,7 @@ ghost use Rattle.std.specs.Option.{option_map};
 ghost use Rattle.rv_io.specs.Support.Calls.{GaveIf};
 ghost use Rattle.rv_io.specs.Readers.{Reads};
 ghost use Rattle.rv_io.specs.Texts.{IsSound, side, side_if};
-ghost use Rattle.rv_io.specs.Support.Within.{AreWithin, IsWithin};
+ghost use Rattle.rv_io.specs.Within.{AreWithin, IsWithin};
 ghost use Rattle.rv_io.specs.declared.fault.ReadFault.TheVariants.{OutOfMemory, Unreadable};
 ghost use Rattle.rv_io.specs.declared.fault.TextName.TheVariants.{Commands, Input, Source};
 

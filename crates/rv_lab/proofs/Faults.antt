@@ -10,7 +10,7 @@ use Rattle.rv_program.specs.Program.{Assembly}
 use Rattle.rv_program.specs.declared.fault.AsmFault.{AsmFault}
 use Rattle.rv_program.specs.declared.fault.FaultKind.{FaultKind}
 use Rattle.rv_program.specs.declared.fault.FaultKind.TheVariants as kind
-use Rattle.rv_lab.specs.Support.Faults.{source_fault, unopened_fault}
+use Rattle.rv_lab.specs.Faults.{source_fault, unopened_fault}
 use Rattle.rv_lab.specs.Opening.{OpensBy, OpensLab}
 
 module _ (source inputs : List ℕ) (pages slots : ℕ) where

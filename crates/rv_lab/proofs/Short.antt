@@ -9,7 +9,7 @@ use Rattle.rv_monitor.specs.State.{SessionState, TimedState, after, given, with_
 use Rattle.rv_monitor.specs.Stops.{TakesStep, may_step, steps_between}
 use Rattle.rv_monitor.proofs.Steps.{after_due, after_more, after_rises}
 use Rattle.rv_recording.specs.Recording.{RecordingState, with_timed}
-use Rattle.rv_recording.specs.Support.Refused.{IsRefusedIn}
+use Rattle.rv_recording.specs.Refused.{IsRefusedIn}
 use Rattle.rv_lab.specs.Commands as lab
 use Rattle.rv_lab.specs.Runs.{Leaves}
 use Rattle.rv_lab.specs.Commands.{begun, monitored_run, planned, run_ends, stepped, stepped_by, with_console, with_inputs, with_session}

@@ -12,7 +12,7 @@ use Rattle.rv_answers.proofs.Regions.{one_more}
 use Rattle.rv_answers.specs.declared.values.Place.{Place}
 use Rattle.rv_answers.specs.declared.values.Trap.{Trap}
 use Rattle.rv_board.specs.declared.event.TrapRecord.{TrapRecord}
-use Rattle.rv_operands.specs.Support.Words.{only_of}
+use Rattle.rv_operands.specs.Operands.{only_of}
 use Rattle.rv_recording.specs.Breaks.{IsNext}
 use Rattle.rv_lab.specs.Answers.{breakpoints, distance_at, place_of, trap_runs}
 use Rattle.rv_lab.specs.Lines.{line_at}

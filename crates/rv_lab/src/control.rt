@@ -2,7 +2,7 @@
 ghost use Rattle.std.specs.Prelude.{◌≡◌, [], unwrap_or};
 ghost use Rattle.rv_base.specs.Words.{words};
 ghost use Rattle.rv_board.specs.BoardState.{csr_of};
-ghost use Rattle.rv_operands.specs.Support.Words.{only_of};
+ghost use Rattle.rv_operands.specs.Operands.{only_of};
 
 use rv_board::BootedBoard;
 use rv_operands::only_word;

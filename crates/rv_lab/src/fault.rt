@@ -19,7 +19,7 @@ pub enum LabFault {
 /// The fault of a source that is not assembled.
 impl From<AsmFault> for LabFault {
     ghost use Rattle.std.specs.Prelude.{◌≡◌};
-    ghost use Rattle.rv_lab.specs.Support.Faults.{source_fault};
+    ghost use Rattle.rv_lab.specs.Faults.{source_fault};
 
     ghost from_gives = { λ why fault. fault ≡ source_fault why.kind why };
 
@@ -34,7 +34,7 @@ impl From<AsmFault> for LabFault {
 /// The fault of a program that opens no session.
 impl From<OpenFault> for LabFault {
     ghost use Rattle.std.specs.Prelude.{◌≡◌};
-    ghost use Rattle.rv_lab.specs.Support.Faults.{unopened_fault};
+    ghost use Rattle.rv_lab.specs.Faults.{unopened_fault};
 
     ghost from_gives = { λ why fault. fault ≡ unopened_fault why };
 

@@ -11,7 +11,7 @@ ghost use Rattle.rv_answers.specs.declared.answer.Answer.TheVariants as answers;
 ghost use Rattle.rv_lab.specs.Support.Short.{GoesOnWith, Starts, Steps, backed, rest_of};
 ghost use Rattle.rv_monitor.specs.Stops.{steps_between};
 ghost use Rattle.rv_recording.specs.Until.{HasRun};
-ghost use Rattle.rv_recording.specs.Support.Refused.{IsRefusedIn};
+ghost use Rattle.rv_recording.specs.Refused.{IsRefusedIn};
 ghost use Rattle.rv_lab.specs.State.{LabState, setup, timed};
 ghost use Rattle.rv_monitor.specs.State.{IsInTime};
 

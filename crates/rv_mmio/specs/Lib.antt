@@ -1,4 +1,5 @@
 pub mod Halt
+pub mod Room
 pub mod Serial
 pub mod Support
 pub mod Timer

@@ -3,7 +3,7 @@ ghost use Rattle.std.specs.Prelude.{◌≡◌, ◌+◌, ◌≤◌, [], ◌∷◌
 ghost use Rattle.rv_mmio.specs.declared.serial.SerialReg.TheVariants.{Rx, Status};
 ghost use Rattle.rv_mmio.specs.Support.ConsoleRoom.{HasConsoleRoom};
 ghost use Rattle.rv_mmio.specs.Serial.{serial_at_reset, serial_status, serial_register, received};
-ghost use Rattle.rv_mmio.specs.Support.Room.{is_full, wants_room};
+ghost use Rattle.rv_mmio.specs.Room.{is_full, wants_room};
 
 use crate::buffer::copied_buffer;
 use circular_buffer::HeapCircularBuffer;
@@ -138,7 +138,7 @@ impl Serial {
     }
 
     /// Appends a byte to the console.
-    #[tactic(auto, unfolding(crate::specs::Support::Room::is_full))]
+    #[tactic(auto, unfolding(crate::specs::Room::is_full))]
     fn send(&mut self, byte: u8) -> Result<(), NoMemory>
         ensures ok { OnOk result (self.new ≡ record self.old { sent = self.old.sent ++ byte ∷ [] }) }
         ensures err { OnErr result (self.new ≡ self.old) }

@@ -9,7 +9,7 @@ use Rattle.rv_timeline.specs.declared.fault.TimelineFault.{TimelineFault}
 use Rattle.rv_timeline.specs.declared.fault.TimelineFault.TheVariants as list
 use Rattle.rv_timeline.specs.declared.input.TimedInput.{TimedInput}
 use Rattle.rv_program.specs.Program.{Assembly}
-use Rattle.rv_monitor.specs.Support.OpenFaults.{board_fault, list_fault}
+use Rattle.rv_monitor.specs.OpenFaults.{board_fault, list_fault}
 use Rattle.rv_monitor.specs.Opening.{Opens}
 
 module _ (program : Assembly) (inputs : List ℕ) (pages slots limit : ℕ) where

@@ -4,7 +4,7 @@ use Rattle.std.proofs.lemmas.Bool.{cond-false, cond-true, le-ltb, lt-ltb}
 use Rattle.std.specs.Prelude.{◌==◌, if◌then◌else◌, nat_lt}
 use Rattle.std.specs.Cmp.{nat_cmp_total}
 use Rattle.std.specs.FinSet.{contains, insert, remove, len, len-insert, len-remove}
-use Rattle.rv_monitor.specs.Support.Breaks.{Breaks, room_after}
+use Rattle.rv_monitor.specs.Breaks.{Breaks, room_after}
 
 where_less : (n m a b : ℕ) → n < m → (if nat_lt n m then a else b) ≡ a
 where_less n m a b h = cond-true (nat_lt n m) a b (lt-ltb n m h)

@@ -11,7 +11,7 @@ use Rattle.rv_timeline.specs.Timed.{never_falls}
 use Rattle.rv_monitor.specs.declared.stop.Stop.{Stop}
 use Rattle.rv_monitor.specs.Events.{event_of, inputs_at, events_of}
 use Rattle.rv_monitor.specs.Laws.{IsReached}
-use Rattle.rv_monitor.specs.Support.Resumed.{resumed}
+use Rattle.rv_monitor.specs.Resumed.{resumed}
 use Rattle.rv_monitor.specs.State.{TimedState, IsInTime, count_before, begun, after, with_due}
 use Rattle.rv_monitor.specs.Stops.{stop_after}
 use Rattle.rv_monitor.specs.Support.TimedCalls.{HasStopped}

@@ -1,11 +1,11 @@
 -- Commands that answer nothing lack no room; and the command after which no other follows.
 use Rattle.std.proofs.Common.{◌≡◌, ◌∙◌, ℕ, Option, Some, None, ap, refl, subst, arith}
 use Rattle.std.specs.Prelude.{◌≢◌}
-use Rattle.rv_ram.specs.Support.Room.{RoomRule}
+use Rattle.rv_ram.specs.Room.{RoomRule}
 use Rattle.rv_commands.specs.declared.command.Command.{Command}
 use Rattle.rv_commands.specs.declared.command.Command.TheVariants.{Quit, Nothing}
 use Rattle.rv_monitor.specs.Support.Answers.{next_of}
-use Rattle.rv_monitor.specs.Support.Room.{LacksRoom}
+use Rattle.rv_monitor.specs.Room.{LacksRoom}
 use Rattle.rv_monitor.specs.State.{SessionState}
 use Rattle.rv_monitor.specs.declared.command.Next.{Next}
 use Rattle.rv_monitor.specs.declared.command.Next.TheVariants as next

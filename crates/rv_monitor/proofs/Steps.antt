@@ -8,7 +8,7 @@ use Rattle.std.proofs.lemmas.Bool.{eq-eqb, lt-ltb}
 use Rattle.rv_board.specs.Support.State.{BoardState, halted_of}
 use Rattle.rv_board.specs.Move.{moved, run, writes}
 use Rattle.rv_board.specs.Support.MoveParts.{happens}
-use Rattle.rv_board.specs.Support.PlainSteps.{after_steps}
+use Rattle.rv_board.specs.PlainSteps.{after_steps}
 use Rattle.rv_board.specs.declared.event.Event.TheVariants.{Step}
 use Rattle.rv_board.proofs.Runs.{run_append, run_more}
 use Rattle.rv_timeline.specs.declared.input.Input.{Input}

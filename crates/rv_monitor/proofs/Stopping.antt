@@ -6,7 +6,7 @@ use Rattle.std.proofs.lemmas.Bool.{cases_lt, false≢true, lt-ltb}
 use Rattle.rv_timeline.specs.declared.input.TimedInput.{TimedInput}
 use Rattle.rv_board.specs.Support.State.{BoardState, halted_of, pc_of}
 use Rattle.rv_board.specs.Move.{writes}
-use Rattle.rv_board.specs.Support.PlainSteps.{after_steps}
+use Rattle.rv_board.specs.PlainSteps.{after_steps}
 use Rattle.rv_board.specs.declared.event.Event.TheVariants.{Step}
 use Rattle.rv_monitor.specs.declared.stop.Stop.{Stop}
 use Rattle.rv_monitor.specs.declared.stop.Stop.TheVariants.{Halted, Breakpoint, Limit}

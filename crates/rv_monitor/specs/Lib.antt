@@ -1,7 +1,11 @@
+pub mod Breaks
 pub mod Commands
 pub mod Events
 pub mod Laws
+pub mod OpenFaults
 pub mod Opening
+pub mod Resumed
+pub mod Room
 pub mod State
 pub mod Stops
 pub mod Support

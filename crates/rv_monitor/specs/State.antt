@@ -9,8 +9,8 @@ use Rattle.rv_board.specs.declared.event.Event.{Event}
 use Rattle.rv_timeline.specs.Timed.{never_falls, inserted}
 use Rattle.rv_timeline.specs.declared.input.Input.{Input}
 use Rattle.rv_timeline.specs.declared.input.TimedInput.{TimedInput}
-pub use Rattle.rv_monitor.specs.Support.Breaks.{Addresses}
-use Rattle.rv_monitor.specs.Support.Breaks.{Breaks, no_breaks, with_address, without_address}
+pub use Rattle.rv_monitor.specs.Breaks.{Addresses}
+use Rattle.rv_monitor.specs.Breaks.{Breaks, no_breaks, with_address, without_address}
 use Rattle.rv_monitor.specs.Events.{inputs_at, events_of}
 
 -- a board with all its timed inputs, the index of the next one, and the number of steps taken

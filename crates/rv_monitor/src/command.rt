@@ -3,11 +3,11 @@ ghost use Rattle.std.specs.Prelude.{◌≡◌, ◌≢◌, ◌++◌, ◌+◌, ◌
 ghost use Rattle.rv_base.specs.Digits.{hex};
 ghost use Rattle.rv_monitor.specs.Views.{line};
 ghost use Rattle.rv_program.specs.Program.{value_of};
-ghost use Rattle.rv_commands.specs.Support.Named.{IsNamed};
+ghost use Rattle.rv_commands.specs.Named.{IsNamed};
 ghost use Rattle.rv_commands.specs.declared.command.Command.{Command};
 ghost use Rattle.rv_monitor.specs.Support.Answers.{AppendsAnswer, next_of};
 ghost use Rattle.rv_monitor.specs.Commands.{Leaves, LeavesRefused, answer, word_of, command_in};
-ghost use Rattle.rv_monitor.specs.Support.Room.{LacksRoom};
+ghost use Rattle.rv_monitor.specs.Room.{LacksRoom};
 
 use crate::session::Session;
 use crate::stop::Stop;

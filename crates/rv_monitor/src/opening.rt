@@ -25,7 +25,7 @@ pub enum OpenFault {
 /// The fault of a timed list that can't be read.
 impl From<TimelineFault> for OpenFault {
     ghost use Rattle.std.specs.Prelude.{◌≡◌};
-    ghost use Rattle.rv_monitor.specs.Support.OpenFaults.{list_fault};
+    ghost use Rattle.rv_monitor.specs.OpenFaults.{list_fault};
 
     ghost from_gives = { λ why fault. fault ≡ list_fault why };
 
@@ -40,7 +40,7 @@ impl From<TimelineFault> for OpenFault {
 /// The fault of a board that does not start.
 impl From<BootFault> for OpenFault {
     ghost use Rattle.std.specs.Prelude.{◌≡◌};
-    ghost use Rattle.rv_monitor.specs.Support.OpenFaults.{board_fault};
+    ghost use Rattle.rv_monitor.specs.OpenFaults.{board_fault};
 
     ghost from_gives = { λ why fault. fault ≡ board_fault why };
 

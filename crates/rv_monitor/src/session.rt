@@ -9,8 +9,8 @@ ghost use Rattle.rv_timeline.specs.declared.input.TimedInput.{TimedInput};
 ghost use Rattle.rv_program.specs.Program.{Assembly};
 ghost use Rattle.rv_monitor.specs.Events.{events_of};
 ghost use Rattle.rv_monitor.specs.Laws.{IsReached};
-ghost use Rattle.rv_monitor.specs.Support.Resumed.{resumed_at};
-ghost use Rattle.rv_monitor.specs.Support.Room.{NextWantsRoom};
+ghost use Rattle.rv_monitor.specs.Resumed.{resumed_at};
+ghost use Rattle.rv_monitor.specs.Room.{NextWantsRoom};
 ghost use Rattle.rv_monitor.specs.State.{TimedState, SessionState, IsInTime, new_session, begun, count_before, after, with_due, with_break, without_break, given};
 ghost use Rattle.rv_monitor.specs.Stops.{Took, WasRefused, stop_of, TakesStep};
 

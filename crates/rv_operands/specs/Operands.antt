@@ -15,7 +15,7 @@ use Rattle.rv_program.specs.Program.{value_of}
 use Rattle.rv_asm.specs.Lines.{Listed, bytes_of}
 use Rattle.rv_asm.specs.Lines as listing
 use Rattle.rv_answers.specs.Memory.{escapes}
-use Rattle.rv_board.specs.Support.State.{BoardState, pc_of}
+use Rattle.rv_board.specs.BoardState.{BoardState}
 use Rattle.rv_timeline.specs.Timed.{all_of, byte_input}
 use Rattle.rv_timeline.specs.declared.input.Input.{Input}
 use Rattle.rv_timeline.specs.declared.input.Input.TheVariants.{Rx}
@@ -31,6 +31,11 @@ unfoldable pub operand_text : List ℕ → List ℕ
 operand_text line =
     let text = drop (prefix_len is_blank line) line in drop (position_or_len is_blank text) text
 
+-- the only one of some words
+abbrev pub only_of : List (List ℕ) → Option (List ℕ)
+only_of (word ∷ []) = Some word
+only_of _ = None
+
 -- ---- WHERE and V
 
 -- a number: decimal, or hexadecimal after `0x`
@@ -45,7 +50,7 @@ line_number word =
 -- a name of the source or `0x` and a number, as the monitor reads them, `pc`, or a register
 unfoldable pub base_value : Listed → BoardState → List ℕ → Option ℕ
 base_value l b word = option_or (address_of (value_of l.assembly.symbols) word) (lookup word
-    ((codes "pc", pc_of b) ∷ map (λ row. (row.0, slice_index b.machine.registers row.1)) register_names))
+    ((codes "pc", b.machine.pc) ∷ map (λ row. (row.0, slice_index b.machine.registers row.1)) register_names))
 
 -- what is added: `+N`, `-N`, or nothing
 unfoldable pub added : List ℕ → Option ℕ

@@ -4,8 +4,8 @@ ghost use Rattle.std.specs.Option.{option_map};
 ghost use Rattle.std.specs.List.{position_or_len, prefix_len, suffix_len};
 ghost use Rattle.rv_base.specs.Words.{is_blank, words};
 ghost use Rattle.rv_commands.specs.Addresses.{address_of};
-ghost use Rattle.rv_operands.specs.Operands.{line_number, plain_number, operand_text};
-ghost use Rattle.rv_operands.specs.Support.Words.{only_of, trimmed};
+ghost use Rattle.rv_operands.specs.Operands.{line_number, only_of, plain_number, operand_text};
+ghost use Rattle.rv_operands.specs.Support.Words.{trimmed};
 
 use rv_base::{decimal, first_word, has_word, is_blank, low_word};
 use rv_commands::hexadecimal;

@@ -1,8 +1,9 @@
 -- The command `rvboard [SOURCE] [--input F] [--commands F] [--steps N] [--pages P] [--slots S]`, as the rules
 -- that `clap` parses words by.
 -- To audit: public contracts cite this.
-use Rattle.std.specs.Prelude.{ℕ, pos, [], ◌∷◌, Option, Some, None, codes, fold}
-use Rattle.clap.specs.Words.{App, Rule, Text, new_app, new_rule, with_rule}
+use Rattle.std.specs.Prelude.{◌≡◌, ℕ, pos, [], ◌∷◌, Option, Some, None, codes, false, fold}
+use Rattle.clap.specs.Words.{App, Rule, Text, new_app, new_rule, rule_of, with_rule}
+use Rattle.clap.specs.declared.builder.arg.Arg.{Arg}
 use Rattle.clap.specs.declared.builder.action.ArgAction.TheVariants.{Set}
 use Rattle.clap.specs.declared.builder.value_parser.ValueParser.TheVariants.{Signed}
 
@@ -47,8 +48,29 @@ rule_by name None = file_rule name
 rule_by name (Some r) =
     record (file_rule name) { defaults = r.default ∷ []; parser = Some (Signed (pos r.least) (pos r.most)) }
 
+-- the rule of an option
+abbrev pub option_rule : OptionName → Rule
+option_rule o = rule_by (name_of o) (range_of o)
+
+abbrev pub input_rule : Rule
+input_rule = option_rule input
+
+abbrev pub pages_rule : Rule
+pages_rule = option_rule pages
+
+abbrev pub slots_rule : Rule
+slots_rule = option_rule slots
+
+-- an argument that is not handed on to subcommands
+abbrev pub IsLocal : Arg → Type 0
+IsLocal arg = arg.global ≡ false
+
+-- an argument that is local and has the rule
+abbrev pub HasRule : Arg → Rule → Type 0
+HasRule arg rule = (rule_of arg ≡ rule) × IsLocal arg
+
 -- the command: its name and its arguments in their order
 unfoldable pub board_app : App
 board_app =
-    fold (λ app o. with_rule app (rule_by (name_of o) (range_of o)))
+    fold (λ app o. with_rule app (option_rule o))
     (with_rule (new_app (codes "rvboard")) source_rule) (input ∷ commands ∷ steps ∷ pages ∷ slots ∷ [])

@@ -10,6 +10,7 @@ use Rattle.std.proofs.lemmas.Bool.{le-leb}
 use Rattle.std.proofs.lemmas.List.{same_lists}
 use Rattle.rv_plic.specs.Sources.{Sources}
 use Rattle.rv_plic.specs.Gateways.{edges_of, one_more}
+use Rattle.rv_plic.specs.Withdrawn.{with_more_edges}
 use Rattle.rv_plic.specs.Support.GatewayState.{Edges, taken}
 use Rattle.rv_plic.specs.Support.Changes.{one_less, changed}
 
@@ -62,6 +63,23 @@ pub taken-changed : (s : Sources) (edges : Edges) → taken s edges ≡ changed 
 unfolding taken
 taken-changed s edges = search (rules, taken-from, le-leb)
 
+-- ---- giving an edge to each source of a set, as the definition says it
+more-from : (s : Sources) (all edges : Edges) (a : ℕ)
+    → ((k : ℕ) → edges_of all (a + k) ≡ slice_index edges k)
+    → map (λ q. if contains s q then one_more (edges_of all q) else edges_of all q) (range_with_len a (length edges))
+    ≡ changed one_more s a edges
+unfolding changed
+more-from s all [] a each = refl
+more-from s all (n ∷ ns) a each =
+    λ i. ap (λ count. if contains s a then one_more count else count)
+    (ap (edges_of all) (sym (add-zero a)) ∙ each 0) i
+    ∷ more-from s all ns (a + 1)
+    (λ k. let place : a + 1 + k ≡ a + suc k = omega arith in ap (edges_of all) place ∙ each (suc k)) i
+
+pub more-changed : (s : Sources) (edges : Edges) → with_more_edges edges s ≡ changed one_more s 24 edges
+unfolding with_more_edges
+more-changed s edges = search (rules, more-from, le-leb)
+
 pub taken_and_given : (s : Sources) (a : ℕ) (edges : Edges)
     → ((k : ℕ) → k < length edges → contains s (a + k) ≡ true
     → (0 < slice_index edges k) × (slice_index edges k < 2 ^ 32))
@@ -112,5 +130,9 @@ all_changed f number s old new past all = grind (arith, nat_tests, common_steps,
 -- a change by one edge less is the taking of an edge
 pub less_taken : (s : Sources) (edges new : Edges) → new ≡ changed one_less s 24 edges → new ≡ taken s edges
 less_taken s edges new is = is ∙ sym (taken-changed s edges)
+
+-- a change by one edge more is the giving of an edge
+pub more_given : (s : Sources) (edges new : Edges) → new ≡ changed one_more s 24 edges → new ≡ with_more_edges edges s
+more_given s edges new is = is ∙ sym (more-changed s edges)
 
 pub ruleset changing = (none_changed, one_changed, one_left, all_changed)

@@ -5,5 +5,4 @@ pub mod Changes
 pub mod Codes
 pub mod GatewayState
 pub mod Registers
-pub mod Withdrawn
 pub mod Words

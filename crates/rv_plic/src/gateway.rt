@@ -3,8 +3,7 @@ ghost use Rattle.std.specs.Prelude.{◌≡◌, ◌-◌, ◌^◌, ◌<◌, ◌≤
 ghost use Rattle.std.specs.FinSet as set;
 ghost use Rattle.rv_plic.specs.Gateways.{edges_of};
 ghost use Rattle.rv_plic.specs.Support.Changes.{changed, count_after};
-ghost use Rattle.rv_plic.specs.Support.GatewayState.{all_low, gateways_with_line, gateway_requests, after_requests, after_completion};
-ghost use Rattle.rv_plic.specs.Support.Withdrawn.{withdrawn_gateways};
+ghost use Rattle.rv_plic.specs.Support.GatewayState.{all_low, gateways_with_line, gateway_requests, after_requests, after_completion, withdrawn_gateways};
 
 use crate::Source;
 use crate::edges::{Edges, is_by_edge};
@@ -127,6 +126,7 @@ impl Gateways {
     }
 
     /// Undoes the forwarding of these sources' requests.
+    #[tactic(auto, using(crate::proofs::Counts::more_given))]
     pub fn withdraw(&mut self, requests: SourceSet)
         ensures { self.new ≡ withdrawn_gateways self.old requests }
     {

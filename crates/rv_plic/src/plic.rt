@@ -7,7 +7,7 @@ ghost use Rattle.rv_plic.specs.Gateways.{PlicState, edges_of, plic_at_reset, wit
 ghost use Rattle.rv_plic.specs.Gateways as spec;
 ghost use Rattle.rv_plic.specs.Plic.{best, is_notified, claimed, completed, plic_register};
 ghost use Rattle.rv_plic.specs.Support.Registers.{word_at, with_word};
-ghost use Rattle.rv_plic.specs.Support.Withdrawn.{withdrawn};
+ghost use Rattle.rv_plic.specs.Withdrawn.{withdrawn};
 
 use crate::Source;
 use crate::gateway::Gateways;

@@ -4,7 +4,7 @@ use Rattle.std.specs.Prelude.{◌==◌}
 use Rattle.std.specs.List.{list_all}
 use Rattle.std.proofs.lemmas.List.{take_at}
 use Rattle.rv_ram.specs.Bytes.{zeros}
-use Rattle.rv_ram.specs.Support.Pages.{is_zero_page}
+use Rattle.rv_ram.specs.Pages.{is_zero_page}
 use Rattle.rv_ram.specs.Support.Table.{PageState, all_bytes, HasWholePages}
 
 drop_front : (xs ys : List ℕ) (k j : ℕ) → j ≡ length xs + k → drop j (xs ++ ys) ≡ drop k ys

@@ -12,7 +12,7 @@ use Rattle.rv_isa.specs.declared.op.Width.{Width}
 use Rattle.rv_isa.specs.declared.op.Width.TheVariants.{One, Two, Four}
 use Rattle.rv_isa.specs.Width.{bytes_of}
 use Rattle.rv_ram.specs.Bytes.{zeros, put, value_at}
-use Rattle.rv_ram.specs.Support.Pages.{is_made, is_zero, is_zero_page, none_made, made_after}
+use Rattle.rv_ram.specs.Pages.{is_made, is_zero, is_zero_page, none_made, made_after}
 use Rattle.rv_ram.specs.Support.Table.{PageState, all_bytes, made_of, HasWholePages, place_of, starts_from, page_at, pages_at, is_behind, made_count, AreStarts, pages_in, IsPaged, blank_biases}
 use Rattle.rv_ram.proofs.Blank.{blank_page}
 use Rattle.rv_ram.proofs.Put.{length_put, put_zeros}

@@ -7,7 +7,7 @@ use Rattle.rv_isa.specs.declared.op.Width.{Width}
 use Rattle.rv_isa.specs.declared.op.Width.TheVariants.{One, Two, Four}
 use Rattle.rv_isa.specs.Width.{bytes_of}
 use Rattle.rv_ram.specs.Bytes.{put}
-use Rattle.rv_ram.specs.Support.Pages.{is_zero}
+use Rattle.rv_ram.specs.Pages.{is_zero}
 
 -- ---- a write of zeros changes nothing among zeros
 

@@ -30,7 +30,7 @@ pub const PAGE_BYTES: u32 = 4096;
 /// of refused writes, and its defaults are right for any memory.
 pub trait ByteMemory: Drop {
     ghost use Rattle.std.specs.Prelude.{List, ℕ, true};
-    ghost use Rattle.rv_ram.specs.Support.Room.{RoomRule};
+    ghost use Rattle.rv_ram.specs.Room.{RoomRule};
 
     /// The bytes, from offset 0 on.
     ghost bytes: { Self → List ℕ };

@@ -3,7 +3,7 @@ ghost use Rattle.std.specs.Prelude.{◌≡◌, ◌+◌, ◌*◌, ◌/◌, ◌%�
 ghost use Rattle.std.specs.Vec.{vec_len};
 ghost use Rattle.rv_isa.specs.Width.{bytes_of};
 ghost use Rattle.rv_ram.specs.Bytes.{value_at, put, zeros};
-ghost use Rattle.rv_ram.specs.Support.Pages.{is_made, is_zero_page, none_made, wants_page, makes_page, made_after};
+ghost use Rattle.rv_ram.specs.Pages.{is_made, is_zero_page, none_made, wants_page, makes_page, made_after};
 ghost use Rattle.rv_ram.specs.Support.Table.{blank_biases, place_of};
 
 use crate::values::{byte_of, put_value, stores_zeros, word_of};
@@ -36,7 +36,7 @@ impl Drop for PagedRam {
 }
 
 impl Model for PagedRam {
-    ghost use Rattle.rv_ram.specs.Support.Pages.{PagedBytes};
+    ghost use Rattle.rv_ram.specs.Pages.{PagedBytes};
     ghost use Rattle.rv_ram.specs.Support.Table.{all_bytes, made_of, pages_in, IsPaged};
 
     ghost Value = { PagedBytes };
@@ -171,7 +171,7 @@ impl PagedRam {
 }
 
 impl ByteMemory for PagedRam {
-    ghost use Rattle.rv_ram.specs.Support.Pages.{wants_page};
+    ghost use Rattle.rv_ram.specs.Pages.{wants_page};
 
     ghost bytes = { λ m. m.bytes };
 

@@ -2,7 +2,7 @@
 ghost use Rattle.std.specs.Prelude.{◌≡◌, ◌+◌, ◌*◌, ◌<◌, ◌≤◌, length, slice_index};
 ghost use Rattle.rv_isa.specs.Width.{bytes_of};
 ghost use Rattle.rv_ram.specs.Bytes.{value_at, put};
-ghost use Rattle.rv_ram.specs.Support.Pages.{is_zero};
+ghost use Rattle.rv_ram.specs.Pages.{is_zero};
 
 use rv_isa::Width;
 

@@ -4,7 +4,7 @@ use native.Mathlib.Numerals.{unary_clauses}
 use Rattle.std.specs.Prelude.{if◌then◌else◌, is_some, Option, Some, None}
 use Rattle.std.proofs.lemmas.Bool.{cases_lt, false≢true}
 use Rattle.rv_recording.specs.Until.{steps_of}
-use Rattle.rv_recording.specs.Support.Refused.{NoneEnds}
+use Rattle.rv_recording.specs.Refused.{NoneEnds}
 use Rattle.rv_recording.specs.declared.until.End.{End}
 
 at_most : (b : Bool) (k m : ℕ) → k ≤ m → (if b then k else suc k) ≤ suc m

@@ -7,7 +7,7 @@ use Rattle.rv_monitor.specs.State.{IsInTime, TimedState, after}
 use Rattle.rv_monitor.specs.Stops.{steps_between}
 use Rattle.rv_recording.specs.Recording.{RecordingState}
 use Rattle.rv_recording.specs.Until.{HasRun}
-use Rattle.rv_recording.specs.Support.Refused.{IsRefusedIn}
+use Rattle.rv_recording.specs.Refused.{IsRefusedIn}
 use Rattle.rv_recording.specs.Out.{open_at, out_ends}
 use Rattle.rv_recording.specs.Support.Steps.{StepsOut, TakesOne, end_after, end_before, next_of, open_of_step}
 use Rattle.rv_recording.specs.declared.until.End.{End}

@@ -8,7 +8,7 @@ use Rattle.rv_monitor.specs.Events.{events_of}
 use Rattle.rv_monitor.specs.Laws.{IsReached}
 use Rattle.rv_monitor.specs.State.{SessionState, after}
 use Rattle.rv_monitor.specs.Stops.{Took}
-use Rattle.rv_monitor.specs.Support.Resumed.{resumed, resumed_at}
+use Rattle.rv_monitor.specs.Resumed.{resumed, resumed_at}
 use Rattle.rv_monitor.proofs.Resumed.{resumed_back}
 use Rattle.rv_recording.specs.Recording.{RecordingState, first_board, gone_back}
 

@@ -12,7 +12,7 @@ use Rattle.rv_monitor.proofs.Steps.{after_none, after_more}
 use Rattle.rv_hart.specs.Step.{step}
 use Rattle.rv_recording.specs.Recording.{RecordingState, with_timed}
 use Rattle.rv_recording.specs.Until.{HasRun, comes, end_at, holds, steps_of, until_ends}
-use Rattle.rv_recording.specs.Support.Refused.{IsRefusedIn, NoneEnds}
+use Rattle.rv_recording.specs.Refused.{IsRefusedIn, NoneEnds}
 use Rattle.rv_recording.specs.Support.Steps.{TakesOne, end_after, end_before, end_of_step, next_of}
 use Rattle.rv_recording.specs.declared.until.Condition.{Condition}
 use Rattle.rv_recording.specs.declared.until.End.{End}

@@ -21,7 +21,7 @@ use Rattle.rv_monitor.specs.Commands.{Leaves, LeavesRefused}
 use Rattle.rv_monitor.specs.Support.TimedCalls.{going_for}
 use Rattle.rv_monitor.specs.Events.{events_of}
 use Rattle.rv_monitor.specs.Laws.{IsReached}
-use Rattle.rv_monitor.specs.Support.Resumed.{resumed, resumed_at}
+use Rattle.rv_monitor.specs.Resumed.{resumed, resumed_at}
 use Rattle.rv_monitor.specs.State.{Addresses, SessionState, TimedState, begun, after, with_due, given, with_break, without_break}
 use Rattle.rv_monitor.specs.State as monitor
 use Rattle.rv_monitor.specs.Stops.{Took, WasRefused, TakesStep}

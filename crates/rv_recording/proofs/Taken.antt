@@ -12,7 +12,7 @@ use Rattle.rv_monitor.specs.Stops.{Took, WasRefused, steps_between, stop_after, 
 use Rattle.rv_monitor.specs.declared.stop.Stop.{Stop}
 use Rattle.rv_monitor.specs.declared.stop.Stop.TheVariants as stopped
 use Rattle.rv_recording.specs.Until.{HasRun, end_at, steps_of}
-use Rattle.rv_recording.specs.Support.Refused.{IsRefusedIn, NoneEnds}
+use Rattle.rv_recording.specs.Refused.{IsRefusedIn, NoneEnds}
 use Rattle.rv_recording.specs.Support.Steps.{end_by}
 use Rattle.rv_recording.specs.declared.until.End.{End}
 use Rattle.rv_recording.specs.declared.until.End.TheVariants.{Halted, Reached, Breakpoint, Limit, Stuck}

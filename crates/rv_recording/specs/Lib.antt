@@ -1,5 +1,6 @@
 pub mod Breaks
 pub mod Out
 pub mod Recording
+pub mod Refused
 pub mod Support
 pub mod Until

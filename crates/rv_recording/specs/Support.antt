@@ -2,5 +2,4 @@
 pub mod Kept
 pub mod Nearer
 pub mod Recorded
-pub mod Refused
 pub mod Steps

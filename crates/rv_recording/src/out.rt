@@ -8,7 +8,7 @@ ghost use Rattle.rv_monitor.specs.Stops.{steps_between};
 ghost use Rattle.rv_monitor.specs.Views.{word_at};
 ghost use Rattle.rv_recording.specs.Out.{open_after, open_at, out_ends};
 ghost use Rattle.rv_recording.specs.Until.{HasRun};
-ghost use Rattle.rv_recording.specs.Support.Refused.{IsRefusedIn};
+ghost use Rattle.rv_recording.specs.Refused.{IsRefusedIn};
 ghost use Rattle.rv_recording.specs.Support.Steps.{StepsOut, after_call, end_after};
 
 use crate::Recording;

@@ -8,7 +8,7 @@ ghost use Rattle.rv_timeline.specs.Timed.{never_falls, IsRead};
 ghost use Rattle.rv_monitor.specs.Commands.{Leaves, LeavesRefused, answer, command_in};
 ghost use Rattle.rv_monitor.specs.Events.{events_of};
 ghost use Rattle.rv_monitor.specs.Laws.{IsReached};
-ghost use Rattle.rv_monitor.specs.Support.Room.{LacksRoom, NextWantsRoom};
+ghost use Rattle.rv_monitor.specs.Room.{LacksRoom, NextWantsRoom};
 ghost use Rattle.rv_monitor.specs.State.{given, with_break, without_break};
 ghost use Rattle.rv_monitor.specs.Stops.{Took, WasRefused, stop_of, TakesStep};
 ghost use Rattle.rv_recording.specs.Recording.{first_board, gone_back, last_step, with_timed};

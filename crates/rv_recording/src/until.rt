@@ -2,7 +2,7 @@
 ghost use Rattle.std.specs.Prelude.{◌≡◌, IfOk, OnErr, if◌then◌else◌, nat_lt};
 ghost use Rattle.rv_isa.specs.Alu.{is_taken};
 ghost use Rattle.rv_recording.specs.Until.{HasRun, break_ends, holds, step_ends, until_ends, watched_value};
-ghost use Rattle.rv_recording.specs.Support.Refused.{IsRefusedIn};
+ghost use Rattle.rv_recording.specs.Refused.{IsRefusedIn};
 ghost use Rattle.rv_recording.specs.Support.Steps.{TakesOne, end_after, end_before, end_by, end_of_step};
 
 use crate::Recording;

@@ -7,13 +7,16 @@ use Rattle.rv_base.specs.Registers.{Register}
 use Rattle.rv_isa.specs.declared.op.Width.{Width}
 use Rattle.rv_isa.specs.Width.{bytes_of}
 use Rattle.rv_ram.specs.Bytes.{put, value_at}
+use Rattle.rv_ram.specs.Room.{RoomRule}
 use Rattle.rv_plic.specs.Plic.{plic_register}
 use Rattle.rv_mmio.specs.Timer.{timer_register}
 use Rattle.rv_mmio.specs.Halt.{halted_by}
+use Rattle.rv_mmio.specs.Room as console
 use Rattle.rv_mmio.specs.declared.serial.SerialReg.TheVariants.{Tx}
 use Rattle.rv_bus.specs.State.{BusState}
 use Rattle.rv_bus.specs.Access.{keeps_stores}
 use Rattle.rv_bus.specs.Access as access
+use Rattle.rv_bus.specs.Room.{wants_room}
 use Rattle.rv_bus.specs.Table.{serial_at}
 use Rattle.rv_bus.specs.Support.Locations.{has, location_of}
 use Rattle.rv_bus.specs.declared.locations.Location.{Location}
@@ -57,6 +60,12 @@ is_written (Ram off) = true
 is_written (Serial Tx) = true
 is_written p = false
 
+-- whether a store at a location may have to make room: in the memory, by its rule, or in the console
+abbrev pub wants_room_at : RoomRule → BusState → Location → Width → ℕ → Bool
+wants_room_at rule b (Ram off) w v = rule b.ram off w v
+wants_room_at rule b (Serial reg) w v = console.wants_room b.serial reg
+wants_room_at rule b p w v = false
+
 -- the word that a fetch returns
 abbrev pub fetch_at : List ℕ → Location → Option ℕ
 fetch_at ram (Ram off) = Some (value_at ram off 4)
@@ -67,4 +76,5 @@ pub record IsFor (b : BusState) (a : ℕ) (w : Width) (p : Location) : Type 0 wh
   pub load : access.load b a w ≡ load_at b p w
   pub store : (v : ℕ) → access.store b a w v ≡ store_at b p w v
   pub writes : keeps_stores b a ≡ is_written p
+  pub room : (rule : RoomRule) (v : ℕ) → wants_room rule b a w v ≡ wants_room_at rule b p w v
   pub fetch : access.fetch b.ram a ≡ fetch_at b.ram p

@@ -13,7 +13,7 @@ use Rattle.rv_board.specs.declared.event.TrapRecord.{TrapRecord}
 use Rattle.rv_monitor.specs.Views.{byte_at_offset, word_at}
 use Rattle.rv_base.specs.Tables.{lookup}
 use Rattle.rv_isa.specs.Names.{register_names}
-use Rattle.rv_operands.specs.Support.Words.{only_of}
+use Rattle.rv_operands.specs.Operands.{only_of}
 use Rattle.rv_asm.specs.Lines.{Listed, bytes_of}
 use Rattle.rv_lab.specs.Lines.{bytes_at, line_at}
 use Rattle.rv_lab.specs.State.{LabState, board, listing}

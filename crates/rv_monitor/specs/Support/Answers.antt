@@ -1,14 +1,14 @@
 -- Not to audit: private contracts alone cite this.
 -- The outcome of a command: the session that it leaves, and the text with its answer.
 use Rattle.std.specs.Prelude.{◌≡◌, ℕ, List, ◌++◌, Option, Some, Result, Ok, Err}
-use Rattle.rv_ram.specs.Support.Room.{RoomRule}
+use Rattle.rv_ram.specs.Room.{RoomRule}
 use Rattle.rv_commands.specs.declared.command.Command.{Command}
 use Rattle.rv_commands.specs.declared.command.Command.TheVariants.{Quit}
 use Rattle.rv_monitor.specs.declared.command.Next.{Next}
 use Rattle.rv_monitor.specs.declared.command.Next.TheVariants as next
 use Rattle.rv_monitor.specs.State.{SessionState}
 use Rattle.rv_monitor.specs.Commands.{Leaves, LeavesRefused, answer}
-use Rattle.rv_monitor.specs.Support.Room.{LacksRoom}
+use Rattle.rv_monitor.specs.Room.{LacksRoom}
 
 -- whether commands follow a command
 abbrev pub next_of : Option Command → Next

@@ -2,7 +2,7 @@
 -- Not to audit: private contracts alone cite this.
 use Rattle.std.specs.Prelude.{◌≡◌, ℕ, ◌<◌, Option, None}
 use Rattle.rv_board.specs.Support.State.{BoardState}
-use Rattle.rv_board.specs.Support.PlainSteps.{after_steps}
+use Rattle.rv_board.specs.PlainSteps.{after_steps}
 use Rattle.rv_monitor.specs.State.{Addresses}
 use Rattle.rv_monitor.specs.Stops.{stop_after}
 use Rattle.rv_monitor.specs.declared.stop.Stop.{Stop}

@@ -1,6 +1,6 @@
 //! The line of pending edges.
 ghost use Rattle.std.specs.Prelude.{◌≡◌, ◌++◌, ◌+◌, ◌<◌, OnOk, OnErr, vec_len, vec_capacity};
-ghost use Rattle.rv_monitor.specs.Support.Room.{edges_room};
+ghost use Rattle.rv_monitor.specs.Room.{edges_room};
 ghost use Rattle.rv_monitor.specs.Views.{edges_text};
 
 use itoa::Buffer;

@@ -1,7 +1,7 @@
 //! The dump of a range of memory, and the line of an instruction in memory.
 ghost use Rattle.std.specs.Prelude.{◌≡◌, ◌++◌, ◌+◌, ◌-◌, ◌*◌, ◌%◌, ◌^◌, ◌<◌, ◌≤◌, codes, min, OnOk, OnErr, vec_len, vec_capacity};
 ghost use Rattle.rv_monitor.specs.Support.Growth.{GrewBy};
-ghost use Rattle.rv_monitor.specs.Support.Room.{memory_room, instruction_room};
+ghost use Rattle.rv_monitor.specs.Room.{memory_room, instruction_room};
 ghost use Rattle.rv_monitor.specs.Support.Labels.{byte_in_line, byte_text, memory_line, word_text};
 ghost use Rattle.rv_monitor.specs.Views.{pieces, byte_at_offset, memory_text, word_at, instruction_text};
 

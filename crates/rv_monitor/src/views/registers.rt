@@ -5,7 +5,7 @@ ghost use Rattle.rv_isa.specs.Names.{csr_names};
 ghost use Rattle.rv_board.specs.Support.State.{csr_of};
 ghost use Rattle.rv_pmp.specs.Mode.{is_machine};
 ghost use Rattle.rv_monitor.specs.Support.Growth.{GrewBy};
-ghost use Rattle.rv_monitor.specs.Support.Room.{registers_room, control_register_room};
+ghost use Rattle.rv_monitor.specs.Room.{registers_room, control_register_room};
 ghost use Rattle.rv_monitor.specs.Views.{pieces, registers_text, control_register_text, register_in_line};
 ghost use Rattle.rv_base.specs.Digits.{hex};
 ghost use Rattle.rv_monitor.specs.Support.Numbers.{two_decimals};

@@ -1,6 +1,6 @@
 //! The line of a stop.
 ghost use Rattle.std.specs.Prelude.{◌≡◌, ◌++◌, ◌+◌, ◌≤◌, IsOk, OnOk, OnErr, vec_len, vec_capacity};
-ghost use Rattle.rv_monitor.specs.Support.Room.{stop_room};
+ghost use Rattle.rv_monitor.specs.Room.{stop_room};
 ghost use Rattle.rv_monitor.specs.Views.{stop_text};
 
 use super::registers::append_place;

@@ -1,7 +1,7 @@
 //! The lines of the last traps.
 ghost use Rattle.std.specs.Prelude.{◌≡◌, ◌++◌, ◌+◌, ◌*◌, ◌<◌, ◌≤◌, length, OnOk, OnErr, vec_len, vec_capacity};
 ghost use Rattle.rv_monitor.specs.Support.Growth.{GrewBy};
-ghost use Rattle.rv_monitor.specs.Support.Room.{traps_room};
+ghost use Rattle.rv_monitor.specs.Room.{traps_room};
 ghost use Rattle.rv_monitor.specs.Support.Labels.{labelled};
 ghost use Rattle.std.specs.List.{flat_map};
 ghost use Rattle.rv_monitor.specs.Views.{trap_text};

@@ -1,5 +1,5 @@
 -- Not to audit: private contracts alone cite this.
--- The only one of some words, and inputs that are read one after the other.
+-- Sums, and inputs that are read one after the other.
 use Rattle.std.specs.Prelude.{◌≡◌, ℕ, Bool, true, false, List, [], ◌∷◌, ◌++◌, codes, map, drop, take, length, ◌-◌, ◌==◌, ◌||◌, slice_index, if◌then◌else◌, option_and_then, Option, Some, None}
 use Rattle.std.specs.Option.{option_map, option_map_or, option_or}
 use Rattle.std.specs.List.{prefix_len, suffix_len}
@@ -17,10 +17,6 @@ use Rattle.rv_board.specs.Support.State.{BoardState, pc_of}
 use Rattle.rv_commands.specs.Addresses.{address_of}
 use Rattle.rv_isa.specs.Names.{register_names}
 use Rattle.rv_program.specs.Program.{value_of}
-
-abbrev pub only_of : List (List ℕ) → Option (List ℕ)
-only_of (word ∷ []) = Some word
-only_of _ = None
 
 -- the signs of a sum
 abbrev pub is_sign : ℕ → Bool

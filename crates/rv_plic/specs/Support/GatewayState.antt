@@ -5,6 +5,7 @@ use Rattle.std.specs.List.{range_with_len}
 use Rattle.std.specs.FinSet.{empty, insert, remove, union, difference, contains}
 use Rattle.rv_plic.specs.Sources.{Sources}
 use Rattle.rv_plic.specs.Gateways.{PlicState, is_by_edge, edges_of, one_more, asking_sources}
+use Rattle.rv_plic.specs.Withdrawn.{with_more_edges}
 
 -- the number of pending edges of each source from 24 on
 abbrev pub Edges : Type 0
@@ -58,6 +59,14 @@ after_requests gateways pending =
     record gateways {
       outstanding = union gateways.outstanding (gateway_requests gateways pending);
       edges = taken (gateway_requests gateways pending) gateways.edges;
+    }
+
+-- the gateways before they forwarded the requests of these sources
+abbrev pub withdrawn_gateways : GatewayState → Sources → GatewayState
+withdrawn_gateways gateways sources =
+    record gateways {
+      outstanding = difference gateways.outstanding sources;
+      edges = with_more_edges gateways.edges sources;
     }
 
 -- the gateways after the request of a source is completed

@@ -6,6 +6,7 @@ use Rattle.rv_pmp.specs.declared.entry.Matching.{Matching}
 use Rattle.rv_pmp.specs.declared.entry.Matching.TheVariants.{Off, Tor, Na4, Napot}
 use Rattle.rv_pmp.specs.declared.span.Span.{Span}
 use Rattle.rv_pmp.specs.Entry.{trailing_ones}
+pub use Rattle.rv_pmp.specs.Widest.{holds}
 
 -- whether a byte is one of those from `first` up to but not including `end`
 abbrev pub is_between : ℕ → ℕ → ℕ → Bool
@@ -13,10 +14,6 @@ is_between first end byte = nat_le first byte && nat_lt byte end
 
 abbrev pub no_bytes : Span
 no_bytes = record { first = 0; end = 0 }
-
--- whether all bytes from `first` up to but not including `end` are in the span
-abbrev pub holds : Span → ℕ → ℕ → Bool
-holds span first end = nat_le span.first first && nat_le end span.end
 
 -- whether any of these bytes is in the span
 abbrev pub meets : Span → ℕ → ℕ → Bool

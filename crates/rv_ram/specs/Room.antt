@@ -1,5 +1,5 @@
--- Not to audit: only the clauses `room` cite this, which say where a write may be refused.
--- Which writes into a memory may have to make room.
+-- Which writes into a memory may have to make room, and so may be out of memory.
+-- To audit: public contracts cite this.
 use Rattle.std.specs.Prelude.{ℕ, Bool, List}
 use Rattle.rv_isa.specs.declared.op.Width.{Width}
 

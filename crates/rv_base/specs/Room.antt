@@ -1,5 +1,5 @@
--- Not to audit: only what asks for room and private contracts cite this.
 -- Texts with room: the bytes that a text may still grow by without asking the allocator.
+-- To audit: public contracts cite this.
 use Rattle.std.specs.Prelude.{◌≡◌, ℕ, ◌+◌, ◌≤◌, List, ◌++◌, length, Vec, vec_len, vec_capacity}
 
 -- the text has room for a piece

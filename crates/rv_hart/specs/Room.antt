@@ -1,16 +1,15 @@
 -- Steps that store where room may have to be made: in the memory, by its rule, or in the console.
--- Not to audit: only the clauses `room` cite this, which say where a step may be refused.
+-- To audit: public contracts cite this.
 use Rattle.std.specs.Prelude.{ℕ, Bool, false, ◌%◌, ◌==◌, ◌&&◌, Result, Ok, Err}
 use Rattle.rv_isa.specs.Width.{bytes_of}
 use Rattle.rv_isa.specs.declared.op.Width.{Width}
 use Rattle.rv_isa.specs.declared.kind.Kind.{Kind}
 use Rattle.rv_isa.specs.declared.kind.Kind.TheVariants.{Store}
 use Rattle.rv_pmp.specs.declared.access.Access.TheVariants as access
-use Rattle.rv_ram.specs.Support.Room.{RoomRule}
-use Rattle.rv_bus.specs.Support.Room as bus
+use Rattle.rv_ram.specs.Room.{RoomRule}
+use Rattle.rv_bus.specs.Room as bus
 use Rattle.rv_hart.specs.State.{Machine}
-use Rattle.rv_hart.specs.Effect.{plus, reg}
-use Rattle.rv_hart.specs.Support.EffectParts.{may_access}
+use Rattle.rv_hart.specs.Effect.{may_access, plus, reg}
 use Rattle.rv_hart.specs.Step.{fetched, ticked}
 use Rattle.rv_hart.specs.declared.trap.Trap.{Trap}
 

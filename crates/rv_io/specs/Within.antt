@@ -1,5 +1,5 @@
 -- How far a reader is read: that a text is too long shows once a buffer of it was read.
--- Not to audit: only the clauses `within` cite this, which say how much of such a text is read.
+-- To audit: public contracts cite this.
 use Rattle.std.specs.Prelude.{◌+◌, ◌≤◌, ℕ, List, IfSome, length}
 use Rattle.std.specs.Io.KnownBytes.{Consumes}
 use Rattle.rv_base.specs.Limits.{text_limit}

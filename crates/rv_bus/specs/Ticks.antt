@@ -1,11 +1,11 @@
--- Not to audit: only the calls by which a tick is undone cite this, and their clauses say what they restore.
--- A tick, and what is kept of the bus to undo it.
+-- A tick of time on the bus, and what is kept to undo it.
+-- To audit: public contracts cite this.
 use Rattle.std.specs.Prelude.{ℕ}
 use Rattle.rv_plic.specs.Gateways.{requests}
 use Rattle.rv_plic.specs.Plic.{PlicState}
 use Rattle.rv_plic.specs.Plic as plic
 use Rattle.rv_plic.specs.Sources.{Sources}
-use Rattle.rv_plic.specs.Support.Withdrawn.{withdrawn}
+use Rattle.rv_plic.specs.Withdrawn.{withdrawn}
 use Rattle.rv_mmio.specs.Timer.{TimerState, timer_ticked}
 use Rattle.rv_bus.specs.State.{BusState}
 

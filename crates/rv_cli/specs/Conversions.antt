@@ -1,5 +1,5 @@
 -- The faults of a run by the errors of its parts.
--- Not to audit: `?` takes these steps, and `Runs` says of each fault when it comes.
+-- To audit: public contracts cite this.
 use Rattle.rv_board.specs.declared.event.BootFault.{BootFault}
 use Rattle.rv_board.specs.declared.event.BootFault.TheVariants as boot_fault
 use Rattle.rv_monitor.specs.declared.opening.OpenFault.{OpenFault}

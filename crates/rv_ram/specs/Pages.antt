@@ -1,5 +1,5 @@
 -- The pages of a memory, each of 4096 bytes (own definition; docs/ARCHITECTURE.md).
--- Not to audit: only clauses that say where memory is allocated cite this.
+-- To audit: public contracts cite this.
 use Rattle.std.specs.Prelude.{ℕ, ◌*◌, ◌/◌, ◌%◌, ◌==◌, ◌&&◌, ◌||◌, not, Bool, false, List, take, drop, replicate, slice_index_or, slice_set}
 use Rattle.std.specs.List.{list_all}
 use Rattle.rv_isa.specs.declared.op.Width.{Width}

@@ -1,6 +1,5 @@
 -- Why no session is opened, by the errors of its parts.
--- Not to audit: `?` takes these steps from the errors of the parts to the one of the opening, and the promise
--- of `open_session` says of each of those when it comes.
+-- To audit: public contracts cite this.
 use Rattle.rv_board.specs.declared.event.BootFault.{BootFault}
 use Rattle.rv_board.specs.declared.event.BootFault.TheVariants as boot
 use Rattle.rv_timeline.specs.declared.fault.TimelineFault.{TimelineFault}

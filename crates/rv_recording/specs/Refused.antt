@@ -1,5 +1,5 @@
--- Not to audit: machinery between layers, as bursts. The lab's callers are told of refused runs by `RunsOut`.
 -- A run that ran out of memory.
+-- To audit: public contracts cite this.
 use Rattle.std.specs.Prelude.{◌≡◌, ℕ, ◌<◌, true, Option, None}
 use Rattle.rv_board.specs.Move.{writes}
 use Rattle.rv_board.specs.declared.event.Event.TheVariants.{Step}

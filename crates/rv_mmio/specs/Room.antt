@@ -1,5 +1,5 @@
--- Not to audit: only the clauses `room` cite this, which say where a store may be refused.
--- The room of the console.
+-- The stores to the serial port that may have to make room for the console, and so may be out of memory.
+-- To audit: public contracts cite this.
 use Rattle.std.specs.Prelude.{Bool, false, ◌%◌, ◌==◌, length}
 use Rattle.rv_mmio.specs.Serial.{SerialState}
 use Rattle.rv_mmio.specs.declared.serial.SerialReg.{SerialReg}

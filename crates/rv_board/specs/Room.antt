@@ -1,10 +1,10 @@
 -- Events for which room may have to be made: steps that retire a store for which the memory, by its rule, or
 -- the console may have no room left.
--- Not to audit: only the clauses `room` cite this, which say where an event may be refused.
+-- To audit: public contracts cite this.
 use Rattle.std.specs.Prelude.{◌≡◌, ℕ, Bool, true, false, List, slice_get, Option, Some, None}
-use Rattle.rv_ram.specs.Support.Room.{RoomRule}
-use Rattle.rv_hart.specs.Support.Room as hart
-use Rattle.rv_board.specs.Support.State.{BoardState}
+use Rattle.rv_ram.specs.Room.{RoomRule}
+use Rattle.rv_hart.specs.Room as hart
+use Rattle.rv_board.specs.BoardState.{BoardState}
 use Rattle.rv_board.specs.Move.{writes}
 use Rattle.rv_board.specs.declared.event.Event.{Event}
 use Rattle.rv_board.specs.declared.event.Event.TheVariants.{Step}

@@ -1,15 +1,14 @@
 -- The largest number of bytes that the answer of a command may have (this project's own: docs/MONITOR.md),
 -- and the steps for which room may have to be made.
--- Not to audit: only the clauses `room` cite this, which say when a call may be refused.
-use Rattle.std.specs.Prelude.{◌≡◌, ◌⊎◌, ℕ, ◌+◌, ◌*◌, ◌<◌, true, false, List, length, Option, Some, None}
+-- To audit: public contracts cite this.
+use Rattle.std.specs.Prelude.{◌≡◌, ◌⊎◌, ℕ, ◌+◌, ◌*◌, ◌<◌, true, false, List, length, Option, Some, None, unwrap_or}
 use Rattle.std.specs.FinSet as set
 use Rattle.std.specs.Int.{div_ceil}
-use Rattle.rv_ram.specs.Support.Room.{RoomRule}
-use Rattle.rv_board.specs.Support.Room.{wants_room}
+use Rattle.rv_ram.specs.Room.{RoomRule}
+use Rattle.rv_board.specs.Room.{wants_room}
 use Rattle.rv_board.specs.declared.event.Event.TheVariants as event
 use Rattle.rv_commands.specs.declared.command.Command.{Command}
 use Rattle.rv_commands.specs.declared.command.Command.TheVariants.{Step, Go, SetBreak, ClearBreak, Registers, ControlRegister, Memory, Instruction, Traps, Edges, Quit, Nothing}
-use Rattle.rv_monitor.specs.Support.TimedCalls.{going_for}
 use Rattle.rv_monitor.specs.State.{SessionState}
 use Rattle.rv_monitor.specs.Stops.{WasRefused}
 
@@ -72,7 +71,7 @@ LacksRoom rule (Some (Step n)) room old new =
     ⊎ (WasRefused set.empty n old new × NextWantsRoom rule new)
 LacksRoom rule (Some (Go n)) room old new =
     ((room < longest (Some (Go n)) old) × (new ≡ old))
-    ⊎ (WasRefused old.breakpoints.addresses (going_for old n) old new × NextWantsRoom rule new)
+    ⊎ (WasRefused old.breakpoints.addresses (unwrap_or n old.limit) old new × NextWantsRoom rule new)
 LacksRoom rule (Some (SetBreak addr)) room old new =
     (room < longest (Some (SetBreak addr)) old)
     ⊎ ((set.contains old.breakpoints.addresses addr ≡ false) × (old.breakpoints.room ≡ 0))

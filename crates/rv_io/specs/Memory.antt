@@ -1,5 +1,5 @@
 -- Readers and writers over memory and over the standard library.
--- Not to audit: the contracts that name these fields read without them, and no promise of a run needs them.
+-- To audit: public contracts cite this.
 use Rattle.std.specs.Prelude.{ℕ, Bool, List, Option, Some, None, zero, suc}
 
 -- a reader or a writer over memory: its bytes (those left to a reader, those written to a writer), the most

@@ -1,5 +1,5 @@
 -- The control registers of commands.
--- Not to audit: it follows from the command of a line, and callers' proofs use it.
+-- To audit: public contracts cite this.
 use Rattle.std.specs.Prelude.{◌≡◌, ⊤, Some}
 use Rattle.rv_base.specs.Tables.{lookup}
 use Rattle.rv_isa.specs.Names.{csr_names}

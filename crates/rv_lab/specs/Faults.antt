@@ -1,5 +1,5 @@
 -- Why there is no lab, by the errors of its parts.
--- Not to audit: `?` takes these steps, and `OpensLab` says of each fault when it comes.
+-- To audit: public contracts cite this.
 use Rattle.rv_monitor.specs.declared.opening.OpenFault.{OpenFault}
 use Rattle.rv_monitor.specs.declared.opening.OpenFault.TheVariants as opening
 use Rattle.rv_program.specs.declared.fault.AsmFault.{AsmFault}

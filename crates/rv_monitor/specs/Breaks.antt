@@ -1,8 +1,7 @@
 -- The breakpoints of a session, with the number of places for more of them that don't ask the allocator.
--- Not to audit: a reader needs the addresses alone, and the law `breakpoints_are_a_set` says what becomes of
--- those. Only clauses that say where memory may run out cite the room.
-use Rattle.std.specs.Prelude.{ℕ, ◌-◌, ◌==◌, if◌then◌else◌, nat_lt, Option, Some, None}
-use Rattle.std.specs.Borrow.{Bor}
+-- To audit: public contracts cite this.
+-- The law `breakpoints_are_a_set` says what becomes of the addresses; the room says where memory may run out.
+use Rattle.std.specs.Prelude.{ℕ, ◌-◌, ◌==◌, if◌then◌else◌, nat_lt}
 use Rattle.std.specs.FinSet as set
 use Rattle.std.specs.FinSet.{FinSet}
 use Rattle.std.specs.Ordering.{nat_cmp}
@@ -36,8 +35,3 @@ with_address b address = with_addresses b (set.insert b.addresses address)
 
 abbrev pub without_address : Breaks → ℕ → Breaks
 without_address b address = with_addresses b (set.remove b.addresses address)
-
--- the addresses at which a call stops: none where it is given no breakpoints
-abbrev pub addresses_of : Option (Bor Breaks) → FinSet nat_cmp
-addresses_of None = set.empty
-addresses_of (Some breakpoints) = breakpoints.now.addresses

@@ -1,7 +1,7 @@
--- Not to audit: only `Session::resume` cites this, the way to what `Recording::go_back` promises.
 -- A session that goes on from a board which has taken some of its steps.
+-- To audit: public contracts cite this.
 use Rattle.std.specs.Prelude.{ℕ, List}
-use Rattle.rv_board.specs.Support.State.{BoardState}
+use Rattle.rv_board.specs.BoardState.{BoardState}
 use Rattle.rv_timeline.specs.declared.input.TimedInput.{TimedInput}
 use Rattle.rv_monitor.specs.State.{TimedState, SessionState, count_before}
 
