@@ -1,19 +1,16 @@
--- The form of a line is that of its labels and its body; and the form of an operand, by its base.
-use Rattle.std.proofs.Common.{◌≡◌, ℕ, ◌-◌, Bool, true, false, cond, List, [], ◌∷◌, length, take, drop, refl, sym, subst, ap, ◌∙◌}
+-- The form of a line is that of its labels and its body.
+use Rattle.std.proofs.Common.{◌≡◌, ℕ, Bool, true, false, cond, List, [], ◌∷◌, length, refl, sym, subst, ap, ◌∙◌}
 use Rattle.std.specs.Prelude.{Option, Some, None, option_and_then, Result, Ok, Err}
-use Rattle.std.specs.Option.{option_map, option_or, ok_or}
+use Rattle.std.specs.Option.{option_map, ok_or}
 use Rattle.rv_tokens.specs.declared.token.Token.{Token}
 use Rattle.rv_tokens.specs.declared.token.Token.TheVariants.{Name, Colon}
 use Rattle.rv_tokens.specs.declared.fault.LineFault.{LineFault}
 use Rattle.rv_tokens.specs.declared.fault.LineFault.TheVariants.{Syntax}
 use Rattle.rv_tokens.specs.Support.Cuts.{tokens}
 use Rattle.rv_tokens.specs.Faults.{◌>>=◌, Gives}
-use Rattle.rv_tokens.specs.declared.token.Token.TheVariants as tok
-use Rattle.rv_source.specs.declared.operand.Form.{Form as Spelled}
-use Rattle.rv_source.specs.Operands.{form_with, form_of}
 use Rattle.rv_source.specs.declared.line.Label.{Label}
 use Rattle.rv_source.specs.declared.line.Body.{Body}
-use Rattle.rv_source.specs.Support.Partial.{base_of, form_by_base, labels_of, body_of, form_by_parts}
+use Rattle.rv_source.specs.Support.Partial.{labels_of, body_of, form_by_parts}
 use Rattle.rv_source.specs.Reading.{label_of, form, line_form}
 
 abbrev Form : Type 0
@@ -75,15 +72,3 @@ as_line_form line r h = subst (λ m. Gives (λ l. l) r m) (line_form_is line) h
 
 pub as_read : (line : List ℕ) (l : Form) → form_by_parts line ≡ Ok l → line_form line ≡ Ok l
 as_read line l h = sym (line_form_is line) ∙ h
-
--- ---- operands
-
-base_is : (us ts : List Token) → option_and_then (λ name. form_with (Some name) us) (base_of ts)
-    ≡ elim ts as (λ _. Option Spelled) [ tok.Open ∷ tok.Name name ∷ tok.Close ∷ [] ↦ form_with (Some name) us | _ ↦ None ]
-base_is us (tok.Open ∷ tok.Name name ∷ tok.Close ∷ []) = refl
-base_is us ts = refl
-
-pub as_form_of : (ts : List Token) (o : Option Spelled) → o ≡ form_by_base ts → o ≡ form_of ts
-unfolding form_of
-as_form_of ts o e =
-    let n = length ts - 3 in e ∙ ap (option_or (form_with None ts)) (base_is (take n ts) (drop n ts))

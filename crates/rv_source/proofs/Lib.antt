@@ -1,4 +1,5 @@
 mod Forms
+mod OneForm
 mod OneValue
 pub mod Parsed
 pub mod Pieces

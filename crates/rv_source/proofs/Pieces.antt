@@ -10,7 +10,8 @@ use Rattle.std.proofs.lemmas.List.Sums.{prefix_len-le-length}
 use Rattle.rv_tokens.specs.declared.token.Token.{Token}
 use Rattle.rv_source.specs.declared.operand.Form.{Form}
 use Rattle.rv_source.specs.declared.operand.Operand.{Operand}
-use Rattle.rv_source.specs.Operands.{form_of, is_comma, operands}
+use Rattle.rv_source.specs.Operands.{is_comma, operands}
+use Rattle.rv_source.specs.Support.Forms.{form_of}
 use Rattle.rv_source.specs.Support.Partial.{pieces, pieces_after}
 
 -- the number of tokens before the first comma

@@ -26,6 +26,10 @@ piece_of _ = p.Other
 abbrev pub term : Bool → Atom → Term
 term sign atom = record { negative = sign; atom = atom }
 
+-- 0 alone
+abbrev pub zero : List Term
+zero = term false (a.Number 0) ∷ []
+
 -- A sum is an atom with one sign or none, or a sum, one sign or two, and an atom. Two signs are together a
 -- minus if just one of them is. `expression` gives E, the sum that tokens as a whole spell, and None where they
 -- spell none: the law `one_value`.

@@ -65,23 +65,23 @@ base (f.Value part e (Some name)) = lookup name register_names
 base _ = None
 
 -- the fields with an operand in its role; the value of the last roles is waited for
-unfoldable pub put : Role → Operand → Fields → Option Fields
-put r.Rd x fields = option_map (λ n. record fields { rd = n }) (entry_in register_names x)
-put r.Rs1 x fields = option_map (λ n. record fields { rs1 = n }) (entry_in register_names x)
-put r.Rs2 x fields = option_map (λ n. record fields { rs2 = n }) (entry_in register_names x)
-put r.Both x fields = option_map (λ n. record fields { rd = n; rs1 = n }) (entry_in register_names x)
-put r.Csr x fields = option_map (λ n. record fields { csr = n }) (option_and_then csr_of (atom_alone x))
-put r.Before x fields = option_map (λ n. record fields { before = n }) (entry_in fence_sets x)
-put r.After x fields = option_map (λ n. record fields { after = n }) (entry_in fence_sets x)
-put r.Memory x fields = option_map (λ n. record fields { rs1 = n; value = Some x }) (base x.form)
-put r.Symbol x fields = option_map (λ n. record fields { value = Some x }) (name_in (atom_alone x))
-put r.Second x fields = if takes r.Second x.form then Some (record fields { second = Some x }) else None
-put role x fields = if takes role x.form then Some (record fields { value = Some x }) else None
+unfoldable pub in_role : Role → Operand → Fields → Option Fields
+in_role r.Rd x fields = option_map (λ n. record fields { rd = n }) (entry_in register_names x)
+in_role r.Rs1 x fields = option_map (λ n. record fields { rs1 = n }) (entry_in register_names x)
+in_role r.Rs2 x fields = option_map (λ n. record fields { rs2 = n }) (entry_in register_names x)
+in_role r.Both x fields = option_map (λ n. record fields { rd = n; rs1 = n }) (entry_in register_names x)
+in_role r.Csr x fields = option_map (λ n. record fields { csr = n }) (option_and_then csr_of (atom_alone x))
+in_role r.Before x fields = option_map (λ n. record fields { before = n }) (entry_in fence_sets x)
+in_role r.After x fields = option_map (λ n. record fields { after = n }) (entry_in fence_sets x)
+in_role r.Memory x fields = option_map (λ n. record fields { rs1 = n; value = Some x }) (base x.form)
+in_role r.Symbol x fields = option_map (λ n. record fields { value = Some x }) (name_in (atom_alone x))
+in_role r.Second x fields = if takes r.Second x.form then Some (record fields { second = Some x }) else None
+in_role role x fields = if takes role x.form then Some (record fields { value = Some x }) else None
 
 -- the fields with as many operands as there are roles, each in its role
 unfoldable pub in_roles : List Role → List Operand → Fields → Option Fields
 in_roles [] [] fields = Some fields
-in_roles (role ∷ roles) (x ∷ xs) fields = option_and_then (in_roles roles xs) (put role x fields)
+in_roles (role ∷ roles) (x ∷ xs) fields = option_and_then (in_roles roles xs) (in_role role x fields)
 in_roles _ _ fields = None
 
 -- the fields before operands are read, but for what a row gives; a fence orders all before all after it
@@ -91,13 +91,13 @@ unset = record { rd = 0; rs1 = 0; rs2 = 0; imm = pos 0; csr = 0; before = 15; af
 -- ---- instructions
 
 -- the immediate of an instruction of this kind; 0 where it waits for a value
-abbrev pub immediate : Kind → Fields → ℤ
-immediate (k.OpImm _ _ _ _) f = f.imm
-immediate (k.Csr _ _ _ _) f = pos f.csr
-immediate (k.CsrImm _ _ _ _) f = pos f.csr
-immediate (k.Fence _ _ _) f = pos (16 * f.before + f.after)
-immediate _ f = pos 0
+abbrev pub immediate_of : Kind → Fields → ℤ
+immediate_of (k.OpImm _ _ _ _) f = f.imm
+immediate_of (k.Csr _ _ _ _) f = pos f.csr
+immediate_of (k.CsrImm _ _ _ _) f = pos f.csr
+immediate_of (k.Fence _ _ _) f = pos (16 * f.before + f.after)
+immediate_of _ f = pos 0
 
 -- the instruction of an operation with these fields; the field of a value that it waits for is 0
 unfoldable pub instruction : Operation → Fields → Kind
-instruction operation f = kind_of (with_fields operation f.rd f.rs1 f.rs2 (immediate (zeroed operation) f))
+instruction operation f = kind_of (with_fields operation f.rd f.rs1 f.rs2 (immediate_of (zeroed operation) f))

@@ -1,19 +1,18 @@
 -- The operands that tokens spell.
 -- To audit: public contracts cite this.
 -- The language is this project's own: docs/ASSEMBLER.md.
-use Rattle.std.specs.Prelude.{ℕ, ◌+◌, ◌-◌, Bool, true, false, List, [], ◌∷◌, ◌++◌, take, drop, length, slice_get, is_none, Option, Some, None, option_and_then, if◌then◌else◌}
+use Rattle.std.specs.Prelude.{ℕ, ◌+◌, Bool, true, false, List, [], ◌∷◌, ◌++◌, length, map, slice_get, is_none, Option, Some, None, option_and_then, if◌then◌else◌}
 use Rattle.std.specs.List.{flat_map, slice_split}
-use Rattle.std.specs.Option.{option_map, option_or}
+use Rattle.std.specs.Option.{option_map}
 use Rattle.rv_tokens.specs.declared.token.Token.{Token}
 use Rattle.rv_tokens.specs.declared.token.Token.TheVariants as t
 use Rattle.rv_source.specs.declared.expression.Term.{Term}
-use Rattle.rv_source.specs.declared.expression.Atom.TheVariants as a
-use Rattle.rv_source.specs.declared.operand.Part.{Part}
 use Rattle.rv_source.specs.declared.operand.Part.TheVariants.{Whole, High, Low}
 use Rattle.rv_source.specs.declared.operand.Form.{Form}
 use Rattle.rv_source.specs.declared.operand.Form.TheVariants as f
 use Rattle.rv_source.specs.declared.operand.Operand.{Operand}
-use Rattle.rv_source.specs.Support.Sums.{expression}
+use Rattle.rv_source.specs.Expressions.{IsSum, piece_of, zero}
+use Rattle.rv_source.specs.Support.Forms.{form_of}
 
 abbrev pub is_comma : Token → Bool
 is_comma t.Comma = true
@@ -21,31 +20,28 @@ is_comma _ = false
 
 -- ---- the forms of operands
 
--- the tokens between two brackets around all others
-abbrev pub enclosed : List Token → Option (List Token)
-enclosed (t.Open ∷ ts) =
-    let n = length ts - 1 in
-    elim (drop n ts) as (λ _. Option (List Token)) [ t.Close ∷ [] ↦ Some (take n ts) | _ ↦ None ]
-enclosed _ = None
+-- tokens spell the sum of these terms
+abbrev pub Spells : List Token → List Term → Type 0
+Spells ts e = IsSum (map piece_of ts) e
 
--- a part of E, with a base or none
-abbrev pub valued : Part → Option (List ℕ) → Option (List Token) → Option Form
-valued part base ts = option_map (λ e. f.Value part e base) (option_and_then expression ts)
+-- (name)
+abbrev pub bracketed : List ℕ → List Token
+bracketed name = t.Open ∷ t.Name name ∷ t.Close ∷ []
 
--- an operand without its base, if it has one: a string, %hi(E), %lo(E), E, or 0 if nothing stands before the
--- base
-abbrev pub form_with : Option (List ℕ) → List Token → Option Form
-form_with None (t.Text bytes ∷ []) = Some (f.Text bytes)
-form_with None (t.High ∷ ts) = valued High None (enclosed ts)
-form_with base (t.Low ∷ ts) = valued Low base (enclosed ts)
-form_with (Some name) [] = Some (f.Value Whole (record { negative = false; atom = a.Number 0 } ∷ []) (Some name))
-form_with base ts = valued Whole base (Some ts)
-
--- an operand, which may end in (name), its base
-unfoldable pub form_of : List Token → Option Form
-form_of ts =
-    let n = length ts - 3 in option_or (form_with None ts) (elim (drop n ts) as (λ _. Option Form)
-    [ t.Open ∷ t.Name name ∷ t.Close ∷ [] ↦ form_with (Some name) (take n ts) | _ ↦ None ])
+-- An operand is a string, E, %hi(E) or %lo(E); or it is (name), E(name) or %lo(E)(name), with a name as its base.
+-- `form_of` gives the form of the tokens of an operand, and None where they are none: the law `one_form`.
+pub data IsOperand : List Token → Form → Type 0 where
+  Quoted : (bytes : List ℕ) → IsOperand (t.Text bytes ∷ []) (f.Text bytes)
+  Sum : (ts : List Token) (e : List Term) → Spells ts e → IsOperand ts (f.Value Whole e None)
+  HighPart : (ts : List Token) (e : List Term) → Spells ts e
+      → IsOperand (t.High ∷ t.Open ∷ ts ++ t.Close ∷ []) (f.Value High e None)
+  LowPart : (ts : List Token) (e : List Term) → Spells ts e
+      → IsOperand (t.Low ∷ t.Open ∷ ts ++ t.Close ∷ []) (f.Value Low e None)
+  Base : (name : List ℕ) → IsOperand (bracketed name) (f.Value Whole zero (Some name))
+  SumAndBase : (ts : List Token) (e : List Term) (name : List ℕ) → Spells ts e
+      → IsOperand (ts ++ bracketed name) (f.Value Whole e (Some name))
+  LowPartAndBase : (ts : List Token) (e : List Term) (name : List ℕ) → Spells ts e
+      → IsOperand (t.Low ∷ t.Open ∷ ts ++ t.Close ∷ bracketed name) (f.Value Low e (Some name))
 
 -- ---- the operands of a mnemonic or directive
 

@@ -27,17 +27,17 @@ use Rattle.rv_source.specs.Fields.{atom_alone, name_in, in_roles, unset, instruc
 -- ---- the meaning of a row
 
 -- the statement of a template with these operands, which gave These fields
-unfoldable pub filled : Template → List Operand → Fields → Option Statement
-filled (t.Near op) xs f =
+unfoldable pub of_template : Template → List Operand → Fields → Option Statement
+of_template (t.Near op) xs f =
     let kind = instruction op f in Some (option_map_or (λ x. s.WithValue kind x) f.value (s.Instruction kind))
-filled (t.Far op) xs f = option_map (λ x. s.Far f.rs1 (instruction op f) x) f.value
-filled t.Li xs f = option_map (λ x. s.Li f.rd x) f.value
-filled (t.Data width) xs f = Some (s.Data width xs)
-filled (t.Text terminated) xs f = Some (s.Bytes (strings terminated xs))
-filled t.Space xs f = option_map (λ x. s.Space x f.second) f.value
-filled t.Align xs f = option_map (λ x. s.Align x) f.value
-filled t.Balign xs f = option_map (λ x. s.Balign x) f.value
-filled t.Constant xs f =
+of_template (t.Far op) xs f = option_map (λ x. s.Far f.rs1 (instruction op f) x) f.value
+of_template t.Li xs f = option_map (λ x. s.Li f.rd x) f.value
+of_template (t.Data width) xs f = Some (s.Data width xs)
+of_template (t.Text terminated) xs f = Some (s.Bytes (strings terminated xs))
+of_template t.Space xs f = option_map (λ x. s.Space x f.second) f.value
+of_template t.Align xs f = option_map (λ x. s.Align x) f.value
+of_template t.Balign xs f = option_map (λ x. s.Balign x) f.value
+of_template t.Constant xs f =
     option_and_then (λ n. option_map (s.Constant n) f.second) (name_in (option_and_then atom_alone f.value))
 
 -- a row: as many operands as there are roles, each in its role; or one or more, all of a form that one role takes
@@ -47,10 +47,10 @@ pub data Row : Type 0 where
 
 -- the statement of a row with these operands, or None if it doesn't take them
 abbrev pub meant : Row → List Operand → Option Statement
-meant (These roles template fields) xs = option_and_then (filled template xs) (in_roles roles xs fields)
+meant (These roles template fields) xs = option_and_then (of_template template xs) (in_roles roles xs fields)
 meant (Each role template) xs =
     if is_some (slice_get xs 0) && list_all (λ x. takes role x.form) xs
-    then filled template xs unset else None
+    then of_template template xs unset else None
 
 -- ---- the tables
 

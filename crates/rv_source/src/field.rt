@@ -4,7 +4,7 @@ ghost use Rattle.std.specs.List.{list_all};
 ghost use Rattle.std.specs.Option.{option_map};
 ghost use Rattle.rv_isa.specs.Number.{IsWithin};
 ghost use Rattle.rv_isa.specs.Names.{csr_names, register_names};
-ghost use Rattle.rv_source.specs.Fields.{atom_alone, base, csr_of, entry_in, fence_sets, immediate, in_roles, instruction, put, takes};
+ghost use Rattle.rv_source.specs.Fields.{atom_alone, base, csr_of, entry_in, fence_sets, immediate_of, in_roles, instruction, in_role, takes};
 ghost use Rattle.rv_source.specs.Support.Partial.{given, name_alone};
 ghost use Rattle.rv_base.specs.Tables.{lookup};
 
@@ -166,13 +166,13 @@ fn base(operand: &Operand) -> Option<Reg>
 }
 
 /// Returns the fields with an operand in its role.
-#[tactic(auto, unfolding(crate::specs::Fields::put))]
+#[tactic(auto, unfolding(crate::specs::Fields::in_role))]
 pub fn put<'t, 'a>(
     role: Role,
     operand: &'t Operand<'a>,
     mut fields: Fields<'t, 'a>,
 ) -> Option<Fields<'t, 'a>>
-    ensures { result ≡ put role operand.now fields.entry }
+    ensures { result ≡ in_role role operand.now fields.entry }
 {
     match role {
         Role::Rd => fields.rd = register(operand)?,
@@ -249,7 +249,7 @@ pub fn given<'t, 'a>(fields: Given) -> Fields<'t, 'a>
 
 /// Returns the immediate of an instruction of this kind; 0 where it waits for a value.
 fn immediate(kind: Kind, fields: &Fields) -> i32
-    ensures value { result ≡ immediate kind fields.now }
+    ensures value { result ≡ immediate_of kind fields.now }
     ensures given { IsWithin (2 ^ 11) fields.now.imm }
 {
     let given = i32::from(fields.imm);

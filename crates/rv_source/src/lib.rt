@@ -19,7 +19,7 @@ mod words;
 pub use expression::{Atom, Expression, Term};
 pub use line::{Body, Label, Line, LineForm};
 pub use list::List;
-pub use operand::{Form, Operand, Part};
+pub use operand::{Form, Operand, Part, one_form};
 pub use reader::{label_of, read_line, read_line_form};
 pub use row::Role;
 pub use rv_base::{Cut, cut_lines};

@@ -1,9 +1,12 @@
 //! Reads operands.
-ghost use Rattle.std.specs.Prelude.{◌≡◌, ◌<◌, ◌≤◌, ◌+◌, ◌++◌, ◌∷◌, [], length, IfOk, IfSome, Some, None, if◌then◌else◌};
+ghost use Rattle.std.specs.Prelude.{List, ◌↔◌, ◌≡◌, ◌<◌, ◌≤◌, ◌+◌, ◌++◌, ◌∷◌, [], length, IfOk, IfSome, Some, None, if◌then◌else◌};
 ghost use Rattle.std.specs.Option.{option_map};
 ghost use Rattle.std.specs.List.{position};
-ghost use Rattle.rv_source.specs.Operands.{enclosed, form_of, form_with, is_comma, operands, operands_of, valued};
-ghost use Rattle.rv_source.specs.Support.Partial.{base_of, pieces, pieces_after};
+ghost use Rattle.rv_source.specs.Operands.{IsOperand, is_comma, operands, operands_of};
+ghost use Rattle.rv_source.specs.Support.Forms.{base_of, enclosed, form_of, form_with, valued};
+ghost use Rattle.rv_source.specs.Support.Partial.{pieces, pieces_after};
+ghost use Rattle.rv_source.specs.declared.operand.Form.{Form};
+ghost use Rattle.rv_tokens.specs.declared.token.Token.{Token};
 
 use crate::Expression;
 use crate::terms::read_expression;
@@ -117,7 +120,7 @@ fn read_with<'a>(
 }
 
 /// Reads the form of an operand.
-#[tactic(auto, using(crate::proofs::Forms::as_form_of))]
+#[tactic(auto, unfolding(crate::specs::Support::Forms::form_of))]
 fn read_form<'a>(alloc: Global, tokens: &[Token<'a>]) -> Result<Option<Form<'a>>, AllocError>
     requires { length tokens.now ≤ 1024 }
     ensures { IfOk result (λ f. f ≡ form_of tokens.now) }
@@ -131,6 +134,11 @@ fn read_form<'a>(alloc: Global, tokens: &[Token<'a>]) -> Result<Option<Form<'a>>
         base => read_with(alloc, base, front),
     }
 }
+
+/// A law: tokens spell an operand of at most one form, and `form_of` gives it.
+pub fn one_form()
+    ensures { (ts : List Token) → (form : Form) → IsOperand ts form ↔ (form_of ts ≡ Some form) }
+{}
 
 /// Returns the index of the first comma.
 fn comma(tokens: &[Token]) -> Option<usize>

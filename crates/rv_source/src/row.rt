@@ -1,7 +1,7 @@
 //! The rows of the language's tables: what a word takes, and what it stands for.
 ghost use Rattle.std.specs.Prelude.{◌≡◌};
 ghost use Rattle.rv_source.specs.Support.Partial.{row_by, row_of};
-ghost use Rattle.rv_source.specs.Table.{filled, meant};
+ghost use Rattle.rv_source.specs.Table.{meant, of_template};
 
 use crate::field::{Fields, given, in_roles, instruction, name_alone, takes_all};
 use crate::{Operand, Statement, Strings, Values};
@@ -118,13 +118,13 @@ impl Way {
 // ---- the statement of a row
 
 /// Returns the statement of a template with these operands, which gave these fields.
-#[tactic(auto, unfolding(crate::specs::Fields::instruction, crate::specs::Table::filled))]
+#[tactic(auto, unfolding(crate::specs::Fields::instruction, crate::specs::Table::of_template))]
 fn fill<'t, 'a>(
     template: Template,
     operands: &'t [Operand<'a>],
     mut fields: Fields<'t, 'a>,
 ) -> Option<Statement<'t, 'a>>
-    ensures { result ≡ filled template operands.now fields.entry }
+    ensures { result ≡ of_template template operands.now fields.entry }
 {
     let (value, second) = (fields.value.take(), fields.second.take());
     match template {

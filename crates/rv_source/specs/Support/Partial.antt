@@ -1,19 +1,17 @@
 -- The rows of the program's tables; and the form of a line by its parts.
 -- Not to audit: private contracts alone cite this.
-use Rattle.std.specs.Prelude.{ℕ, ◌-◌, pos, negsuc, Bool, false, not, List, [], ◌∷◌, ◌++◌, ◌==◌, length, take, drop, map, slice_get, is_none, Option, Some, None, option_and_then, Result, Ok, if◌then◌else◌, codes}
+use Rattle.std.specs.Prelude.{ℕ, ◌-◌, pos, negsuc, Bool, false, not, List, [], ◌∷◌, ◌++◌, ◌==◌, length, map, slice_get, is_none, Option, Some, None, option_and_then, Result, Ok, if◌then◌else◌, codes}
 use Rattle.std.specs.List.{filter_map, list_any, slice_split}
-use Rattle.std.specs.Option.{option_map, option_or, ok_or}
+use Rattle.std.specs.Option.{option_map, ok_or}
 use Rattle.std.specs.Str.{bytes_eq}
 use Rattle.std.specs.Borrow.{Bor}
 use Rattle.rv_tokens.specs.declared.token.Token.{Token}
 use Rattle.rv_tokens.specs.declared.token.Token.TheVariants.{Name, Colon}
-use Rattle.rv_tokens.specs.declared.token.Token.TheVariants as tok
 use Rattle.rv_tokens.specs.Support.Cuts.{tokens}
 use Rattle.rv_tokens.specs.Faults.{◌>>=◌}
 use Rattle.rv_tokens.specs.declared.fault.LineFault.{LineFault}
 use Rattle.rv_tokens.specs.declared.fault.LineFault.TheVariants.{Syntax, BadOperands}
-use Rattle.rv_source.specs.Operands.{form_with, is_comma, operands_of}
-use Rattle.rv_source.specs.declared.operand.Form.{Form}
+use Rattle.rv_source.specs.Operands.{is_comma, operands_of}
 use Rattle.rv_source.specs.declared.operand.Form.TheVariants as value
 use Rattle.rv_source.specs.declared.operand.Part.{Part}
 use Rattle.rv_source.specs.declared.operand.Part.TheVariants.{Whole}
@@ -52,18 +50,6 @@ pieces ts = slice_split is_comma ts
 -- the part of the value of an operand
 abbrev pub part_of : Operand → Part
 part_of x = elim x.form as (λ _. Part) [ value.Value part e base ↦ part | value.Text bytes ↦ Whole ]
-
--- (name)
-abbrev pub base_of : List Token → Option (List ℕ)
-base_of (tok.Open ∷ tok.Name name ∷ tok.Close ∷ []) = Some name
-base_of _ = None
-
--- an operand, by its base
-abbrev pub form_by_base : List Token → Option Form
-form_by_base ts =
-    let n = length ts - 3 in
-    option_or (form_with None ts)
-    (option_and_then (λ name. form_with (Some name) (take n ts)) (base_of (drop n ts)))
 
 -- the pieces of what follows a piece: nothing, or a comma and others
 abbrev pub pieces_after : List Token → List (List Token)

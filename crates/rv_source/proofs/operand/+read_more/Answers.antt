@@ -1,6 +1,6 @@
 use Rattle.std.proofs.Common.{rules, ◌≡◌}
 use Rattle.std.specs.Prelude.{Some}
-use Rattle.rv_source.specs.Operands.{form_of}
+use Rattle.rv_source.specs.Support.Forms.{form_of}
 use Rattle.rv_source.specs.Support.Partial.{pieces_after}
 use Rattle.rv_source.proofs.Pieces.{after_comma, operands_more}
 use Rattle.rv_source.proofs.operand.+read_more.Goals as goal

@@ -1,0 +1,234 @@
+-- Operands as a grammar: the tokens of one have one form.
+use Rattle.std.proofs.Common.{◌≡◌, ◌∙◌, ℕ, ◌-◌, List, [], ◌∷◌, ◌++◌, length, take, drop, refl, sym, ap, subst, arith, append_assoc, length-append}
+use Rattle.std.specs.Prelude.{◌↔◌, map, Option, Some, None, option_and_then, not}
+use Rattle.std.specs.Bool.{beq}
+use Rattle.std.specs.Option.{option_map, option_or}
+use Rattle.std.proofs.lemmas.List.{take_at, drop_at, take-append-drop, map-append}
+use Rattle.rv_tokens.specs.declared.token.Token.{Token}
+use Rattle.rv_tokens.specs.declared.token.Token.TheVariants as t
+use Rattle.rv_source.specs.declared.expression.Term.{Term}
+use Rattle.rv_source.specs.declared.terms.Piece.{Piece}
+use Rattle.rv_source.specs.declared.terms.Piece.TheVariants as p
+use Rattle.rv_source.specs.declared.operand.Part.{Part}
+use Rattle.rv_source.specs.declared.operand.Part.TheVariants.{Whole, High, Low}
+use Rattle.rv_source.specs.declared.operand.Form.{Form}
+use Rattle.rv_source.specs.declared.operand.Form.TheVariants as f
+use Rattle.rv_source.specs.Expressions.{piece_of, zero}
+use Rattle.rv_source.specs.Operands.{IsOperand, Quoted, Sum, HighPart, LowPart, Base, SumAndBase, LowPartAndBase, Spells, bracketed}
+use Rattle.rv_source.specs.Support.Sums.{further, sum, expression, with_term}
+use Rattle.rv_source.specs.Support.Forms.{base_of, enclosed, form_of, form_with, valued}
+use Rattle.rv_source.proofs.OneValue.{has_one_value}
+
+-- ---- what is no sum
+
+further_other : (ps qs : List Piece) → further (ps ++ p.Other ∷ qs) ≡ None
+unfolding further
+further_other [] qs = refl
+further_other (p.Sign s ∷ p.Atom x ∷ ps) qs = ap (with_term s x) (further_other ps qs)
+further_other (p.Sign s ∷ p.Sign r ∷ p.Atom x ∷ ps) qs = ap (with_term (not (beq s r)) x) (further_other ps qs)
+further_other (p.Sign s ∷ p.Sign r ∷ p.Sign q ∷ ps) qs = refl
+further_other (p.Sign s ∷ p.Sign r ∷ p.Other ∷ ps) qs = refl
+further_other (p.Sign s ∷ p.Sign r ∷ []) qs = refl
+further_other (p.Sign s ∷ p.Other ∷ ps) qs = refl
+further_other (p.Sign s ∷ []) qs = refl
+further_other (p.Atom x ∷ ps) qs = refl
+further_other (p.Other ∷ ps) qs = refl
+
+sum_other : (ps qs : List Piece) → sum (ps ++ p.Other ∷ qs) ≡ None
+unfolding sum
+sum_other [] qs = refl
+sum_other (p.Atom x ∷ ps) qs = ap (with_term _ x) (further_other ps qs)
+sum_other (p.Sign s ∷ p.Atom x ∷ ps) qs = ap (with_term s x) (further_other ps qs)
+sum_other (p.Sign s ∷ p.Sign r ∷ ps) qs = refl
+sum_other (p.Sign s ∷ p.Other ∷ ps) qs = refl
+sum_other (p.Sign s ∷ []) qs = refl
+sum_other (p.Other ∷ ps) qs = refl
+
+-- tokens with a bracket among them
+no_sum : (x : Token) (us vs : List Token) → piece_of x ≡ p.Other → expression (us ++ x ∷ vs) ≡ None
+unfolding expression
+no_sum x us vs is =
+    ap sum (map-append piece_of us (x ∷ vs))
+    ∙ (ap (λ (y : Piece). sum (map piece_of us ++ y ∷ map piece_of vs)) is ∙ sum_other (map piece_of us) (map piece_of vs))
+
+-- ---- tokens between brackets
+
+-- what stands before a closing bracket
+abbrev closing : List Token → List Token → Option (List Token)
+closing inner ys = elim ys as (λ _. Option (List Token)) [ t.Close ∷ [] ↦ Some inner | _ ↦ None ]
+
+enclosed_is : (ts : List Token) → enclosed (t.Open ∷ ts ++ t.Close ∷ []) ≡ Some ts
+enclosed_is ts =
+    let xs = ts ++ t.Close ∷ [] in
+    let n : length xs - 1 ≡ length ts = omega (arith, length-append ts (t.Close ∷ [])) in
+    ap (λ (k : ℕ). closing (take k xs) (drop k xs)) n
+    ∙ (ap (λ (ys : List Token). closing (take (length ts) xs) ys) (drop_at ts (t.Close ∷ []) (length ts) refl)
+    ∙ ap (λ (ys : List Token). Some ys) (take_at ts (t.Close ∷ []) (length ts) refl))
+
+closed : (n : ℕ) (xs ys ws : List Token) → closing (take n xs) ys ≡ Some ws → take n xs ++ ys ≡ xs
+    → t.Open ∷ xs ≡ t.Open ∷ ws ++ t.Close ∷ []
+closed n xs (t.Close ∷ []) ws e all =
+    let is : take n xs ≡ ws = cc in
+    ap (λ (ys : List Token). t.Open ∷ ys) (sym all ∙ ap (λ (ys : List Token). ys ++ t.Close ∷ []) is)
+closed n xs ys ws e all = absurd cc
+
+enclosed_of : (ts ws : List Token) → enclosed ts ≡ Some ws → ts ≡ t.Open ∷ ws ++ t.Close ∷ []
+enclosed_of (t.Open ∷ xs) ws e =
+    let n = length xs - 1 in closed n xs (drop n xs) ws e (take-append-drop n xs)
+enclosed_of ts ws e = absurd cc
+
+-- ---- an operand of the grammar is what `form_with` reads, with its base
+
+sum_with : (ts : List Token) (e : List Term) → expression ts ≡ Some e → form_with None ts ≡ Some (f.Value Whole e None)
+unfolding expression sum
+sum_with [] e h = absurd cc
+sum_with (t.Text bytes ∷ ts) e h = absurd cc
+sum_with (t.High ∷ ts) e h = absurd cc
+sum_with (t.Low ∷ ts) e h = absurd cc
+sum_with (x ∷ ts) e h = ap (option_map (λ (e : List Term). f.Value Whole e None)) h
+
+sum_at : (name : List ℕ) (ts : List Token) (e : List Term) → expression ts ≡ Some e
+    → form_with (Some name) ts ≡ Some (f.Value Whole e (Some name))
+unfolding expression sum
+sum_at name [] e h = absurd cc
+sum_at name (t.Low ∷ ts) e h = absurd cc
+sum_at name (x ∷ ts) e h = ap (option_map (λ (e : List Term). f.Value Whole e (Some name))) h
+
+-- an expression with (name) after it is none, and no operand without a base
+none_with : (name : List ℕ) (ts : List Token) (e : List Term) → expression ts ≡ Some e
+    → form_with None (ts ++ bracketed name) ≡ None
+unfolding expression sum
+none_with name [] e h = absurd cc
+none_with name (t.Text bytes ∷ ts) e h = absurd cc
+none_with name (t.High ∷ ts) e h = absurd cc
+none_with name (t.Low ∷ ts) e h = absurd cc
+none_with name (x ∷ ts) e h =
+    ap (option_map (λ (e : List Term). f.Value Whole e None)) (no_sum t.Open (x ∷ ts) (t.Name name ∷ t.Close ∷ []) refl)
+
+part_with : (part : Part) (base : Option (List ℕ)) (ts : List Token) (e : List Term) → expression ts ≡ Some e
+    → valued part base (enclosed (t.Open ∷ ts ++ t.Close ∷ [])) ≡ Some (f.Value part e base)
+part_with part base ts e h =
+    ap (valued part base) (enclosed_is ts) ∙ ap (option_map (λ (e : List Term). f.Value part e base)) h
+
+none_after : (name : List ℕ) (ts : List Token)
+    → form_with None (t.Low ∷ t.Open ∷ ts ++ t.Close ∷ bracketed name) ≡ None
+none_after name ts =
+    let inner = ts ++ t.Close ∷ t.Open ∷ t.Name name ∷ [] in
+    let is : ts ++ t.Close ∷ bracketed name ≡ inner ++ t.Close ∷ [] =
+    sym (append_assoc ts (t.Close ∷ t.Open ∷ t.Name name ∷ []) (t.Close ∷ [])) in
+    ap (λ (us : List Token). valued Low None (enclosed (t.Open ∷ us))) is
+    ∙ (ap (valued Low None) (enclosed_is inner)
+    ∙ ap (option_map (λ (e : List Term). f.Value Low e None)) (no_sum t.Close ts (t.Open ∷ t.Name name ∷ []) refl))
+
+-- the form of tokens with a base, which are no operand without it
+with_base : (ts : List Token) (name : List ℕ) (form : Form) → form_with None (ts ++ bracketed name) ≡ None
+    → form_with (Some name) ts ≡ Some form → form_of (ts ++ bracketed name) ≡ Some form
+unfolding form_of
+with_base ts name form none is =
+    let us = ts ++ bracketed name in
+    let n : length us - 3 ≡ length ts = omega (arith, length-append ts (bracketed name)) in
+    ap (λ (k : ℕ). option_or (form_with None us)
+    (option_and_then (λ (name : List ℕ). form_with (Some name) (take k us)) (base_of (drop k us)))) n
+    ∙ (ap (λ (o : Option Form). option_or o
+    (option_and_then (λ (name : List ℕ). form_with (Some name) (take (length ts) us)) (base_of (drop (length ts) us))))
+    none
+    ∙ (ap (λ (ys : List Token). option_and_then (λ (name : List ℕ). form_with (Some name) (take (length ts) us)) (base_of ys))
+    (drop_at ts (bracketed name) (length ts) refl)
+    ∙ (ap (form_with (Some name)) (take_at ts (bracketed name) (length ts) refl) ∙ is)))
+
+first : (o p : Option Form) (form : Form) → o ≡ Some form → option_or o p ≡ Some form
+first o p form is = ap (λ (o : Option Form). option_or o p) is
+
+without_base : (ts : List Token) (form : Form) → form_with None ts ≡ Some form → form_of ts ≡ Some form
+unfolding form_of
+without_base ts form is = first (form_with None ts) _ form is
+
+none_alone : (name : List ℕ) → form_with None (bracketed name) ≡ None
+unfolding expression sum
+none_alone name = refl
+
+reads : (ts : List Token) (form : Form) → IsOperand ts form → form_of ts ≡ Some form
+reads _ _ (Quoted bytes) = without_base (t.Text bytes ∷ []) _ refl
+reads _ _ (Sum ts e is) = without_base ts _ (sum_with ts e ((has_one_value ts e).0 is))
+reads _ _ (HighPart ts e is) = without_base _ _ (part_with High None ts e ((has_one_value ts e).0 is))
+reads _ _ (LowPart ts e is) = without_base _ _ (part_with Low None ts e ((has_one_value ts e).0 is))
+reads _ _ (Base name) = with_base [] name _ (none_alone name) refl
+reads _ _ (SumAndBase ts e name is) =
+    let value = (has_one_value ts e).0 is in with_base ts name _ (none_with name ts e value) (sum_at name ts e value)
+reads _ _ (LowPartAndBase ts e name is) =
+    let front = t.Low ∷ t.Open ∷ ts ++ t.Close ∷ [] in
+    let whole : front ++ bracketed name ≡ t.Low ∷ t.Open ∷ ts ++ t.Close ∷ bracketed name =
+    ap (λ (us : List Token). t.Low ∷ t.Open ∷ us) (append_assoc ts (t.Close ∷ []) (bracketed name)) in
+    subst (λ us. form_of us ≡ Some (f.Value Low e (Some name))) whole
+    (with_base front name _ (ap (form_with None) whole ∙ none_after name ts)
+    (part_with Low (Some name) ts e ((has_one_value ts e).0 is)))
+
+-- ---- what `form_of` reads is an operand of the grammar
+
+value_of : (part : Part) (base : Option (List ℕ)) (o : Option (List Token)) (form : Form) (P : Form → Type 0)
+    → valued part base o ≡ Some form
+    → ((ts : List Token) (e : List Term) → o ≡ Some ts → Spells ts e → P (f.Value part e base)) → P form
+value_of part base None form P is each = absurd cc
+value_of part base (Some ts) form P is each = by (expression ts) refl is where
+  by : (o : Option (List Term)) → expression ts ≡ o → option_map (λ (e : List Term). f.Value part e base) o ≡ Some form → P form
+  by None value is = absurd cc
+  by (Some e) value is =
+      let same : f.Value part e base ≡ form = cc in subst P same (each ts e refl ((has_one_value ts e).1 value))
+
+no_base_is : (ts : List Token) (form : Form) → form_with None ts ≡ Some form → IsOperand ts form
+unfolding expression sum
+no_base_is [] form is = absurd cc
+no_base_is (t.Text bytes ∷ []) form is =
+    let same : f.Text bytes ≡ form = cc in subst (IsOperand (t.Text bytes ∷ [])) same (Quoted bytes)
+no_base_is (t.Text bytes ∷ x ∷ ts) form is = absurd cc
+no_base_is (t.High ∷ ts) form is =
+    value_of High None (enclosed ts) form (IsOperand (t.High ∷ ts)) is (λ inner e o spells.
+    subst (λ us. IsOperand (t.High ∷ us) (f.Value High e None)) (sym (enclosed_of ts inner o)) (HighPart inner e spells))
+no_base_is (t.Low ∷ ts) form is =
+    value_of Low None (enclosed ts) form (IsOperand (t.Low ∷ ts)) is (λ inner e o spells.
+    subst (λ us. IsOperand (t.Low ∷ us) (f.Value Low e None)) (sym (enclosed_of ts inner o)) (LowPart inner e spells))
+no_base_is (x ∷ ts) form is =
+    value_of Whole None (Some (x ∷ ts)) form (IsOperand (x ∷ ts)) is (λ us e o spells.
+    let same : us ≡ x ∷ ts = cc in subst (λ vs. IsOperand vs (f.Value Whole e None)) same (Sum us e spells))
+
+base_is : (name : List ℕ) (ts : List Token) (form : Form) → form_with (Some name) ts ≡ Some form
+    → IsOperand (ts ++ bracketed name) form
+base_is name [] form is =
+    let same : f.Value Whole zero (Some name) ≡ form = cc in subst (IsOperand (bracketed name)) same (Base name)
+base_is name (t.Low ∷ ts) form is =
+    value_of Low (Some name) (enclosed ts) form (IsOperand ((t.Low ∷ ts) ++ bracketed name)) is (λ inner e o spells.
+    let whole : t.Low ∷ t.Open ∷ inner ++ t.Close ∷ bracketed name ≡ t.Low ∷ ts ++ bracketed name =
+    ap (λ (us : List Token). t.Low ∷ t.Open ∷ us) (sym (append_assoc inner (t.Close ∷ []) (bracketed name)))
+    ∙ ap (λ (us : List Token). t.Low ∷ us ++ bracketed name) (sym (enclosed_of ts inner o)) in
+    subst (λ us. IsOperand us (f.Value Low e (Some name))) whole (LowPartAndBase inner e name spells))
+base_is name (x ∷ ts) form is =
+    value_of Whole (Some name) (Some (x ∷ ts)) form (IsOperand ((x ∷ ts) ++ bracketed name)) is (λ us e o spells.
+    let same : us ≡ x ∷ ts = cc in
+    subst (λ vs. IsOperand (vs ++ bracketed name) (f.Value Whole e (Some name))) same (SumAndBase us e name spells))
+
+bracketed_is : (ts : List Token) (name : List ℕ) → base_of ts ≡ Some name → ts ≡ bracketed name
+bracketed_is (t.Open ∷ t.Name found ∷ t.Close ∷ []) name is = let same : found ≡ name = cc in ap bracketed same
+bracketed_is ts name is = absurd cc
+
+based : (ts front last : List Token) (form : Form) (o : Option (List ℕ)) → front ++ last ≡ ts → base_of last ≡ o
+    → option_and_then (λ name. form_with (Some name) front) o ≡ Some form → IsOperand ts form
+based ts front last form None whole b is = absurd cc
+based ts front last form (Some name) whole b is =
+    subst (λ us. IsOperand us form) (ap (λ (us : List Token). front ++ us) (sym (bracketed_is last name b)) ∙ whole)
+    (base_is name front form is)
+
+either : (ts : List Token) (form : Form) (o p : Option Form) → form_with None ts ≡ o
+    → (p ≡ Some form → IsOperand ts form) → option_or o p ≡ Some form → IsOperand ts form
+either ts form None p none other is = other is
+either ts form (Some x) p some other is =
+    let same : x ≡ form = cc in no_base_is ts form (some ∙ ap (λ (x : Form). Some x) same)
+
+is_operand : (ts : List Token) (form : Form) → form_of ts ≡ Some form → IsOperand ts form
+unfolding form_of
+is_operand ts form is =
+    let n = length ts - 3 in
+    either ts form (form_with None ts) _ refl
+    (based ts (take n ts) (drop n ts) form (base_of (drop n ts)) (take-append-drop n ts) refl) is
+
+pub has_one_form : (ts : List Token) (form : Form) → IsOperand ts form ↔ (form_of ts ≡ Some form)
+has_one_form ts form = (reads ts form, is_operand ts form)
