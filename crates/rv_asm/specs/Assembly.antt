@@ -31,19 +31,28 @@ abbrev pub faults_in : (ℕ → Option FaultKind) → ℕ → List AsmFault
 faults_in fault n =
     filter_map (λ k. option_map (λ kind. record { line = suc k; kind = kind }) (fault k)) (range_with_len 0 n)
 
--- the faults of a source in the first phase that has any: its lines can't be read, have a fault of phase two,
--- which is given, or have no bytes
-abbrev pub first_faults : (ℕ → Option FaultKind) → List (List ℕ) → List AsmFault
-first_faults phase_two texts =
-    let phase_one = λ (k : ℕ). option_map kind_of (result_err (parsed (get_or texts k []))) in
-    let phases = phase_one ∷ phase_two ∷ (λ k. result_err (line_bytes (all_parsed texts) k)) ∷ [] in
-    unwrap_or (find (λ found. is_some (slice_get found 0)) (map (λ f. faults_in f (length texts)) phases)) []
+-- the fault of line k in phase one, in which it is read
+abbrev pub phase_one_fault : List (List ℕ) → ℕ → Option FaultKind
+phase_one_fault texts k = option_map kind_of (result_err (parsed (get_or texts k [])))
+
+-- its fault in phase three, in which it gets its bytes; that in phase two, in which it gets its place, is
+-- `phase_two_fault`
+abbrev pub phase_three_fault : List Parsed → ℕ → Option FaultKind
+phase_three_fault lines k = result_err (line_bytes lines k)
+
+-- the first of some lists that isn't empty, or the empty list
+abbrev pub first_not_empty : {A : Type 0} → List (List A) → List A
+first_not_empty lists = unwrap_or (find (λ xs. is_some (slice_get xs 0)) lists) []
+
+-- the faults of n lines in the first of three phases in which any line has one, by the fault of each line in each
+abbrev pub first_faults : (one two three : ℕ → Option FaultKind) → ℕ → List AsmFault
+first_faults one two three n = first_not_empty (faults_in one n ∷ faults_in two n ∷ faults_in three n ∷ [])
 
 -- the image and the names of a source, or the first of its faults
 unfoldable pub assembled : List ℕ → Result Assembly AsmFault
 assembled source =
-    let read = all_parsed (lines source) in
-    let faults = first_faults (phase_two_fault read) (lines source) in
+    let texts = lines source in let read = all_parsed texts in
+    let faults = first_faults (phase_one_fault texts) (phase_two_fault read) (phase_three_fault read) (length texts) in
     let image = flat_map (λ k. result_unwrap_or (line_bytes read k) []) (range_with_len 0 (length read)) in
     option_map_or (λ fault. Err fault) (slice_get faults 0)
     (Ok (record { bytes = image; symbols = (definitions read).names }))

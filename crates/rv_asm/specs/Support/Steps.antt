@@ -17,6 +17,7 @@ use Rattle.rv_asm.specs.Layout.{line_at, row_at, labels_in, names_in, redefines,
 pub use Rattle.rv_asm.specs.Layout.{address, Known, labelled, stated}
 use Rattle.rv_program.specs.Faults.{kind_of}
 use Rattle.rv_asm.specs.Assembly.{all_parsed, line_bytes, faults_in}
+pub use Rattle.rv_asm.specs.Assembly.{phase_one_fault, phase_three_fault}
 use Rattle.std.specs.List.Sorted.{IsNonDecreasing, IsNonDecreasingBy}
 use Rattle.rv_asm.specs.Lines.{Listed, Located, bytes_of, end_of, listed as listing}
 use Rattle.rv_source.specs.declared.expression.Atom.{Atom}
@@ -33,6 +34,7 @@ use Rattle.rv_asm.specs.Symbols.{Definitions, atom_value, sum_value, operand_val
 unfoldable pub use Rattle.rv_asm.specs.Layout.{known_before}
 use Rattle.rv_asm.specs.Listing.{bytes}
 use Rattle.rv_asm.specs.AllFaults.{new_labels, kept}
+pub use Rattle.rv_asm.specs.AllFaults.{cleared}
 
 -- a line with no label and no statement, as every line past the end
 abbrev pub blank : Parsed
@@ -61,14 +63,6 @@ all_faults fault n = faults_in fault n
 -- the fault for which a line can't be read, if there is one
 abbrev pub unread_kind : List ℕ → Option FaultKind
 unread_kind text = option_map kind_of (result_err (parsed_of text))
-
--- the fault of line k in phase one, if it has one
-abbrev pub phase_one_fault : List (List ℕ) → ℕ → Option FaultKind
-phase_one_fault texts k = unread_kind (get_or texts k [])
-
--- the fault of line k in phase three, if it has one
-abbrev pub phase_three_fault : List Parsed → ℕ → Option FaultKind
-phase_three_fault lines k = result_err (line_bytes lines k)
 
 -- what is known at the statement of line k
 abbrev pub known_on : List Parsed → ℕ → Known
@@ -234,11 +228,6 @@ abbrev pub Writes : List Parsed → ℕ → List Item → Type 0
 Writes lines n items = (ds : Definitions) → Written lines n items ds
 
 -- ---- the lines of a source, laid out one by one, and its faults
-
--- line k without its statement, and without labels that define a name a second time
-abbrev pub cleared : List Parsed → ℕ → Parsed
-cleared ls k =
-    record { labels = new_labels (address ls k) (names ls k) (line_at ls k).labels; statement = None }
 
 -- labels but those that define a name a second time
 abbrev pub new_among : Known → List Label → List Label
