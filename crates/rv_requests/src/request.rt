@@ -1,0 +1,144 @@
+//! What a packet asks for.
+use std::marker::Model;
+
+/// A part of a text or of a file.
+#[derive(Clone, Copy)]
+pub struct Window {
+    /// The number of its first byte, from 0.
+    pub from: u32,
+    /// The most bytes of it.
+    pub most: u32,
+}
+
+/// A text that gdb reads.
+#[derive(Clone, Copy)]
+pub enum Part {
+    /// The registers that the target has.
+    Features,
+    /// The addresses at which it has memory.
+    MemoryMap,
+    /// The path of the program that it runs.
+    ProgramPath,
+}
+
+/// What stops a run.
+#[derive(Clone, Copy)]
+pub enum Point {
+    /// An instruction at the first byte.
+    Break,
+    /// A store to one of the bytes.
+    Store,
+    /// A load of one of them.
+    Load,
+    /// Either of the two.
+    Access,
+}
+
+/// A line of a packet, decoded; its view is the list of its bytes.
+#[derive(Drop)]
+pub struct Text {
+    bytes: Vec<u8>,
+}
+
+impl Model for Text {
+    ghost use Rattle.std.specs.Prelude.{List, ℕ};
+
+    ghost Value = { List ℕ };
+
+    ghost view = { λ t. t.bytes.items };
+}
+
+impl Text {
+    ghost use Rattle.std.specs.Prelude.{◌≡◌};
+
+    /// Makes a text of bytes.
+    pub fn of(bytes: Vec<u8>) -> Text
+        ensures { result ≡ bytes.items }
+    {
+        Text { bytes }
+    }
+
+    /// Returns the bytes.
+    pub fn bytes(&self) -> &[u8]
+        ensures { result.now ≡ self.now }
+    {
+        self.bytes.as_slice()
+    }
+}
+
+/// What a packet asks for.
+#[derive(Drop)]
+pub enum Request {
+    /// `?`: why the target stands still.
+    LastStop,
+    /// `g`: the registers x0 to x31 and the pc.
+    Registers,
+    /// `p`: the register of this number.
+    Register(u32),
+    /// `m`: bytes of memory.
+    Memory(Window),
+    /// `s`, `S`: a step.
+    Step,
+    /// `r` of `vCont`: steps until the pc is at none of some addresses: from the first one on, below the second.
+    StepWithin(u32, u32),
+    /// `c`, `C`: a run.
+    Continue,
+    /// `bs`: a step back.
+    StepBack,
+    /// `bc`: a run back.
+    ContinueBack,
+    /// `Z`: a point at which runs stop, at so many bytes from an address on.
+    Insert(Point, u32, u32),
+    /// `z`: that point no more.
+    Remove(Point, u32, u32),
+    /// `G`, `P`, `M`, `X`: to write registers or memory.
+    Write,
+    /// `qSupported`: what the server can do.
+    Supported,
+    /// `QStartNoAckMode`: packets without acknowledgments from here on.
+    StopAcks,
+    /// `vCont?`: the actions of `vCont`.
+    Actions,
+    /// `qXfer`: a part of a text.
+    Read(Part, Window),
+    /// `vFile:setfs`: to name files as the target does.
+    SetFiles,
+    /// `vFile:open`: to open the file of this path.
+    Open(Text),
+    /// `vFile:pread`: a part of the open file.
+    ReadFile(Window),
+    /// `vFile:fstat`: the open file's size.
+    FileSize,
+    /// `vFile:close`: to close it.
+    Close,
+    /// `qRcmd`: to answer this line.
+    Command(Text),
+    /// `qfThreadInfo`: the threads.
+    Threads,
+    /// `qsThreadInfo`: the threads that follow them.
+    MoreThreads,
+    /// `qC`: the thread that stopped.
+    ThisThread,
+    /// `qThreadExtraInfo`: a line on the thread.
+    ThreadText,
+    /// `qAttached`: whether the program ran before gdb came.
+    IsAttached,
+    /// `H`, `T`, `qSymbol`: nothing that needs an answer but `OK`.
+    Agree,
+    /// `!`: that the server outlives the program.
+    Extend,
+    /// `vRun`: the program from its first step on.
+    Run,
+    /// `vKill`: the end of the program.
+    Kill,
+    /// `D`: the end of the talk.
+    Detach,
+    /// `k`: the end of the server.
+    End,
+    /// `F`: the answer to the server's question, and whether it asks to stop.
+    Answered(bool),
+    /// A packet that is known, with contents that aren't.
+    Malformed,
+    /// Any other packet.
+    Unknown,
+}
