@@ -14,7 +14,7 @@ declare module "codemirror/lib/codemirror.js" {
     export interface Mark { clear(): void }
     export interface Change { text: string[]; origin?: string; update?(from?: Position, to?: Position, text?: string[]): void }
     export interface Hints { list: string[]; from: Position; to: Position }
-    export interface Scrolled { left: number; top: number; clientHeight: number; height: number }
+    export interface Scrolled { left: number; top: number; clientWidth: number; clientHeight: number; height: number }
 
     class CodeMirror {
         static defineMode(name: string, mode: () => Mode): void;
@@ -48,6 +48,8 @@ declare module "codemirror/lib/codemirror.js" {
         markText(from: Position, to: Position, options: { className: string }): Mark;
         operation(act: () => void): void;
         setOption(name: string, value: unknown): void;
+        getOption(name: string): unknown;
+        defaultCharWidth(): number;
         addKeyMap(keys: Record<string, () => void>): void;
         showHint(options: object): void;
         focus(): void;
@@ -56,6 +58,7 @@ declare module "codemirror/lib/codemirror.js" {
         on(event: "changes", act: (cm: CodeMirror, changes: Change[]) => void): void;
         on(event: "gutterClick", act: (cm: CodeMirror, line: number) => void): void;
         on(event: "scroll", act: () => void): void;
+        on(event: "renderLine", act: (cm: CodeMirror, line: LineHandle, element: HTMLElement) => void): void;
     }
     function CodeMirror(place: HTMLElement, options: object): CodeMirror;
     export default CodeMirror;

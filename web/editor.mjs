@@ -8,6 +8,7 @@ import { assembly } from "./language.mjs";
 import { byteOf, cutAt } from "./lines.mjs";
 import { GUTTER, Marks } from "./marks.mjs";
 import { view } from "./state.mjs";
+import { Wrapping } from "./wrapping.mjs";
 
 /**
  * @typedef {import("codemirror/lib/codemirror.js").Mode} Mode
@@ -63,6 +64,7 @@ class Editor {
     });
     text = this.cm.getInputField();
     marks = new Marks(this.cm);
+    wrapping = new Wrapping(this.cm);
     /** @type {string | null} */
     kept = null; // the source, until it changes
     /** @type {Mode | null} */
@@ -75,6 +77,7 @@ class Editor {
     /** Another source: what was typed before can't be brought back by undoing. */
     set source(source) {
         this.marks.forget();
+        this.wrapping.comes(source.split("\n"), true);
         this.cm.setValue(source);
         this.cm.clearHistory();
         this.cm.scrollTo(0, 0);
@@ -201,11 +204,15 @@ export function makeEditor({ onChange, onBreakpoint }) {
     cm.on("changes", (_, changes) => {
         editor.kept = null;
         editor.marks.moved();
+        for (const { text: lines } of changes) editor.wrapping.comes(lines);
         if (changes.some(({ origin }) => origin !== "setValue")) onChange();
     });
     cm.on("gutterClick", (_, line) => onBreakpoint(line + 1));
     addEventListener("beforeprint", () => editor.drawWhole(true));
     addEventListener("afterprint", () => editor.drawWhole(false));
-    new ResizeObserver(() => cm.refresh()).observe($("editor"));
+    new ResizeObserver(() => {
+        editor.wrapping.set();
+        cm.refresh();
+    }).observe($("editor"));
     view(({ here, breakpoints, faults }) => [here, breakpoints, faults], (...marks) => editor.marks.show(...marks));
 }

@@ -7,41 +7,49 @@ import { MEMORY } from "./protection.mjs";
 import { state } from "./state.mjs";
 import { hex8, table, textOf } from "./views.mjs";
 
-const ROW = 16; // bytes of a row
+const WIDE = 41; // letters' sizes of a pane in which a row has 16 bytes; in a narrower one it has 8
 const LEAST_ROWS = 8;
 const STACK = 256; // bytes of the stack that are shown
 
-export const MEMORY_HTML = `<p class="bar"><label>From <input id="memory-where" value="0x80000000" size="12"></label>
-    <button id="memory-earlier" aria-label="Earlier memory">Earlier</button>
-    <button id="memory-later" aria-label="Later memory">Later</button>
+export const MEMORY_HTML = `<p class="bar"><label>From <input id="memory-where" value="0x80000000" size="12"
+    aria-describedby="memory-help" title="a register, a name, a line or 0x and a number, also with +N"></label>
+    <button id="memory-earlier" aria-label="Earlier memory" title="Earlier memory">▲</button>
+    <button id="memory-later" aria-label="Later memory" title="Later memory">▼</button>
     <label><input id="memory-words" type="checkbox"> as words</label>
-    <span class="hint">sp or another register, a name, a line, 0x and a number, each with +N</span></p>
+    <span class="hint" id="memory-help">a register, a name, a line or 0x.., also with +N</span></p>
     <div id="memory-rows" tabindex="0" aria-label="Memory" role="group">
     <div class="shown"></div><div class="space" aria-hidden="true"></div></div>`;
 
 /** The bytes of the memory that the present program has. */
 const size = () => state.pages * 4096;
 
+/** The bytes of a row. */
+function rowSize() {
+    const box = $("memory-rows"), letter = parseFloat(getComputedStyle(box).fontSize);
+    return box.clientWidth < WIDE * letter ? 8 : 16;
+}
+
 /** The height of a row, and how many rows are in sight. */
 function rowsInSight() {
     const box = $("memory-rows"), row = box.querySelector("tbody tr"), head = box.querySelector("thead");
     const height = row?.getBoundingClientRect().height || 18;
-    const room = box.clientHeight - 2 * (head?.getBoundingClientRect().height ?? height);
+    const room = box.clientHeight - (head?.getBoundingClientRect().height ?? height);
     return { height, count: Math.max(LEAST_ROWS, Math.floor(room / height)) };
 }
 
 /** What the tab of the memory asks: as many rows as are in sight, from what stands in its field. */
-export const askMemory = () => lookMemory(field("memory-where").value.trim() || "sp", rowsInSight().count * ROW);
+export const askMemory = () => lookMemory(field("memory-where").value.trim() || "sp", rowsInSight().count * rowSize());
 
 /**
- * Names of what points into a row.
+ * What points at one of some bytes.
  * @param {number} first
+ * @param {number} length
  * @param {Label[]} pointers
  */
-function marksAt(first, pointers, length = ROW) {
-    const here = pointers.filter(({ at }) => first <= at && at < first + length);
-    return here.map(({ name, at }) => (at > first ? `${name} at …${hex8(at).slice(-2)}` : name)).join(", ");
-}
+const pointersAt = (first, length, pointers) => pointers.filter(({ at }) => first <= at && at < first + length);
+
+/** @param {Label[]} pointers */
+const namesOf = (pointers) => pointers.map(({ name }) => name).join(", ");
 
 /** Where the stack and pc are, and the labels. */
 function pointersOf({ board, labels } = state) {
@@ -60,19 +68,34 @@ function wordsOf(bytes) {
 }
 
 /**
+ * The bytes or words of a row, of which those that something points at are marked.
+ * @param {string[]} cells
+ * @param {number} length of a cell
+ * @param {number} first
+ * @param {Label[]} pointers
+ */
+function cellsHtml(cells, length, first, pointers) {
+    const marked = cells.map((text, i) => {
+        const here = pointersAt(first + length * i, length, pointers);
+        return here.length ? `<mark title="${namesOf(here)}">${text}</mark>` : text;
+    });
+    return marked.join(" ");
+}
+
+/**
  * The rows of a part of memory.
  * @param {Memory} memory
  */
 function rowsOf({ at, bytes }) {
-    const isWords = field("memory-words").checked, pointers = pointersOf();
-    const starts = Array.from({ length: Math.ceil(bytes.length / ROW) }, (_, i) => ROW * i);
+    const isWords = field("memory-words").checked, pointers = pointersOf(), row = rowSize();
+    const starts = Array.from({ length: Math.ceil(bytes.length / row) }, (_, i) => row * i);
     const isThere = (/** @type {number} */ start) => start === 0 || at < MEMORY || at + start < MEMORY + size();
     const rows = starts.filter(isThere).map((start) => {
-        const part = bytes.slice(start, start + ROW), first = at + start;
-        const shown = isWords ? wordsOf(part).join(" ") : part.map(byteText).join(" ");
-        return [hex8(first), shown, escaped(textOf(part)), escaped(marksAt(first, pointers))];
+        const part = bytes.slice(start, start + row), first = at + start, here = pointersAt(first, row, pointers);
+        const shown = isWords ? cellsHtml(wordsOf(part), 4, first, here) : cellsHtml(part.map(byteText), 1, first, here);
+        return [hex8(first), shown, escaped(textOf(part)), escaped(namesOf(here))];
     });
-    const attributes = rows.map(([, , , marks]) => `class="${/◀/.test(marks) ? "pointed" : ""}" title="${marks}"`);
+    const attributes = rows.map(([, , , names]) => `class="${/◀/.test(names) ? "pointed" : ""}" title="${names}"`);
     return table("Memory", ["Address", isWords ? "Words" : "Bytes", "Text", "Here"], rows, attributes);
 }
 
@@ -86,13 +109,12 @@ export function showMemory(panel, memory) {
     const space = /** @type {HTMLElement} */ (panel.querySelector(".space"));
     shown.innerHTML = memory.refused ? `<p>${escaped(memory.refused)}</p>` : rowsOf(memory);
     const { at, bytes } = memory, isInside = MEMORY <= at && at < MEMORY + size();
-    const { height } = rowsInSight(), above = Math.floor((at - MEMORY) / ROW);
-    $("memory-rows").dataset.first = isInside ? String(above) : "";
-    $("memory-rows").dataset.odd = String(at % ROW);
-    $("memory-rows").dataset.count = String(Math.ceil(bytes.length / ROW));
-    space.style.height = isInside ? `${(size() / ROW) * height}px` : "0";
+    const { height } = rowsInSight(), row = rowSize(), above = Math.floor((at - MEMORY) / row);
+    const first = isInside ? String(above) : "", count = String(Math.ceil(bytes.length / row));
+    Object.assign($("memory-rows").dataset, { first, count, row, odd: at % row });
+    space.style.height = isInside ? `${(size() / row) * height}px` : "0";
     // Scrolled to its end, the last row is in sight.
-    const beyond = shown.offsetHeight + Math.ceil(bytes.length / ROW) * height - $("memory-rows").clientHeight;
+    const beyond = shown.offsetHeight + Math.ceil(bytes.length / row) * height - $("memory-rows").clientHeight;
     space.style.marginTop = isInside ? `${-beyond}px` : "0";
     if (isInside) $("memory-rows").scrollTop = above * height;
 }
@@ -104,8 +126,8 @@ export function showMemory(panel, memory) {
 export function makeMemory(onChange) {
     const box = $("memory-rows");
     const scrollTo = (/** @type {number} */ row) => {
-        const last = size() / ROW - 1, to = Math.min(last, Math.max(0, row));
-        field("memory-where").value = `0x${hex8(MEMORY + ROW * to + Number(box.dataset.odd))}`;
+        const last = size() / rowSize() - 1, to = Math.min(last, Math.max(0, row));
+        field("memory-where").value = `0x${hex8(MEMORY + rowSize() * to + Number(box.dataset.odd))}`;
         onChange();
     };
     for (const id of ["memory-where", "memory-words"]) $(id).addEventListener("change", onChange);
@@ -120,8 +142,9 @@ export function makeMemory(onChange) {
         if (box.dataset.first && row !== Number(box.dataset.first)) scrollTo(row);
     });
     new ResizeObserver(() => {
-        const isShort = rowsInSight().count > Number(box.dataset.count);
-        if (box.checkVisibility() && box.dataset.first && isShort) onChange();
+        const { first, count, row } = box.dataset;
+        const isOther = rowsInSight().count > Number(count) || rowSize() !== Number(row);
+        if (box.checkVisibility() && first && isOther) onChange();
     }).observe(box);
 }
 
@@ -153,7 +176,7 @@ export function showStack(panel, { at, bytes, refused }) {
     }
     const rows = there.map((word, i) => {
         const offset = `sp + ${4 * i}`;
-        return [hex8(at + 4 * i), offset, word, escaped(meaningOfWord(word)), marksAt(at + 4 * i, pointers, 4)];
+        return [hex8(at + 4 * i), offset, word, escaped(meaningOfWord(word)), namesOf(pointersAt(at + 4 * i, 4, pointers))];
     });
     const heads = ["Address", "Place", "Word", "Meaning", "Here"];
     const attributes = rows.map(([, , , , marks]) => (marks ? 'class="pointed"' : ""));

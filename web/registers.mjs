@@ -7,7 +7,7 @@ import { escaped } from "./language.mjs";
 import { meaningOf } from "./meaning.mjs";
 import { recall, remember } from "./remembered.mjs";
 import { change, state, view } from "./state.mjs";
-import { BOTH, FORMATS, hex8, placeText, registerHtml } from "./views.mjs";
+import { BOTH, FORMATS, hex8, joined, placeText, registerHtml } from "./views.mjs";
 
 /** @param {Look} board */
 function whereText({ pc, label, mode, steps }) {
@@ -82,7 +82,7 @@ function draw({ registers }, format) {
         const now = `${name} ${value} ${isChanged} ${meaning}`;
         if (!isOther && item.getAttribute("data-now") === now) return;
         item.setAttribute("data-now", now);
-        item.className = isChanged ? "changed" : "";
+        item.className = joined([isChanged && "changed", !value && "zero"], " ");
         item.innerHTML = registerHtml(register, format, meaning);
         if (!item.hasAttribute("tabindex")) item.setAttribute("tabindex", i ? "-1" : "0");
     });

@@ -62,9 +62,9 @@ export const BOTH = "hex and meaning";
  * @param {string} meaning
  */
 export function registerHtml({ name, value, isChanged }, format, meaning) {
-    const mark = isChanged ? '*<span class="unseen">changed</span>' : "";
+    const mark = isChanged ? '<i>*<span class="unseen">changed</span></i>' : "";
     const values = (format === BOTH ? [hex8(value), meaning] : [FORMATS[format](value)]).map(escaped);
-    return `<b>${name}</b> ${values.map((it) => `<span>${it}</span>`).join(" ")}<i>${mark}</i>`;
+    return `<b>${name}</b>${mark} ${values.map((it) => `<span>${it}</span>`).join(" ")}`;
 }
 
 /**

@@ -1,7 +1,9 @@
 // node web/tests/looks.mjs PROGRAM: what the page looks like and what is seen at once: panes that can be resized, formats
 // of registers, memory, the stack, a phone, and a print.
+import { hangingColumn } from "../wrapping.mjs";
 import { check, contains, same } from "./checks.mjs";
 import { openPage } from "./chromium.mjs";
+import { editor } from "./source.mjs";
 import { choose, lab, learn, open, page, press, quoted, sourceOf, url } from "./user.mjs";
 
 const element = (id) => `document.getElementById(${quoted(id)})`;
@@ -136,6 +138,61 @@ async function stack() {
     await page.click("#tab-control");
 }
 
+// Lines that are wider than the editor.
+async function wrapped() {
+    const wide = `        nop                     # ${"a comment of many words ".repeat(5)}`;
+    await open(`${wide}\n        nop\n`);
+    const lines = `[...document.querySelectorAll(".CodeMirror-line")].slice(0, 2)`;
+    const [first, second] = await page.run(`${lines}.map((it) => it.getBoundingClientRect().height)`);
+    check("a wide line goes on below", first > 1.9 * second, `${first} and ${second}`);
+    same("so that nothing of it is cut", await page.run(`${lines}[0].scrollWidth <= ${lines}[0].clientWidth`), true);
+    const lefts = `[...${lines}[0].querySelector(".cm-comment").getClientRects()].map((it) => Math.round(it.left))`;
+    const [at, ...others] = await page.run(lefts), letter = first && (await page.run(`${editor}.defaultCharWidth()`));
+    check("under its comment", others.every((it) => Math.abs(it - at - 2 * letter) < 3), [at, ...others].join());
+    await page.run(`${editor}.setCursor(0, ${wide.length})`);
+    await page.type("x".repeat(3000));
+    await page.until(`!document.querySelector(".CodeMirror-wrap")`);
+    check("but where one is very long, none is wrapped", true);
+    await choose("hello");
+    same("up to the next source", await page.run(`document.querySelectorAll(".CodeMirror-wrap").length`), 1);
+    for (const [text, columns, column] of HANGING) same(`${text} goes on at ${column}`, hangingColumn(text, columns), column);
+}
+
+const HANGING = [
+    ["        li t1,5         # to come", 60, 26],
+    ["        li t1,5         # to come", 30, 16],
+    ["# a comment", 60, 2],
+    ["x:      nop", 60, 8],
+    ['.asciz "a # b" // c', 80, 18],
+    ["\tli\ta0,'#'\t# z", 80, 26],
+];
+
+// Narrow panes, and what stands beside each other.
+async function narrow() {
+    await choose("recursion");
+    await lab("until print", "stopped after");
+    const gap = `(([hex, meaning]) => meaning.getBoundingClientRect().left - hex.getBoundingClientRect().right)(
+        document.querySelectorAll("#registers li:nth-child(3) > span:not(.unseen)"))`;
+    const distance = await page.run(gap);
+    check(`what a register means stands ${Math.round(distance)} pixels beside it`, 0 <= distance && distance < 16);
+    await page.click("#tab-memory");
+    await showFrom("sp");
+    await page.until(`document.querySelectorAll("#panel-memory tbody tr").length > 0`);
+    const bytes = async () => (await rows())[0].match(/\b[0-9a-f]{2}\b/g).length;
+    same("a row of memory has 16 bytes", await bytes(), 16);
+    await page.run(`document.documentElement.style.setProperty("--source-width", "66%")`);
+    await page.until(`document.querySelector("#panel-memory tbody tr td:nth-child(2)").textContent.length < 24`);
+    same("and 8 in a narrow pane", await bytes(), 8);
+    const width = `(({ scrollWidth, clientWidth }) => scrollWidth <= clientWidth)(${element("memory-rows")})`;
+    check("where they aren't cut either", await page.run(width));
+    await page.run(`${element("memory-rows")}.scrollTop = ${element("memory-rows")}.scrollHeight`);
+    await page.until(`[...document.querySelectorAll("#panel-memory tbody tr")].at(-1).innerText.startsWith("800ffff8")`);
+    check("and which scroll to the last byte", true);
+    await page.run(`document.documentElement.style.removeProperty("--source-width")`);
+    await page.until(`document.querySelector("#panel-memory tbody tr td:nth-child(2)").textContent.length > 40`);
+    await page.click("#tab-control");
+}
+
 const phone = { width: 390, height: 844 };
 
 async function onPhone() {
@@ -147,6 +204,14 @@ async function onPhone() {
     const rights = await run(`[...document.querySelectorAll("#registers li")].map((it) => it.getBoundingClientRect().right)`);
     same("with all registers", rights.filter((it) => it <= phone.width).length, 32);
     same("nothing is cut at the side", await run("document.documentElement.scrollWidth <= innerWidth"), true);
+    const controls = `[...document.querySelectorAll("header button, header select, #controls button, #controls select")]`;
+    const beyond = `${controls}.filter((it) => it.checkVisibility() && it.getBoundingClientRect().right > innerWidth).map((it) => it.id)`;
+    same("no control has to be scrolled to", (await run(beyond)).join(), "");
+    const unseen = `${controls}.filter((it) => !it.checkVisibility()).map((it) => it.id).join()`;
+    same("Pause takes the place of Run", await run(unseen), "pause");
+    await run(`document.body.dataset.runs = "yes"`);
+    same("while the board runs", await run(unseen), "run");
+    await run(`document.body.dataset.runs = "no"`);
     const all = `[...document.querySelectorAll("button, select, input, textarea")].filter((it) => it.checkVisibility())`;
     const low = `${all}.filter((it) => it.type !== "checkbox" && it.getBoundingClientRect().height < 43.5).map((it) => it.id)`;
     same("what is touched is 44 pixels high", (await run(low)).join(), "");
@@ -173,4 +238,4 @@ async function print() {
     check("after it the lines in sight", (await page.run(`document.querySelectorAll(".CodeMirror-line").length`)) < 200);
 }
 
-await learn(panes, controls, formats, memory, stack, onPhone, print);
+await learn(panes, controls, formats, memory, narrow, wrapped, stack, onPhone, print);

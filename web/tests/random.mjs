@@ -1,4 +1,4 @@
-// node web/tests/random.mjs PROGRAM: 400 random programs with random commands print in Node, by out/web/board.wasm, what the
+// node web/tests/random.mjs PROGRAM: 500 random programs with random commands print in Node, by out/web/board.wasm, what the
 // built program prints, byte for byte.
 import { spawnSync } from "node:child_process";
 import fs from "node:fs";
@@ -7,7 +7,7 @@ import path from "node:path";
 import { monitor, open, status } from "../run.mjs";
 import { check, finish, same } from "./checks.mjs";
 
-const PROGRAMS = 400;
+const PROGRAMS = 500;
 const program = path.resolve(process.argv[2]);
 const room = fs.mkdtempSync(path.join(os.tmpdir(), "rv-random-"));
 let random = 68;

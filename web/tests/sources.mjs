@@ -58,7 +58,10 @@ async function labelled() {
     })()`);
     const row = `document.querySelector("#panel-memory tbody td:last-child")?.textContent`;
     await page.until(`${row}?.includes("first")`);
-    same("all labels of a line stand in memory", await page.run(row), "◀ pc, first, second, end at …04");
+    same("all labels of a line stand in memory", await page.run(row), "◀ pc, first, second, end");
+    const marked = `[...document.querySelectorAll("#panel-memory tbody mark")].slice(0, 2)
+        .map((it) => it.textContent + it.title).join()`;
+    same("and the bytes that they name are marked", await page.run(marked), "01◀ pc, first, second,02end");
 }
 
 // Opens a link with these breakpoints, and returns how many are set.
