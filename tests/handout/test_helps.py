@@ -3,7 +3,7 @@
 import unittest
 
 from elf.refusal import Refused
-from handout.completion import zsh
+from handout.completion import bash, zsh
 from handout.contents import with_known_links, without_marks
 from handout.helps import (
     Argument,
@@ -13,6 +13,7 @@ from handout.helps import (
     read_commands,
     read_examples,
     read_help,
+    read_tool_help,
 )
 from handout.manual import escaped, manual, statuses
 
@@ -29,6 +30,22 @@ Options:
       --take <F>  some bytes, a file
       --most <N>  a number, it's 1 to 9 [default: 3]
   -h, --help      Print help
+"""
+TOOL_HELP = """\
+usage: grade LIST FILE.. [--json FILE]
+       grade --merge FILE..
+
+Grades (docs/A.md).
+
+positional arguments:
+  FILE         some files
+
+options:
+  -h, --help   show this help message and exit
+  --json FILE  write JSON
+  --shard I/N  some alone
+
+A note.
 """
 SAID = """\
 a.s: 1 line
@@ -73,7 +90,7 @@ class Helps(unittest.TestCase):
             Help(
                 "tool",
                 "runs it",
-                "[OPTIONS] <SOURCE> [LIST]",
+                ["[OPTIONS] <SOURCE> [LIST]"],
                 [
                     Argument("SOURCE", True, "what is run"),
                     Argument("LIST", False, "its list"),
@@ -91,6 +108,23 @@ class Helps(unittest.TestCase):
         self.assertEqual(
             [option.takes_file for option in options], [True, False, False]
         )
+
+    def test_a_help_in_python_is_read(self) -> None:
+        words = read_tool_help("grade", TOOL_HELP)
+        self.assertEqual((words.program, words.about), ("grade", "Grades (docs/A.md)"))
+        self.assertEqual(words.usages, ["LIST FILE.. [--json FILE]", "--merge FILE.."])
+        self.assertEqual(words.arguments, [Argument("FILE", True, "some files", True)])
+        options = [(it.names, it.value, it.takes_file) for it in words.options]
+        self.assertEqual(
+            options,
+            [
+                (["-h", "--help"], "", False),
+                (["--json"], "FILE", True),
+                (["--shard"], "I/N", False),
+            ],
+        )
+        with self.assertRaises(Refused):
+            read_tool_help("grade", TOOL_HELP.replace("  --json FILE", "  --json=FILE"))
 
     def test_what_is_not_understood_is_refused(self) -> None:
         changes = [
@@ -148,8 +182,13 @@ class Made(unittest.TestCase):
 
     def test_exit_statuses(self) -> None:
         self.assertEqual(
-            statuses(DOCUMENT), [("0", "halted, x"), ("4", "no file (A.md)")]
+            statuses(DOCUMENT, "tool"), [("0", "halted, x"), ("4", "no file (A.md)")]
         )
+        two = f"# A\n{DOCUMENT}\n## The tool\n\n| Exit status | When |\n|---|---|\n| 7 | odd |\n"
+        self.assertEqual(statuses(two, "tool"), [("7", "odd")])
+        self.assertEqual(statuses(two, "other")[0], ("0", "halted, x"))
+        with self.assertRaises(Refused):
+            statuses("| Status | When |\n", "tool")
 
     def test_the_date_of_a_manual(self) -> None:
         page = manual(
@@ -167,6 +206,13 @@ class Made(unittest.TestCase):
         self.assertTrue(
             made.endswith("    ':what is run:_files' \\\n    '::its list:_files'\n")
         )
+
+    def test_values_that_are_listed(self) -> None:
+        option = Option("-f", "--form", "FORM", "the form [possible values: elf, bin]")
+        words = Help("tool", "x", ["y"], [], [option])
+        self.assertIn('-f | --form) mapfile -t COMPREPLY < <(compgen -W "elf bin" ', bash(words))
+        text = "[the form \\[possible values\\: elf, bin\\]]:the form [possible values\\: elf, bin]:(elf bin)"
+        self.assertIn(f"'(-f --form)-f{text}' '(-f --form)--form={text}'", zsh(words))
 
     def test_links_to_what_is_not_there(self) -> None:
         text = "[A](A.md#x), [B](B.md), [C](#c) and [D](https://d.org/)"

@@ -12,6 +12,7 @@ _PROGRAM() {
     COMPREPLY=()
     case $before in
     FILES) mapfile -t COMPREPLY < <(compgen -f -- "$word") && return ;;
+    CHOICES
     VALUES) return ;;
     esac
     case $word in
@@ -31,12 +32,13 @@ complete -o filenames -F _PROGRAM PROGRAM
 def bash(words: Help) -> str:
     """The completion for bash. An option that is given already isn't offered again."""
     options = words.options
-    files = [option.name for option in options if option.takes_file]
-    values = [
-        option.name for option in options if option.value and not option.takes_file
-    ]
+    files = [name for it in options if it.takes_file for name in it.names]
+    chosen = [it for it in options if it.choices]
+    others = [it for it in options if it.value and not it.takes_file and it not in chosen]
+    values = [name for it in others for name in it.names]
     parts = {
         "FILES": " | ".join(files) or "''",
+        "    CHOICES\n": "".join(map(bash_choices, chosen)),
         "VALUES": " | ".join(values) or "''",
         "OPTIONS": " ".join(name for option in options for name in option.names),
         "PROGRAM": words.program,
@@ -45,6 +47,12 @@ def bash(words: Help) -> str:
     for place, part in parts.items():
         text = text.replace(place, part)
     return text
+
+
+def bash_choices(option: Option) -> str:
+    """The case of an option whose values are listed."""
+    words = f'compgen -W "{" ".join(option.choices)}" -- "$word"'
+    return f'    {" | ".join(option.names)}) mapfile -t COMPREPLY < <({words}) && return ;;\n'
 
 
 def quoted(text: str) -> str:
@@ -63,8 +71,10 @@ def zsh_option(option: Option) -> str:
     """The form of an option."""
     text = "[" + inside(option.text, "\\:[]") + "]"
     if option.value:
-        action = "_files" if option.takes_file else " "
-        return quoted(f"{option.name}={text}:{inside(option.text)}:{action}")
+        action = "_files" if option.takes_file else f"({' '.join(option.choices)})" if option.choices else " "
+        value = f"{text}:{inside(option.text)}:{action}"
+        others = f"({' '.join(option.names)})" if option.short else ""
+        return " ".join(quoted(f"{others}{name}{'=' * (len(name) > 2)}{value}") for name in option.names)
     return " ".join(quoted(f"(- *){name}{text}") for name in option.names)
 
 
@@ -72,7 +82,7 @@ def zsh(words: Help) -> str:
     """The completion for zsh."""
     forms = [zsh_option(option) for option in words.options]
     for argument in words.arguments:
-        colons = ":" if argument.is_needed else "::"
+        colons = "*:" if argument.is_many else ":" if argument.is_needed else "::"
         forms.append(quoted(f"{colons}{inside(argument.text)}:_files"))
     program = words.program
     lines = [

@@ -10,9 +10,16 @@ from elf.refusal import Refused
 from handout import tree
 from handout.archive import Entry, text
 from handout.completion import bash, zsh
-from handout.helps import Command, Help, read_commands, read_examples, read_help
+from handout.helps import (
+    Command,
+    Help,
+    read_commands,
+    read_examples,
+    read_help,
+    read_tool_help,
+)
 from handout.manual import manual
-from handout.programs import Program, Running, kit_of, oldest_glibc
+from handout.programs import Program, Running, kit_of, oldest_glibc, output_of
 
 DOCUMENTS = "GUIDE LAB JSON BOARD ASSEMBLER MONITOR C GRADING ISOLATION LIMITS".split()
 # By program the document that has the table of its exit statuses. Of those that the archive needn't have it is handed
@@ -23,6 +30,9 @@ MANUALS = {
     "rvas": "docs/GDB.md",
     "rvgdb": "docs/GDB.md",
 }
+# The tools in Python that have a man page and completions, by the same.
+TOOL_MANUALS = {"rvgrade": "docs/GRADING.md"}
+WIDE = "COLUMNS=1000"  # with which each row of their helps is one line
 # The tools that work on the repository itself, and so aren't handed out.
 OWN_TOOLS = set("build counts definitions dist handout need".split())
 README = "tools/handout/README.md"
@@ -158,14 +168,25 @@ def from_helps(making: Making) -> dict[str, Entry]:
     with tempfile.TemporaryDirectory(prefix="dist") as room:
         running = Running(making.programs, room, os.path.join(TOP, "examples/hello.s"))
         for name in (program.name for program in making.programs):
-            document = MANUALS[name]
             words = read_help(name, running.help_of(name))
             commands, note = commands_of(running) if name == "rvlab" else ([], [])
-            page = manual_of(making, words, document, commands, note)
-            made[f"share/man/man1/{name}.1"] = text(page)
-            made[f"share/bash-completion/completions/{name}"] = text(bash(words))
-            made[f"share/zsh/site-functions/_{name}"] = text(zsh(words))
+            page = manual_of(making, words, MANUALS[name], commands, note)
+            made.update(shared(words, page))
+    for tool, document in TOOL_MANUALS.items():
+        help_command = ["env", WIDE, os.path.join(TOP, "tools", tool), "--help"]
+        words = read_tool_help(tool, output_of(help_command, ""))
+        made.update(shared(words, manual_of(making, words, document, [], [])))
     return made
+
+
+def shared(words: Help, page: str) -> dict[str, Entry]:
+    """The man page and the completions of a program."""
+    name = words.program
+    return {
+        f"share/man/man1/{name}.1": text(page),
+        f"share/bash-completion/completions/{name}": text(bash(words)),
+        f"share/zsh/site-functions/_{name}": text(zsh(words)),
+    }
 
 
 def commands_of(running: Running) -> tuple[list[Command], list[str]]:

@@ -2,13 +2,14 @@
 
 import re
 from collections.abc import Iterator
-from dataclasses import dataclass
+from dataclasses import dataclass, replace
 
 from elf.refusal import Refused
 
 ROW = re.compile(r" +(\S+(?: \S+)*) {2,}(\S.*)")
-OPTION = re.compile(r"(?:(-\w), )?(--[a-z][a-z-]*)(?: <([A-Z]+)>)?")
-ARGUMENT = re.compile(r"\[([A-Z]+)\]|<([A-Z]+)>")
+OPTION = re.compile(r"(?:(-\w), )?(--[a-z][a-z-]*)(?: (?:<([A-Z]+)>|([A-Z/]+)))?")
+ARGUMENT = re.compile(r"\[([A-Z]+)\]|<([A-Z]+)>|([A-Z]+)")
+CHOICES = re.compile(r"\[possible values: ([^]]+)\]")
 COMMAND = re.compile(r"([a-z]+(?: \S+)*) {2,}(\S.*)")
 
 
@@ -29,7 +30,13 @@ class Option:
     @property
     def takes_file(self) -> bool:
         """Whether its value is the path of a file."""
-        return bool(self.value) and self.text.endswith(", a file")
+        return self.value == "FILE" or bool(self.value) and self.text.endswith(", a file")
+
+    @property
+    def choices(self) -> list[str]:
+        """The values that it may have; none where they aren't listed."""
+        found = CHOICES.search(self.text)
+        return found[1].split(", ") if found else []
 
 
 @dataclass(frozen=True)
@@ -39,6 +46,7 @@ class Argument:
     name: str  # as SOURCE
     is_needed: bool
     text: str
+    is_many: bool = False  # whether there may be more than one
 
 
 @dataclass(frozen=True)
@@ -47,7 +55,7 @@ class Help:
 
     program: str
     about: str
-    usage: str  # the words behind the program's name
+    usages: list[str]  # each the words behind the program's name
     arguments: list[Argument]
     options: list[Option]
 
@@ -68,7 +76,8 @@ class Command:
 
 def read_help(program: str, text: str) -> Help:
     """Reads what a program prints by --help. A line that isn't understood is refused, so that none is lost."""
-    about = usage = section = ""
+    about = section = ""
+    usages: list[str] = []
     arguments: list[Argument] = []
     options: list[Option] = []
     for number, line in enumerate(text.rstrip("\n").split("\n"), 1):
@@ -77,16 +86,30 @@ def read_help(program: str, text: str) -> Help:
         elif number == 1:
             about = line
         elif line.startswith(f"Usage: {program} "):
-            usage = line.removeprefix(f"Usage: {program} ")
+            usages.append(line.removeprefix(f"Usage: {program} "))
         elif section == "Arguments:" and (argument := read_argument(line)):
             arguments.append(argument)
         elif section == "Options:" and (option := read_option(line)):
             options.append(option)
         else:
             raise Refused(f"{program} --help: line {number} isn't understood: {line}")
-    if not (about and usage and options):
+    if not (about and usages and options):
         raise Refused(f"{program} --help: it has no usage or no options")
-    return Help(program, about, usage, arguments, options)
+    return Help(program, about, usages, arguments, options)
+
+
+def read_tool_help(tool: str, text: str) -> Help:
+    """Reads what a tool in Python prints by --help: its usages, what it does, its words, and a note."""
+    usage, about, *tables = re.split(r"\n{2,}", text.rstrip("\n"))
+    heads = {"positional arguments:": "Arguments:", "options:": "Options:"}
+    rows = "\n\n".join(tables[: len(heads)])
+    for head, other in heads.items():
+        rows = rows.replace(head, other)
+    words = " ".join(usage.removeprefix("usage:").split())
+    usages = re.sub(rf"(?:^| ){tool} ", f"\nUsage: {tool} ", words)
+    found = read_help(tool, f"{about.rstrip('.')}\n{usages}\n\n{rows}\n")
+    many = [replace(it, is_many=".." in words) for it in found.arguments]
+    return replace(found, arguments=many)
 
 
 def read_argument(line: str) -> Argument | None:
@@ -95,7 +118,7 @@ def read_argument(line: str) -> Argument | None:
     form = ARGUMENT.fullmatch(row[1]) if row else None
     if row is None or form is None:
         return None
-    return Argument(form[1] or form[2], form[2] is not None, row[2])
+    return Argument(form[1] or form[2] or form[3], form[1] is None, row[2])
 
 
 def read_option(line: str) -> Option | None:
@@ -104,7 +127,7 @@ def read_option(line: str) -> Option | None:
     form = OPTION.fullmatch(row[1]) if row else None
     if row is None or form is None:
         return None
-    return Option(form[1] or "", form[2], form[3] or "", row[2])
+    return Option(form[1] or "", form[2], form[3] or form[4] or "", row[2])
 
 
 def read_commands(said: str) -> tuple[list[tuple[str, str]], list[str]]:

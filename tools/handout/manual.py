@@ -3,6 +3,7 @@
 import re
 import time
 
+from elf.refusal import Refused
 from handout.helps import Command, Help
 
 STATUSES = "| Exit status | When |"  # heads the table of a document
@@ -38,9 +39,15 @@ def row(head: str, *lines: str) -> list[str]:
     return [".TP", head, *lines]
 
 
-def statuses(document: str) -> list[tuple[str, str]]:
-    """The exit statuses, as a table of a document has them, without those of the repository's scripts."""
-    _, _, table = document.partition(STATUSES + "\n")
+def statuses(document: str, program: str) -> list[tuple[str, str]]:
+    """The exit statuses of a program, without those of the repository's scripts: as a table of a document has them, of the
+    section that the program heads or else the first one."""
+    sections = re.split(r"^(?=#)", document, flags=re.MULTILINE)
+    tables = [it for it in sections if STATUSES in it]
+    if not tables:
+        raise Refused(f"no document has a table {STATUSES!r} of {program}")
+    own = (it for it in tables if program in it.partition("\n")[0])
+    _, _, table = next(own, tables[0]).partition(STATUSES + "\n")
     rows = []
     for line in table.split("\n")[1:]:
         cells = [cell.strip() for cell in line.strip("|").split("|")]
@@ -76,7 +83,7 @@ def manual(
         ".SH NAME",
         f"{program} \\- {escaped(words.about)}",
         ".SH SYNOPSIS",
-        f"{bold(program)} {escaped(words.usage)}",
+        "\n.br\n".join(f"{bold(program)} {escaped(usage)}" for usage in words.usages),
         ".SH ARGUMENTS",
     ]
     for argument in words.arguments:
@@ -97,7 +104,7 @@ def manual(
     if note:
         lines += [".PP", *map(escaped, note)]
     lines.append(".SH EXIT STATUS")
-    for status, when in statuses(document):
+    for status, when in statuses(document, program):
         lines += row(bold(status), escaped(when))
     other = "rvlab" if program == "rvboard" else "rvboard"
     lines += [

@@ -99,7 +99,7 @@ function misplaced() {
     const seen = controls.filter((it) => it.checkVisibility()).map((it) => [it, it.getBoundingClientRect()]);
     const isCut = ([it]) => it.tagName === "BUTTON" && it.scrollWidth > it.clientWidth + 1;
     const meet = (a, b) => a.left < b.right - 1 && b.left < a.right - 1 && a.top < b.bottom - 1 && b.top < a.bottom - 1;
-    const isOver = ([it, box], i) => seen.slice(0, i).some(([, other]) => meet(box, other));
+    const isOver = ([, box], i) => seen.slice(0, i).some(([, other]) => meet(box, other));
     return seen.filter((it, i) => isCut(it) || isOver(it, i)).map(([it]) => it.id || it.textContent);
 }
 

@@ -29,11 +29,6 @@ const site = `http://127.0.0.1:${server.address().port}`;
 const answer = `document.getElementById("answer").textContent`;
 const ready = `document.body.dataset.ready === "yes"`;
 const click = (id) => `document.getElementById("${id}").click()`;
-const type = (id, it) => `(() => {
-    const field = document.getElementById("${id}");
-    field.value = ${JSON.stringify(it)};
-    field.dispatchEvent(new Event("input"));
-})()`;
 
 const page = await openPage(`${site}/host.html`);
 const run = (expression) => page.runInFrame(expression);

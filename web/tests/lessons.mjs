@@ -3,7 +3,7 @@ import fs from "node:fs";
 import { check, contains, same } from "./checks.mjs";
 import { editor, mark } from "./source.mjs";
 import { answer, answers, choose, clickLine, idle, lab, learn, marks, native, open, page, printed, text } from "./user.mjs";
-import { sourceOf, top, typeOver, where } from "./user.mjs";
+import { sourceOf, top, typeOver } from "./user.mjs";
 
 async function allExamples() {
     const files = fs.readdirSync(`${top}/examples`);
