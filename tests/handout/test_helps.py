@@ -214,6 +214,10 @@ class Made(unittest.TestCase):
         text = "[the form \\[possible values\\: elf, bin\\]]:the form [possible values\\: elf, bin]:(elf bin)"
         self.assertIn(f"'(-f --form)-f{text}' '(-f --form)--form={text}'", zsh(words))
 
+    def test_flags_go_together(self) -> None:
+        flag = Option("", "--quiet", "", "no text")
+        self.assertIn("    '--quiet[no text]' ", zsh(Help("tool", "x", ["y"], [Argument("A", True, "a")], [flag])))
+
     def test_links_to_what_is_not_there(self) -> None:
         text = "[A](A.md#x), [B](B.md), [C](#c) and [D](https://d.org/)"
         self.assertEqual(

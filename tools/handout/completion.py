@@ -2,6 +2,7 @@
 
 from handout.helps import Help, Option
 
+ALONE = ["--help", "--version"]
 BASH = """\
 # Completion of PROGRAM for bash, made by tools/dist of `PROGRAM --help`.
 _PROGRAM() {
@@ -68,14 +69,15 @@ def inside(text: str, signs: str = "\\:") -> str:
 
 
 def zsh_option(option: Option) -> str:
-    """The form of an option."""
+    """The form of an option. One that prints something of the program alone goes with no other word."""
     text = "[" + inside(option.text, "\\:[]") + "]"
     if option.value:
         action = "_files" if option.takes_file else f"({' '.join(option.choices)})" if option.choices else " "
-        value = f"{text}:{inside(option.text)}:{action}"
-        others = f"({' '.join(option.names)})" if option.short else ""
-        return " ".join(quoted(f"{others}{name}{'=' * (len(name) > 2)}{value}") for name in option.names)
-    return " ".join(quoted(f"(- *){name}{text}") for name in option.names)
+        text += f":{inside(option.text)}:{action}"
+    is_alone = option.name in ALONE
+    others = "(- *)" if is_alone else f"({' '.join(option.names)})" if option.short else ""
+    signs = {name: "=" if option.value and name.startswith("--") else "" for name in option.names}
+    return " ".join(quoted(f"{others}{name}{sign}{text}") for name, sign in signs.items())
 
 
 def zsh(words: Help) -> str:
