@@ -4,6 +4,7 @@
 import { fileURLToPath } from "node:url";
 import { check, finish, same } from "./checks.mjs";
 import { openPage } from "./chromium.mjs";
+import { broken } from "./rules.mjs";
 import { text } from "./source.mjs";
 
 const url = `file://${fileURLToPath(new URL("../../out/web/index.html", import.meta.url))}`;
@@ -60,6 +61,21 @@ async function focusOrder(page) {
     await page.run(`document.getElementById("tab-control").focus()`);
     await page.press("ArrowRight");
     same("arrows move among the tabs", await page.run("document.activeElement.id"), "tab-memory");
+}
+
+async function rules(page, name) {
+    same(`${name}: no rule is broken`, (await page.run(`(${broken})()`)).join("\n"), "");
+}
+
+// The rules find what breaks them.
+async function plantedFaults(page) {
+    await page.run(`document.body.insertAdjacentHTML("beforeend", \`<div id="odd"><h6 id="odd">x</h6><button aria-label="y">x</button>
+        <i tabindex="3" aria-describedby="nowhere">x</i><ul><b>x</b></ul></div>\`)`);
+    const found = (await page.run(`(${broken})()`)).map((it) => it.split(":")[0]);
+    await page.run(`document.getElementById("odd").remove()`);
+    const wanted = ["an id stands twice", "a reference leads nowhere", "an order of focus of its own", "a name without the words that are seen"];
+    wanted.push("a heading of a level that is skipped", "a list with what is no item");
+    same("the rules find what breaks them", wanted.filter((it) => !found.includes(it)).join(), "");
 }
 
 // The least contrast of a text on what is behind it, over all texts in sight.
@@ -123,7 +139,9 @@ await focusOrder(page);
 await inEachTab(page, async (tab) => {
     await names(page, tab);
     await contrast(page, `${tab}, light`);
+    await rules(page, tab);
 });
+await plantedFaults(page);
 const isInSight = (await fits(page)) && (await page.run(`${root}.scrollHeight <= innerHeight`));
 check("at 1280 by 720 all is in sight", isInSight, await size(page));
 await placed(page, "at 1280 by 720");
@@ -150,6 +168,7 @@ const phone = await openPage(url, { width: 390, height: 844, dark: true });
 await ready(phone);
 await placed(phone, "on a phone");
 await contrast(phone, "on a phone");
+await rules(phone, "on a phone");
 same("a tab that is opened doesn't scroll the page", await phone.run("scrollY"), 0);
 await phone.close();
 finish();
