@@ -5,7 +5,7 @@
 const NARROW = 400; // pixels: a narrower editor wraps no line, so that more instructions are in sight
 const LONGEST = 2000; // characters: with a longer line none is wrapped, since a browser takes long for it
 const TAB = 8;
-const LEFT = 0.6; // of the width: what begins farther right goes on below the statement
+const LEFT = 0.75; // of the width: what begins farther right goes on below the statement
 const PADDING = 4; // pixels, the editor's own
 
 /**

@@ -11,6 +11,6 @@ export const ANSWERS = {
         ["        add     a0,a0,s0\n", "        add     a0,a0,s0\n        lw      s0,8(sp)\n        lw      ra,12(sp)\n        addi    sp,sp,16\n"]],
     trap: [["        # set mtvec to handler\n", "        la      t0,handler\n        csrw    mtvec,t0\n"],
         ["handler:\n", "handler:\n        addi    s0,s0,1\n        csrr    s1,mepc\n        addi    s1,s1,4\n        csrw    mepc,s1\n        mret\n"]],
-    protection: [["        li      t0,-1                   # all of memory\n",
+    protection: [["        li      t0,-1           # all of memory\n",
         "        la      t0,task\n        srli    t0,t0,2\n        ori     t0,t0,0x1ff\n"]],
 };
