@@ -1,7 +1,7 @@
 -- The word and the ranges of a kind are those of its fields.
 use Rattle.std.proofs.Common.{◌≡◌, ℕ, ◌+◌, ◌*◌, ◌^◌, ◌<◌, ◌∙◌, List, Option, Some, None, sym, ap, subst, ℤ, pos, negsuc, arith, rules}
 use Rattle.std.specs.Prelude.{◌↔◌, fold}
-use Rattle.rv_isa.proofs.OneLayout.{kept}
+use Rattle.rv_isa.proofs.OneLayout.{kept, fields_in_range}
 use Rattle.rv_isa.specs.Fields.{kind_of, unsigned}
 use Rattle.rv_isa.specs.Support.Kinds.{fields_of, word, IsInRange, IsMeaning}
 use Rattle.rv_isa.specs.Support.Codes.{codes_of, placed}
@@ -11,16 +11,8 @@ use Rattle.rv_isa.specs.Word.{Means}
 use Rattle.rv_isa.specs.declared.fields.Fields.{Fields}
 use Rattle.rv_isa.specs.declared.format.Codes.{Codes}
 use Rattle.rv_isa.specs.declared.kind.Kind.{Kind}
-use Rattle.rv_isa.specs.declared.kind.Kind.TheVariants.{Branch, Load, Store, OpImm, Shift, Op, Csr, CsrImm}
 use Rattle.rv_isa.specs.declared.op.Operation.{Operation}
 use Rattle.rv_isa.specs.declared.op.Operation.TheVariants as o
-use Rattle.rv_isa.specs.declared.op.Cond.TheVariants as cond
-use Rattle.rv_isa.specs.declared.op.LoadOp.TheVariants as loads
-use Rattle.rv_isa.specs.declared.op.Width.TheVariants as width
-use Rattle.rv_isa.specs.declared.op.ImmOp.TheVariants as immediate
-use Rattle.rv_isa.specs.declared.op.ShiftOp.TheVariants as shift
-use Rattle.rv_isa.specs.declared.op.AluOp.TheVariants as alu
-use Rattle.rv_isa.specs.declared.op.CsrOp.TheVariants as csr
 
 -- parts side by side, the first of them highest
 abbrev packed : List (ℕ × ℕ) → ℕ
@@ -54,20 +46,6 @@ ranged x f a b c h = search rules
 pub kind_in_range : (f : Fields) → AreInRange f → IsInRange (kind_of f)
 unfolding kind_of
 kind_in_range f r = ranged f.operation f r.0 r.1 r.2 r.3
-
--- ---- the fields of a kind in range
-
-fields_in_range : (k : Kind) → IsInRange k → AreInRange (fields_of k)
-unfolding fields_of
-fields_in_range (Branch cond.Eq _ _ _) r = grind arith
-fields_in_range (Load loads.Lb _ _ _) r = grind arith
-fields_in_range (Store width.One _ _ _) r = grind arith
-fields_in_range (OpImm immediate.Addi _ _ _) r = grind arith
-fields_in_range (Shift shift.Slli _ _ _) r = grind arith
-fields_in_range (Op alu.Add _ _ _) r = grind arith
-fields_in_range (Csr csr.Write _ _ _) r = grind arith
-fields_in_range (CsrImm csr.Write _ _ _) r = grind arith
-fields_in_range k r = grind arith
 
 -- ---- the meaning of a word, by kinds
 

@@ -1,21 +1,18 @@
 -- How long the text of an instruction is.
-use Rattle.std.proofs.Common.{ℕ, suc, ◌^◌, ◌<◌, ◌≤◌, length, arith, length-append}
+use Rattle.std.proofs.Common.{ℕ, suc, ◌^◌, ◌<◌, ◌≤◌, ◌≡◌, length, subst, sym, arith, length-append}
 use Rattle.std.proofs.lemmas.Fmt.{length-decimal-le, length_signed_le}
 use Rattle.std.specs.Prelude.{ℤ, pos, negsuc}
 use Rattle.std.specs.Fmt.{decimal, signed_decimal}
 use Rattle.rv_isa.specs.Number.{IsWithin}
-use Rattle.rv_isa.specs.Table.{mnemonic}
-use Rattle.rv_isa.specs.Support.Kinds.{IsInRange}
+use Rattle.rv_isa.specs.Table.{kind_in, mnemonic, row}
+use Rattle.rv_isa.specs.Fields.{kind_of}
+use Rattle.rv_isa.proofs.OneLayout.{kept}
+use Rattle.rv_isa.specs.declared.fields.Fields.{Fields}
+use Rattle.rv_isa.specs.declared.op.Operation.{Operation}
+use Rattle.rv_isa.specs.declared.op.Operation.TheVariants as o
+use Rattle.rv_isa.specs.Support.Kinds.{fields_of, IsInRange}
 use Rattle.rv_isa.specs.Text.{target, register_text, text}
 use Rattle.rv_isa.specs.declared.kind.Kind.{Kind}
-use Rattle.rv_isa.specs.declared.kind.Kind.TheVariants.{Branch, Load, Store, OpImm, Shift, Op, Csr, CsrImm}
-use Rattle.rv_isa.specs.declared.op.Cond.TheVariants as cond
-use Rattle.rv_isa.specs.declared.op.LoadOp.TheVariants as loads
-use Rattle.rv_isa.specs.declared.op.Width.TheVariants as width
-use Rattle.rv_isa.specs.declared.op.ImmOp.TheVariants as immediate
-use Rattle.rv_isa.specs.declared.op.ShiftOp.TheVariants as shift
-use Rattle.rv_isa.specs.declared.op.AluOp.TheVariants as alu
-use Rattle.rv_isa.specs.declared.op.CsrOp.TheVariants as csr
 use Rattle.rv_base.proofs.Hexadecimal.{hex_length}
 use Rattle.rv_base.specs.Digits.{short_hex}
 
@@ -53,14 +50,15 @@ jump_length (negsuc n) h =
 
 ruleset lengths = (small_length, register_length, upper_length, csr_number_length, immediate_length, branch_length, jump_length)
 
-pub text_length : (k : Kind) → IsInRange k → length (text k) ≤ 19
+by_operation : (x : Operation) (f : Fields) → IsInRange (kind_in (row x).1 f)
+    → length (text (kind_in (row x).1 f)) ≤ 19
 unfolding text mnemonic
-text_length (Branch cond.Eq _ _ _) r = simp length-append (grind (arith, lengths))
-text_length (Load loads.Lb _ _ _) r = simp length-append (grind (arith, lengths))
-text_length (Store width.One _ _ _) r = simp length-append (grind (arith, lengths))
-text_length (OpImm immediate.Addi _ _ _) r = simp length-append (grind (arith, lengths))
-text_length (Shift shift.Slli _ _ _) r = simp length-append (grind (arith, lengths))
-text_length (Op alu.Add _ _ _) r = simp length-append (grind (arith, lengths))
-text_length (Csr csr.Write _ _ _) r = simp length-append (grind (arith, lengths))
-text_length (CsrImm csr.Write _ _ _) r = simp length-append (grind (arith, lengths))
-text_length k r = simp length-append (grind (arith, lengths))
+by_operation o.Lui f r = simp length-append (grind (arith, lengths))
+by_operation x f r = simp length-append (grind (arith, lengths))
+
+pub text_length : (k : Kind) → IsInRange k → length (text k) ≤ 19
+unfolding kind_of
+text_length k r =
+    let f = fields_of k in
+    let same : kind_in (row f.operation).1 f ≡ k = kept k r in
+    subst (λ k. length (text k) ≤ 19) same (by_operation f.operation f (subst IsInRange (sym same) r))

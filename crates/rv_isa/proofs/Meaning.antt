@@ -1,15 +1,15 @@
 -- The meaning of a word is the kind of the operation whose codes it has, with the fields at their places.
 use Rattle.std.proofs.Common.{◌≡◌, ◌∙◌, ℕ, ◌/◌, ◌%◌, ◌^◌, ◌<◌, Bool, true, false, nat_lt, List, [], ◌∷◌, Option, Some, None, refl, sym, ap, subst, SFits, w32, arith}
 use Rattle.std.specs.Prelude.{if◌then◌else◌}
-use Rattle.std.proofs.lemmas.Bool.{and_parts, eqb-true, ltb-true, lt-ltb, true≢false}
+use Rattle.std.proofs.lemmas.Bool.{ltb-true, lt-ltb, true≢false}
 use Rattle.std.proofs.lemmas.Bool.Decides.{nat_tests}
 use Rattle.std.proofs.lemmas.Option.{none-some, same_Some}
 use Rattle.rv_isa.specs.Encoded.{encoded, AreInRange, HasImmediate}
 use Rattle.rv_isa.specs.Fields.{kind_of, with_fields}
 use Rattle.rv_isa.specs.Support.Codes.{normal, read_in, codes_of, placed, immediate, read, CodesFit, HasCodes}
 use Rattle.rv_isa.specs.Support.Kinds.{fields_of, operations, word, IsInRange}
-use Rattle.rv_isa.specs.Support.Meaning.{has_codes, has_two, first_in, kind_with, means}
-use Rattle.rv_isa.specs.Table.{kind_in, row, Encoding, R, Amount, I, Number, S, B, U, J, Whole}
+use Rattle.rv_isa.specs.Support.Meaning.{has_codes, first_in, kind_with, means}
+use Rattle.rv_isa.specs.Table.{kind_in, row, Encoding, R}
 use Rattle.rv_isa.specs.Word.{Means, OneMeaning}
 use Rattle.rv_isa.specs.declared.fields.Fields.{Fields}
 use Rattle.rv_isa.specs.declared.format.Codes.{Codes}
@@ -22,23 +22,9 @@ use Rattle.rv_isa.proofs.Encodings.{same_word, kind_in_range, word_means}
 
 -- ---- the operation whose codes a word has
 
-has_both : (w opcode funct3 : ℕ) → has_two w opcode funct3 ≡ true
-    → (w % 2 ^ 7 ≡ opcode) × (w / 2 ^ 12 % 2 ^ 3 ≡ funct3)
-has_both w opcode funct3 e =
-    let both = and_parts _ _ e in (eqb-true _ _ both.0, eqb-true _ _ both.1)
-
 has : (w : ℕ) (e : Encoding) → has_codes w e ≡ true → HasCodes w (codes_of e)
-has w (R opcode funct3 funct7 _) e =
-    let both = and_parts _ _ e in let two = has_both w opcode funct3 both.0 in (two.0, two.1, eqb-true _ _ both.1)
-has w (Amount opcode funct3 funct7 _) e =
-    let both = and_parts _ _ e in let two = has_both w opcode funct3 both.0 in (two.0, two.1, eqb-true _ _ both.1)
-has w (I opcode funct3 _) e = has_both w opcode funct3 e
-has w (Number opcode funct3 _) e = has_both w opcode funct3 e
-has w (S opcode funct3 _) e = has_both w opcode funct3 e
-has w (B opcode funct3 _) e = has_both w opcode funct3 e
-has w (U _ _) e = eqb-true _ _ e
-has w (J _ _) e = eqb-true _ _ e
-has w (Whole _ _) e = eqb-true _ _ e
+has w (R _ _ _ _) h = grind (arith, nat_tests)
+has w e h = grind (arith, nat_tests)
 
 by_row : (w : ℕ) (y : Operation) (others : Option Operation) (x : Operation) (b : Bool) → has_codes w (row y).1 ≡ b
     → (others ≡ Some x → HasCodes w (codes_of (row x).1)) → (if b then Some y else others) ≡ Some x

@@ -56,8 +56,9 @@ pub(crate) fn fields_of(kind: Kind) -> Fields
     ensures { result ≡ layout.fields_of kind }
 {
     let x0 = Reg::of(0);
-    let copy = kind;
-    let operation = Operation::of(copy);
+    // A copy: for the borrow checker the call moves its argument.
+    let named = kind;
+    let operation = Operation::of(named);
     match kind {
         kind!(Lui rd imm) => with(operation, rd, x0, x0, imm as i32),
         kind!(Auipc rd imm) => with(operation, rd, x0, x0, imm as i32),

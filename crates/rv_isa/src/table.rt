@@ -169,7 +169,8 @@ impl Operation {
         table!(operation_in(word))
     }
 
-    /// Returns the operation of a kind.
+    /// Returns the operation of a kind. Where the kind is known, no match is left.
+    #[inline(always)]
     pub(crate) fn of(kind: Kind) -> Operation
         ensures { result ≡ kinds.operation_of kind }
     {
