@@ -1,7 +1,7 @@
 -- Escapes, bytes between quotes, and the bytes of a string.
 use Rattle.std.proofs.Common.{rules}
 use Rattle.std.proofs.lemmas.Grind.{common_steps}
-use Rattle.std.proofs.Common.{◌≡◌, ◌∙◌, ℕ, zero, suc, ◌-◌, ◌<◌, ◌≤◌, Bool, true, false, cond, List, [], ◌∷◌, length, take, drop, get_or, refl, sym, ap, arith, length-take, length-drop}
+use Rattle.std.proofs.Common.{◌≡◌, ℕ, zero, suc, ◌-◌, ◌<◌, ◌≤◌, Bool, cond, List, [], ◌∷◌, length, take, drop, get_or, refl, ap, arith, length-take}
 use Rattle.std.specs.Prelude.{Option, None, Some, ◌&&◌, IsTrue, is_some}
 use Rattle.std.specs.Bool.{◌==◌}
 use Rattle.std.specs.Option.{option_map, unwrap_or}
@@ -39,10 +39,7 @@ pub spelled_is : (quote : ℕ) (text : List ℕ) → spelled quote text
     (cond (is_plain quote (get_or text 0 0) && (length text == 1)) (Some (get_or text 0 0)) None)
 unfolding spelled
 spelled_is quote [] = search rules
-spelled_is quote (b ∷ bs) =
-    let e : length (b ∷ bs) - 1 ≡ length bs = omega arith in
-    let f : (length (b ∷ bs) == 1) ≡ (length bs == 0) = grind (arith, nat_tests) in
-    rw (e, f, take_all (length bs) bs (omega arith)) refl
+spelled_is quote (b ∷ bs) = grind (arith, nat_tests, common_steps, take_all)
 
 -- the text of a byte has at most four bytes
 pub spelled_long : (quote : ℕ) (text : List ℕ) → 4 < length text → spelled quote text ≡ None

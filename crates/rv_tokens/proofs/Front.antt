@@ -1,7 +1,8 @@
 -- The longest token at the front of a line, by the byte that the line begins with.
+use Rattle.std.proofs.lemmas.Grind.{common_steps}
 use Rattle.std.proofs.Common.{rules}
-use Rattle.std.proofs.Common.{◌≡◌, ℕ, zero, suc, ◌+◌, ◌-◌, ◌<◌, ◌≤◌, Bool, true, false, cond, List, [], ◌∷◌, length, take, drop, get_or, refl, sym, ap, ◌∙◌, inl, inr, arith, length-take, length-drop, get_or-take, get_or-drop}
-use Rattle.std.specs.Prelude.{Option, None, Some, option_and_then, ◌&&◌, nat_lt, codes}
+use Rattle.std.proofs.Common.{◌≡◌, ℕ, zero, suc, ◌+◌, ◌-◌, ◌<◌, ◌≤◌, Bool, true, false, cond, List, [], ◌∷◌, length, take, drop, get_or, refl, sym, ap, ◌∙◌, arith, length-take, length-drop, get_or-take, get_or-drop}
+use Rattle.std.specs.Prelude.{Option, None, Some, option_and_then, ◌&&◌, codes}
 use Rattle.std.specs.List.{list_all}
 use Rattle.std.specs.Str.{bytes_eq}
 use Rattle.std.specs.Bool.{◌==◌}
@@ -44,12 +45,7 @@ pub front_at : (line : List ℕ) (n : ℕ) (o : Option Token) → 0 < n → n �
     → ((m : ℕ) → 0 < m → m < n → token_in line m ≡ None) → front line ≡ option_map (λ t. (t, n)) o
 front_at line n (Some t) some le is above below =
     longest_is (token_in line) (length line) n t (record { some = some; within = le; is = is; above = above })
-front_at line n None some le is above below =
-    longest_none (token_in line) (length line) (λ m p q. elim (cases_order m n) [
-      | inl e ↦ rw e is
-      | inr (inl lt) ↦ below m p lt
-      | inr (inr gt) ↦ above m gt q
-    ])
+front_at line n None some le is above below = grind (arith, nat_tests, common_steps, longest_none, cases_order)
 
 pub at_front : (text : List ℕ) (n : ℕ) → get_or (drop n text) 0 0 ≡ get_or text n 0
 at_front text n = let e : n + 0 ≡ n = omega arith in get_or-drop n text 0 0 ∙ ap (λ k. get_or text k 0) e
@@ -196,8 +192,7 @@ quoted_in quote last line m other ends lost = by (last == quote) refl
 
 pub between_open : (left right : ℕ) (xs : List ℕ) → (get_or xs (length xs - 1) 0 == right) ≡ false
     → between left right xs ≡ None
-between_open left right xs h =
-    rw (h, and-false (get_or xs 0 0 == left), and-false (nat_lt 1 (length xs))) refl
+between_open left right xs h = grind (arith, nat_tests, common_steps, and-false)
 
 abbrev pub character : List ℕ → Option ℕ
 character text = option_and_then (spelled 39) (between 39 39 text)
@@ -213,9 +208,7 @@ character_of line m some e = token_of_character (take m line) (get_or-take m lin
 -- the last of the first m bytes
 pub last_of : (line : List ℕ) (m : ℕ) → 0 < m → m ≤ length line
     → get_or (take m line) (length (take m line) - 1) 0 ≡ get_or line (m - 1) 0
-last_of line m some le =
-    let e : length (take m line) ≡ m = omega (arith, length-take m line) in
-    rw e (get_or-take m line (m - 1) 0 (omega arith))
+last_of line m some le = grind (arith, nat_tests, common_steps, length-take, get_or-take)
 
 pub character_in : (line : List ℕ) (m : ℕ) → 0 < m → m ≤ length line → get_or line 0 0 ≡ 39
     → token_in line m ≡ option_map (λ n. Character n) (character (take m line))

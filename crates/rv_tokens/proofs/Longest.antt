@@ -1,6 +1,8 @@
 -- The longest prefix of a text that spells something.
+use Rattle.std.proofs.lemmas.Bool.Decides.{nat_tests}
+use Rattle.std.proofs.lemmas.Grind.{common_steps}
 use Rattle.std.proofs.Common.{rules}
-use Rattle.std.proofs.Common.{◌≡◌, ℕ, zero, suc, ◌+◌, ◌-◌, ◌<◌, ◌≤◌, refl, sym, ap, ◌∙◌, inl, inr, arith, add-suc}
+use Rattle.std.proofs.Common.{◌≡◌, ℕ, zero, suc, ◌+◌, ◌-◌, ◌<◌, ◌≤◌, refl, sym, ap, ◌∙◌, arith, add-suc}
 use Rattle.std.specs.Prelude.{Option, None, Some}
 use Rattle.std.proofs.lemmas.Bool.{cases_lt}
 use Rattle.rv_tokens.specs.Literals.{longest}
@@ -62,10 +64,7 @@ over_step : {A : Type 0} (spells : ℕ → Option A) (k m : ℕ) (o : Option A) 
     → spells m ≡ None
 unfolding longest
 over_step spells k m (Some x) e below p q = let f : suc k < m = rw e at p in absurd (omega arith)
-over_step spells k m None e below p q = elim (cases_lt m (suc k)) [
-  | inl lt ↦ below (rw e at p) (omega arith)
-  | inr ge ↦ (let f : m ≡ suc k = omega arith in rw f e)
-]
+over_step spells k m None e below p q = grind (arith, nat_tests, common_steps, cases_lt)
 
 -- no longer prefix spells anything
 pub longest_over : {A : Type 0} (spells : ℕ → Option A) (k m : ℕ) → reach (longest spells k) < m → m ≤ k
@@ -100,7 +99,6 @@ pub longest_same : {A : Type 0} (f g : ℕ → Option A) (k : ℕ) → ((m : ℕ
     → longest f k ≡ longest g k
 unfolding longest
 longest_same f g zero h = refl
-longest_same f g (suc k) h =
-    rw (h (suc k) (omega arith), longest_same f g k (λ m p. h m (omega arith))) refl
+longest_same f g (suc k) h = grind (arith, nat_tests, common_steps, longest_same f g k)
 
 pub ruleset longest_steps = (longest_zero, longest_at, longest_less)

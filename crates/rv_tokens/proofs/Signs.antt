@@ -1,4 +1,5 @@
 -- Numbers by the tests of their prefix, and the token that a text spells by its first byte.
+use Rattle.std.proofs.lemmas.Grind.{common_steps}
 use Rattle.std.proofs.Common.{rules}
 use Rattle.std.proofs.Common.{◌≡◌, ℕ, Bool, true, false, cond, List, [], ◌∷◌, length, drop, get_or, refl, arith}
 use Rattle.std.specs.Prelude.{Option, None, Some, nat_lt, option_and_then, codes}
@@ -59,12 +60,8 @@ token_by b bs =
 by_first : (b : ℕ) (bs : List ℕ) (s t : Bool) → (b == 34) ≡ s → (b == 39) ≡ t
     → token_of (b ∷ bs) ≡ token_by b bs
 unfolding token_of
-by_first b bs true t e f =
-    let is : b ≡ 34 = grind (arith, nat_tests) in
-    rw (is, between_not 39 34 bs refl) (none_after _)
-by_first b bs false true e f =
-    let is : b ≡ 39 = grind (arith, nat_tests) in
-    rw (is, between_not 34 39 bs refl) (none_after _)
+by_first b bs true t e f = grind (arith, nat_tests, common_steps, between_not, none_after)
+by_first b bs false true e f = grind (arith, nat_tests, common_steps, between_not, none_after)
 by_first b bs false false e f = rw (between_not 34 b bs e, between_not 39 b bs f, e, f) refl
 
 pub token_is : (b : ℕ) (bs : List ℕ) → token_of (b ∷ bs) ≡ token_by b bs

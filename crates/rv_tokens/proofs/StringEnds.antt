@@ -1,4 +1,5 @@
 -- The end of a string.
+use Rattle.std.proofs.lemmas.Grind.{common_steps}
 use Rattle.std.proofs.Common.{rules}
 use Rattle.std.proofs.Common.{◌≡◌, ℕ, zero, suc, ◌+◌, ◌-◌, ◌<◌, ◌≤◌, Bool, true, false, cond, leb, List, [], ◌∷◌, length, take, drop, get_or, refl, sym, ap, ◌∙◌, inl, inr, arith, length-take, length-drop, get_or-take, get_or-drop}
 use Rattle.std.specs.Prelude.{Option, None, Some, option_and_then, is_some, ◌&&◌}
@@ -57,12 +58,8 @@ unfolding spelled
 before_quote quote [] b j h some lt q = absurd (omega arith)
 before_quote quote (a ∷ []) b j h some lt q = absurd (omega arith)
 before_quote quote (a ∷ c ∷ cs) b zero h some lt q = absurd (omega arith)
-before_quote quote (a ∷ c ∷ cs) b (suc zero) h some lt q =
-    let p = after_first (a == 92) _ (length (c ∷ cs) == 0) (escape (c ∷ cs)) a b (grind (arith, nat_tests)) h in
-    let is : a ≡ 92 = grind (arith, nat_tests, p.0) in rw is refl
-before_quote quote (a ∷ c ∷ cs) b (suc (suc j)) h some lt q =
-    let p = after_first (a == 92) _ (length (c ∷ cs) == 0) (escape (c ∷ cs)) a b (grind (arith, nat_tests)) h in
-    let none = escape_quote c cs j (omega arith) q in cc
+before_quote quote (a ∷ c ∷ cs) b (suc zero) h some lt q = grind (arith, nat_tests, common_steps, after_first)
+before_quote quote (a ∷ c ∷ cs) b (suc (suc j)) h some lt q = grind (arith, nat_tests, common_steps, after_first, escape_quote)
 
 lone_backslash : string_bytes (92 ∷ []) ≡ None
 unfolding bytes_after longest spelled escape number_in
@@ -94,8 +91,7 @@ abbrev pub spells : List ℕ → ℕ → Bool
 spells t m = is_some (string_bytes (take m t))
 
 spells_none : (t : List ℕ) (j : ℕ) → first_byte t ≡ None → 0 < j → j ≤ length t → spells t j ≡ false
-spells_none t j e some le =
-    rw (bytes_of_none (take j t) (omega (arith, length-take j t)) (first_byte_take t None j e (omega arith) le)) refl
+spells_none t j e some le = grind (arith, nat_tests, common_steps, bytes_of_none, length-take, first_byte_take)
 
 is_some_map : (f : List ℕ → List ℕ) (o : Option (List ℕ)) → is_some (option_map f o) ≡ is_some o
 is_some_map f None = refl
@@ -114,10 +110,7 @@ spells_next t b k j e le within =
 
 spells_step : (t : List ℕ) (b k j : ℕ) → first_byte t ≡ Some (b, k) → 0 < j → j < length t → get_or t j 0 ≡ 34
     → spells t j ≡ (leb k j && spells (drop k t) (j - k))
-spells_step t b k j e some lt q = elim (cases_lt j k) [
-  | inl less ↦ rw (cut_quote t b k j e some less q, lt-leb k j less) refl
-  | inr le ↦ rw (le-leb k j le) (spells_next t b k j e le (omega arith))
-]
+spells_step t b k j e some lt q = grind (arith, nat_tests, common_steps, cases_lt, cut_quote, lt-leb, le-leb, spells_next)
 
 -- ---- the search for the end
 
@@ -135,15 +128,12 @@ module _ (text : List ℕ) (i : ℕ) (so : IsScanned text i) where
   late m le less q = so.goes_on m less q ∙ rw (le-leb i m le) refl
 
   quote_at : (m : ℕ) → i ≤ m → get_or text m 0 ≡ 34 → get_or (drop i text) (m - i) 0 ≡ 34
-  quote_at m le q =
-      let e : i + (m - i) ≡ m = omega arith in get_or-drop i text (m - i) 0 ∙ (ap (λ k. get_or text k 0) e ∙ q)
+  quote_at m le q = grind (arith, nat_tests, common_steps, get_or-drop)
 
   -- no quote beyond the next byte, if there is none
   past : (m : ℕ) → first_byte (drop i text) ≡ None → i < m → m < length text → get_or text m 0 ≡ 34
       → spells text m ≡ false
-  past m e gt less q =
-      late m (omega arith) less q
-      ∙ spells_none (drop i text) (m - i) e (omega arith) (omega (arith, length-drop i text))
+  past m e gt less q = grind (arith, nat_tests, common_steps, late, spells_none, length-drop)
 
   pub scanned_more : (b k : ℕ) → (get_or text i 0 ≡ 34 → ⊥) → first_byte (drop i text) ≡ Some (b, k)
       → IsScanned text (i + k)
@@ -174,9 +164,7 @@ quote_front zs (suc m) some = spelled_is 34 (34 ∷ take m zs)
 
 first_byte_quote : (text : List ℕ) (n : ℕ) → n < length text → get_or text n 0 ≡ 34
     → first_byte (drop n text) ≡ None
-first_byte_quote text n lt q =
-    rw (drop-cons text n 0 lt, q) (longest_none (string_byte_in (34 ∷ drop (suc n) text))
-    (length (34 ∷ drop (suc n) text)) (λ m p r. quote_front (drop (suc n) text) m p))
+first_byte_quote text n lt q = grind (arith, nat_tests, common_steps, drop-cons, longest_none, string_byte_in, quote_front)
 
 quoted_between : (ys : List ℕ) (n : ℕ) → length ys ≡ suc n
     → between 34 34 (34 ∷ ys) ≡ cond (get_or ys n 0 == 34) (Some (take n ys)) None
@@ -217,9 +205,7 @@ nowhere : (text : List ℕ) (m : ℕ)
 nowhere text zero h some le = absurd (omega arith)
 nowhere text (suc zero) h some le =
     quoted_in 34 34 (34 ∷ text) 1 refl refl (λ f. token_is 34 []) ∙ token_is 34 []
-nowhere text (suc (suc m)) h some le =
-    string_in text m (omega arith) ∙ no_string (get_or text m 0 == 34) (string_bytes (take m text))
-    (λ s. h m refl (omega arith) (grind (arith, nat_tests)))
+nowhere text (suc (suc m)) h some le = grind (arith, nat_tests, common_steps, string_in, no_string)
 
 -- the string that ends with the quote at n
 pub front_string : (text s : List ℕ) (n : ℕ) → IsScanned text n → n < length text → get_or text n 0 ≡ 34
@@ -235,13 +221,11 @@ front_string text s n so lt q e =
 pub scanned_some : (text : List ℕ) (n : ℕ) → IsScanned text n → n < length text → get_or text n 0 ≡ 34
     → is_some (string_bytes (take n text)) ≡ true
 unfolding bytes_after
-scanned_some text n so lt q =
-    late text n so n (omega arith) lt q ∙ (let e : n - n ≡ 0 = omega arith in rw e refl)
+scanned_some text n so lt q = grind (arith, nat_tests, common_steps, late)
 
 front_open : (text : List ℕ) → ((k : ℕ) → k < length text → get_or text k 0 ≡ 34 → spells text k ≡ false)
     → front (34 ∷ text) ≡ None
-front_open text h =
-    longest_none (token_in (34 ∷ text)) (length (34 ∷ text)) (λ m p q. nowhere text m (λ k is. h k) p q)
+front_open text h = grind (arith, nat_tests, common_steps, longest_none, nowhere)
 
 -- no quote ends the string
 pub front_unended : (text : List ℕ) (n : ℕ) → IsScanned text n → length text ≤ n → front (34 ∷ text) ≡ None
