@@ -1,10 +1,10 @@
 -- The sources above the threshold that the controller keeps, and the level of the external line by them.
 use Rattle.std.proofs.Common.{rules}
-use Rattle.std.proofs.Common.{◌≡◌, ◌≢◌, ℕ, ◌+◌, ◌<◌, ◌≤◌, Bool, true, false, List, replicate, inl, inr, sym, ◌∙◌, ap, arith}
-use Rattle.std.specs.Prelude.{◌==◌, ◌&&◌, ◌||◌, not, nat_lt, length, slice_index, slice_set}
-use Rattle.std.specs.FinSet.{contains, insert, remove, intersection, empty, contains-empty, contains-insert, contains-remove, contains-intersection}
+use Rattle.std.proofs.Common.{◌≡◌, ◌≢◌, ℕ, ◌+◌, ◌<◌, ◌≤◌, Bool, true, false, List, replicate, refl, sym, ◌∙◌, ap, arith}
+use Rattle.std.specs.Prelude.{◌&&◌, nat_lt, length, slice_index, slice_set}
+use Rattle.std.specs.FinSet.{contains, insert, remove, intersection, empty, contains-empty, contains-insert, contains-intersection}
 use Rattle.std.specs.Ordering.{nat_cmp}
-use Rattle.std.specs.Cmp.{nat_cmp_total, unsigned_tied}
+use Rattle.std.specs.Cmp.{nat_cmp_total}
 use Rattle.std.proofs.lemmas.Bool.{cases_eq, and_parts, and_from, and_left, and_right, ltb-true, le-ltb, lt-ltb, eq-eqb, ne_eqb, or_left, both_ways, false_from_ne_true}
 use Rattle.std.proofs.lemmas.Bool.Decides.{nat_tests}
 use Rattle.std.proofs.lemmas.List.{get_or-replicate, get_or-set_same}
@@ -15,7 +15,7 @@ use Rattle.rv_plic.specs.Plic.{is_notified}
 use Rattle.rv_plic.specs.Support.Best.{is_waiting}
 use Rattle.rv_plic.specs.Support.AboveThreshold.{is_above, sources_above}
 use Rattle.rv_plic.proofs.Best.{and_unless, none-range}
-use Rattle.rv_plic.proofs.Words.{same_sources}
+use Rattle.rv_plic.proofs.Words.{same_sources, inserted, removed}
 
 in_range : (ps : List ℕ) (t q : ℕ) → is_above ps t q ≡ true → (1 ≤ q) × (q < 1 + 31)
 in_range ps t q is = search rules
@@ -43,31 +43,23 @@ set_here : (ps : List ℕ) (t s v : ℕ) → length ps ≡ 32 → s < 32
     → nat_lt t (slice_index (slice_set ps s v) s) ≡ nat_lt t v
 set_here ps t s v long high = ap (nat_lt t) (get_or-set_same ps s v 0 (omega (arith, long, high)))
 
-pub above_raised : (ps : List ℕ) (t s v : ℕ) (above : Sources) → sources_above ps t ≡ above → length ps ≡ 32
-    → 0 < s → s < 32 → t < v → sources_above (slice_set ps s v) t ≡ insert above s
-above_raised ps t s v above is long low high over =
-    same_sources _ _ (λ q.
-    contains-above (slice_set ps s v) t q
-    ∙ elim (cases_eq q s) [
-      | inl e ↦ this_above ps t s v q true low high e (set_here ps t s v long high ∙ lt-ltb t v over)
-          ∙ sym (or_left (q == s) _ (eq-eqb q s e))
-      | inr other ↦ other_above ps t s v q other ∙ sym (ap (λ b. b || is_above ps t q) (ne_eqb q s other))
-    ]
-    ∙ sym (contains-insert nat_cmp_total above s q
-    ∙ (λ i. unsigned_tied q s i || (ap (λ u. contains u q) (sym is) ∙ contains-above ps t q) i)))
+module _ (ps : List ℕ) (t s v : ℕ) (above : Sources) (is : sources_above ps t ≡ above) (long : length ps ≡ 32)
+    (low : 0 < s) (high : s < 32) where
+  it : (b : Bool) → nat_lt t v ≡ b → contains (sources_above (slice_set ps s v) t) s ≡ b
+  it b over =
+      contains-above (slice_set ps s v) t s
+      ∙ this_above ps t s v s b low high refl (set_here ps t s v long high ∙ over)
 
-pub above_lowered : (ps : List ℕ) (t s v : ℕ) (above : Sources) → sources_above ps t ≡ above
-    → length ps ≡ 32 → 0 < s → s < 32 → v ≤ t → sources_above (slice_set ps s v) t ≡ remove above s
-above_lowered ps t s v above is long low high under =
-    same_sources _ _ (λ q.
-    contains-above (slice_set ps s v) t q
-    ∙ elim (cases_eq q s) [
-      | inl e ↦ this_above ps t s v q false low high e (set_here ps t s v long high ∙ le-ltb t v under)
-          ∙ sym (ap (λ b. not b && is_above ps t q) (eq-eqb q s e))
-      | inr other ↦ other_above ps t s v q other ∙ sym (ap (λ b. not b && is_above ps t q) (ne_eqb q s other))
-    ]
-    ∙ sym (contains-remove nat_cmp_total above s q
-    ∙ (λ i. not (unsigned_tied q s i) && (ap (λ u. contains u q) (sym is) ∙ contains-above ps t q) i)))
+  others : (q : ℕ) → (q ≡ s → ⊥) → contains (sources_above (slice_set ps s v) t) q ≡ contains above q
+  others q other =
+      contains-above (slice_set ps s v) t q ∙ other_above ps t s v q other
+      ∙ sym (ap (λ u. contains u q) (sym is) ∙ contains-above ps t q)
+
+  pub above_raised : t < v → sources_above (slice_set ps s v) t ≡ insert above s
+  above_raised over = inserted above _ s (it true (lt-ltb t v over)) others
+
+  pub above_lowered : v ≤ t → sources_above (slice_set ps s v) t ≡ remove above s
+  above_lowered under = removed above _ s (it false (le-ltb t v under)) others
 
 -- ---- the external line
 in_notified : (plic : PlicState) (above : Sources) (q : ℕ)

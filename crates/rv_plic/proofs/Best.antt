@@ -1,6 +1,8 @@
 -- The best source by its property, and the search for it.
+use Rattle.std.proofs.lemmas.Bool.Decides.{nat_tests}
+use Rattle.std.proofs.lemmas.Grind.{common_steps}
 use Rattle.std.proofs.Common.{rules}
-use Rattle.std.proofs.Common.{◌≡◌, ℕ, zero, suc, ◌+◌, ◌<◌, ◌≤◌, Bool, true, false, cond, refl, sym, ◌∙◌, ap, subst, arith, inl, inr}
+use Rattle.std.proofs.Common.{◌≡◌, ℕ, zero, suc, ◌+◌, ◌<◌, ◌≤◌, Bool, true, false, refl, sym, ◌∙◌, ap, subst, arith}
 use Rattle.std.specs.Prelude.{◌&&◌, not, nat_lt, slice_index, Option, Some, None}
 use Rattle.std.specs.List.{range_with_len, find, list_any}
 use Rattle.std.specs.FinSet.{contains, intersection, empty, contains-empty, contains-intersection}
@@ -20,29 +22,18 @@ and_unless false y h = refl
 pub none-range : (test : ℕ → Bool) (a n : ℕ) → ((t : ℕ) → a ≤ t → t < a + n → test t ≡ false)
     → list_any test (range_with_len a n) ≡ false
 none-range test a zero none = refl
-none-range test a (suc n) none =
-    or_from (test a) _ (none a (omega arith) (omega arith))
-    (none-range test (a + 1) n (λ t low high. none t (omega arith) (omega arith)))
+none-range test a (suc n) none = grind (arith, nat_tests, common_steps, or_from, none-range test (a + 1) n)
 
 find_none-range : (test : ℕ → Bool) (a n : ℕ) → ((t : ℕ) → a ≤ t → t < a + n → test t ≡ false)
     → find test (range_with_len a n) ≡ None
 find_none-range test a zero none = refl
-find_none-range test a (suc n) none =
-    ap (λ b. cond b (Some a) (find test (range_with_len (a + 1) n))) (none a (omega arith) (omega arith))
-    ∙ find_none-range test (a + 1) n (λ t low high. none t (omega arith) (omega arith))
+find_none-range test a (suc n) none = grind (arith, nat_tests, common_steps, find_none-range test (a + 1) n)
 
 -- a search finds a number that passes, where no lower one does
 find_first-range : (test : ℕ → Bool) (a n b : ℕ) → a ≤ b → b < a + n → test b ≡ true
     → ((t : ℕ) → a ≤ t → t < b → test t ≡ false) → find test (range_with_len a n) ≡ Some b
 find_first-range test a zero b low high is none = absurd (omega arith)
-find_first-range test a (suc n) b low high is none =
-    elim (cases_eq a b) [
-      | inl e ↦ ap (λ t. cond t (Some a) (find test (range_with_len (a + 1) n))) (ap test e ∙ is) ∙ ap Some e
-      | inr other ↦ let next : a < b = grind arith in
-          ap (λ t. cond t (Some a) (find test (range_with_len (a + 1) n))) (none a (omega arith) next)
-          ∙ find_first-range test (a + 1) n b (omega arith) (omega arith) is
-          (λ t l h. none t (omega arith) h)
-    ]
+find_first-range test a (suc n) b low high is none = grind (arith, nat_tests, common_steps, cases_eq, find_first-range test (a + 1) n b)
 
 module _ (waits : ℕ → Bool) (priority : ℕ → ℕ) where
   -- whether a source waits with a priority above another one

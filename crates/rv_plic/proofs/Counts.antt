@@ -18,9 +18,7 @@ pub nothing_changed : (f : ℕ → ℕ) (s : Sources) (a : ℕ) (edges : Edges)
     → ((q : ℕ) → a ≤ q → contains s q ≡ false) → changed f s a edges ≡ edges
 unfolding changed
 nothing_changed f s a [] none = refl
-nothing_changed f s a (n ∷ ns) none =
-    λ i. ap (λ b. if b then f n else n) (none a (omega arith)) i
-    ∷ nothing_changed f s (a + 1) ns (λ q from. none q (omega arith)) i
+nothing_changed f s a (n ∷ ns) none = grind (arith, nat_tests, common_steps, nothing_changed f s (a + 1) ns)
 
 pub length-changed : (f : ℕ → ℕ) (s : Sources) (a : ℕ) (edges : Edges)
     → length (changed f s a edges) ≡ length edges
@@ -34,10 +32,7 @@ get_or-changed : (f : ℕ → ℕ) (s : Sources) (a : ℕ) (edges : Edges) (k d 
 unfolding changed
 get_or-changed f s a [] k d in_list = absurd (omega arith)
 get_or-changed f s a (n ∷ ns) zero d in_list = search rules
-get_or-changed f s a (n ∷ ns) (suc k) d in_list =
-    let same : a + 1 + k ≡ a + suc k = omega arith in
-    get_or-changed f s (a + 1) ns k d (omega arith)
-    ∙ ap (λ q. if contains s q then f (get_or ns k d) else get_or ns k d) same
+get_or-changed f s a (n ∷ ns) (suc k) d in_list = grind (arith, nat_tests, common_steps, contains, get_or-changed f s (a + 1) ns k d)
 
 -- a pending edge that is taken and given back leaves the count as it was
 again_same : (n : ℕ) → (0 < n) × (n < 2 ^ 32) → one_more (one_less n) ≡ n

@@ -12,22 +12,20 @@ use Rattle.rv_plic.specs.Support.Registers.{reg_at, word_at, with_word, after_re
 use Rattle.rv_plic.specs.declared.register.PlicReg.{PlicReg}
 use Rattle.rv_plic.specs.declared.register.PlicReg.TheVariants.{Priority, Pending, Enables, Threshold, Claim}
 
--- a row says what the cases say of a register
-record Agrees (plic : PlicState) (r : ℕ × Register PlicState) (reg : PlicReg) : Type 0 where
-  pub word : r.1.word plic ≡ word_at plic reg
-  pub loaded : r.1.loaded plic ≡ after_reading plic reg
-  pub stored : (word : ℕ) → r.1.stored plic word ≡ with_word plic reg word
+-- the register of a row, or of no row
+abbrev found : Option (ℕ × Register PlicState) → Register PlicState
+found row = option_map_or (λ row. row.1) row (register (λ p. 0) (λ p word. p))
 
-abbrev Same : PlicState → Option (ℕ × Register PlicState) → Option PlicReg → Type 0
-Same plic None None = Unit {0}
-Same plic (Some r) (Some reg) = Agrees plic r reg
-Same plic None (Some reg) = ⊥
-Same plic (Some r) None = ⊥
+-- it is what the cases say of a register, or of none
+record Agrees (plic : PlicState) (row : Option (ℕ × Register PlicState)) (reg : Option PlicReg) : Type 0 where
+  pub word : (found row).word plic ≡ option_map_or (word_at plic) reg 0
+  pub loaded : (found row).loaded plic ≡ option_map_or (after_reading plic) reg plic
+  pub stored : (word : ℕ) → (found row).stored plic word ≡ option_map_or (λ r. with_word plic r word) reg plic
 
 more : (plic : PlicState) (b : Bool) (r : ℕ × Register PlicState) (reg : PlicReg)
     (rest : Option (ℕ × Register PlicState)) (others : Option PlicReg)
-    → Agrees plic r reg → Same plic rest others
-    → Same plic (cond b (Some r) rest) (if b then Some reg else others)
+    → Agrees plic (Some r) (Some reg) → Agrees plic rest others
+    → Agrees plic (cond b (Some r) rest) (if b then Some reg else others)
 more plic true r reg rest others here later = here
 more plic false r reg rest others here later = later
 
@@ -87,7 +85,7 @@ after =
     ∷ []
 
 others : (plic : PlicState) (off : ℕ)
-    → Same plic (find (λ r. off == r.0) after)
+    → Agrees plic (find (λ r. off == r.0) after)
     (if off == 0x1000 then Some Pending
     else (if off == 0x2000 then Some Enables
     else (if off == 0x200000 then Some Threshold else (if off == 0x200004 then Some Claim else None))))
@@ -97,14 +95,14 @@ others plic off =
     (more plic (off == 0x2000) _ Enables _ _ (record { word = refl; loaded = refl; stored = λ word. refl })
     (more plic (off == 0x200000) _ Threshold _ _ (record { word = refl; loaded = refl; stored = λ word. refl })
     (more plic (off == 0x200004) _ Claim _ _ (record { word = refl; loaded = refl; stored = λ word. refl })
-    tt)))
+    (record { word = refl; loaded = refl; stored = λ word. refl }))))
 
 same : (plic : PlicState) (off : ℕ) → off % 4 ≡ 0
-    → Same plic (find (λ r. off == r.0) registers) (reg_at off)
+    → Agrees plic (find (λ r. off == r.0) registers) (reg_at off)
 unfolding registers reg_at sources priority_row after
 same plic off aligned = go (nat_le 4 off && nat_lt off 128) refl where
   go : (b : Bool) → (nat_le 4 off && nat_lt off 128) ≡ b
-      → Same plic
+      → Agrees plic
       (find (λ r. off == r.0) (map priority_row (range_with_len 1 31) ++ after))
       (if b then Some (Priority (off / 4))
       else (if off == 0x1000 then Some Pending
@@ -120,41 +118,17 @@ same plic off aligned = go (nat_le 4 off && nat_lt off 128) refl where
 -- ---- loads and stores by the register at the offset
 
 module _ (plic : PlicState) (off : ℕ) (aligned : off % 4 ≡ 0) where
-  abbrev nowhere : Register PlicState
-  nowhere = register (λ p. 0) (λ p word. p)
-
-  abbrev found : Option (ℕ × Register PlicState) → Register PlicState
-  found row = option_map_or (λ row. row.1) row nowhere
-
   pub loads : (plic_register off).word plic ≡ option_map_or (word_at plic) (reg_at off) 0
   unfolding plic_register
-  loads = by (find (λ r. off == r.0) registers) (reg_at off) (same plic off aligned) where
-    by : (r : Option (ℕ × Register PlicState)) (reg : Option PlicReg) → Same plic r reg
-        → (found r).word plic ≡ option_map_or (word_at plic) reg 0
-    by None None s = refl
-    by (Some r) (Some reg) s = s.word
-    by None (Some reg) s = absurd s
-    by (Some r) None s = absurd s
+  loads = (same plic off aligned).word
 
   pub loaded : (plic_register off).loaded plic ≡ option_map_or (after_reading plic) (reg_at off) plic
   unfolding plic_register
-  loaded = by (find (λ r. off == r.0) registers) (reg_at off) (same plic off aligned) where
-    by : (r : Option (ℕ × Register PlicState)) (reg : Option PlicReg) → Same plic r reg
-        → (found r).loaded plic ≡ option_map_or (after_reading plic) reg plic
-    by None None s = refl
-    by (Some r) (Some reg) s = s.loaded
-    by None (Some reg) s = absurd s
-    by (Some r) None s = absurd s
+  loaded = (same plic off aligned).loaded
 
   pub stores : (word : ℕ) → (plic_register off).stored plic word
       ≡ option_map_or (λ r. with_word plic r word) (reg_at off) plic
   unfolding plic_register
-  stores word = by (find (λ r. off == r.0) registers) (reg_at off) (same plic off aligned) where
-    by : (r : Option (ℕ × Register PlicState)) (reg : Option PlicReg) → Same plic r reg
-        → (found r).stored plic word ≡ option_map_or (λ r. with_word plic r word) reg plic
-    by None None s = refl
-    by (Some r) (Some reg) s = s.stored word
-    by None (Some reg) s = absurd s
-    by (Some r) None s = absurd s
+  stores word = (same plic off aligned).stored word
 
 pub ruleset accesses = (loads, loaded, stores)

@@ -1,13 +1,13 @@
 -- Words of sources, and the sets that they stand for.
 use Rattle.std.proofs.lemmas.Bool.Decides.{nat_tests}
 use Rattle.std.proofs.lemmas.Grind.{common_steps}
-use Rattle.std.proofs.Common.{◌≡◌, ℕ, zero, suc, ◌+◌, ◌-◌, ◌*◌, ◌/◌, ◌%◌, ◌^◌, ◌<◌, ◌≤◌, Bool, false, cond, lit<, refl, sym, ◌∙◌, ap, arith, bit_and, bit_or, ◌∷◌, inl, inr}
+use Rattle.std.proofs.Common.{rules, true, ◌≡◌, ℕ, zero, suc, ◌+◌, ◌-◌, ◌*◌, ◌/◌, ◌%◌, ◌^◌, ◌<◌, ◌≤◌, Bool, false, lit<, refl, sym, ◌∙◌, ap, arith, bit_and, bit_or, inl, inr}
 use Rattle.std.specs.Prelude.{◌==◌, ◌&&◌, ◌||◌, not, filter, max, min}
 use Rattle.std.specs.Ordering.{nat_cmp}
 use Rattle.std.specs.Int.{bit_at, bit_not, w32}
 use Rattle.std.specs.List.{range_with_len}
 use Rattle.std.specs.FinSet.{contains, from_list, insert, remove, union, intersection, difference, same_set, contains-union, contains-intersection, contains-difference, contains-insert, contains-remove, empty, nat_cmp-IsAntisymmetric}
-use Rattle.std.specs.Cmp.{nat_cmp_total, unsigned_tied}
+use Rattle.std.specs.Cmp.{nat_cmp_total}
 use Rattle.std.proofs.Math.Pow.{pow-lt}
 use Rattle.std.proofs.lemmas.Bool.{eq-eqb, ne_eqb, or_left, cases_eq, cases_lt}
 use Rattle.std.proofs.lemmas.Nat.{or_lt, and_le_l}
@@ -18,6 +18,36 @@ use Rattle.rv_plic.specs.Support.Words.{IsSourceWord, contains-sources_of, word_
 -- two sets with the same sources are equal
 pub same_sources : (s t : Sources) → ((q : ℕ) → contains s q ≡ contains t q) → s ≡ t
 same_sources = same_set nat_cmp_total nat_cmp-IsAntisymmetric
+
+-- ---- a set with one source more or less
+
+pub inserted_other : (high : Sources) (s q : ℕ) → (q ≡ s → ⊥) → contains (insert high s) q ≡ contains high q
+inserted_other high s q other = search (rules, contains-insert, nat_cmp_total, ne_eqb)
+
+pub removed_other : (high : Sources) (s q : ℕ) → (q ≡ s → ⊥) → contains (remove high s) q ≡ contains high q
+removed_other high s q other = search (rules, contains-remove, nat_cmp_total, ne_eqb)
+
+pub inserted_it : (high : Sources) (s : ℕ) → contains (insert high s) s ≡ true
+inserted_it high s = search (rules, contains-insert, nat_cmp_total, or_left, eq-eqb)
+
+pub removed_it : (high : Sources) (s : ℕ) → contains (remove high s) s ≡ false
+removed_it high s = search (rules, contains-remove, nat_cmp_total, eq-eqb)
+
+pub inserted : (s t : Sources) (n : ℕ) → contains t n ≡ true
+    → ((q : ℕ) → (q ≡ n → ⊥) → contains t q ≡ contains s q) → t ≡ insert s n
+inserted s t n it others =
+    same_sources t (insert s n) (λ q. elim (cases_eq q n) [
+      | inl e ↦ ap (contains t) e ∙ it ∙ sym (ap (contains (insert s n)) e ∙ inserted_it s n)
+      | inr other ↦ others q other ∙ sym (inserted_other s n q other)
+    ])
+
+pub removed : (s t : Sources) (n : ℕ) → contains t n ≡ false
+    → ((q : ℕ) → (q ≡ n → ⊥) → contains t q ≡ contains s q) → t ≡ remove s n
+removed s t n it others =
+    same_sources t (remove s n) (λ q. elim (cases_eq q n) [
+      | inl e ↦ ap (contains t) e ∙ it ∙ sym (ap (contains (remove s n)) e ∙ removed_it s n)
+      | inr other ↦ others q other ∙ sym (removed_other s n q other)
+    ])
 
 -- ---- the operations of sets as those of words
 pub or_word : (a b : ℕ) → IsSourceWord a → IsSourceWord b → IsSourceWord (bit_or a b)
@@ -105,16 +135,12 @@ place_word s low high =
 pub insert_word : (a s : ℕ) → IsSourceWord a → 0 < s → s < 32
     → sources_of (bit_or a (1 * 2 ^ s % 2 ^ 32)) ≡ insert (sources_of a) s
 insert_word a s is low high =
-    same_sources _ _ (λ q.
-    contains-sources_of _ q (or_word a _ is (place_word s low high))
-    ∙ elim (cases_eq q s) [
-      | inl e ↦ ap (λ n. n == 1) (ap (λ k. bit_at (bit_or a (1 * 2 ^ s % 2 ^ 32)) k) e
-          ∙ bit_at_set_same w32 a s high) ∙ sym (or_left (q == s) _ (eq-eqb q s e))
-      | inr other ↦ ap (λ n. n == 1) (bit_at_set_other w32 a s high q other)
-          ∙ sym (ap (λ b. b || bit_at a q == 1) (ne_eqb q s other))
-    ]
-    ∙ sym (contains-insert nat_cmp_total (sources_of a) s q
-    ∙ (λ i. unsigned_tied q s i || contains-sources_of a q is i)))
+    inserted (sources_of a) _ s (has s ∙ ap (λ n. n == 1) (bit_at_set_same w32 a s high))
+    (λ q other. has q ∙ ap (λ n. n == 1) (bit_at_set_other w32 a s high q other) ∙ sym (contains-sources_of a q is))
+  where
+    has : (q : ℕ) → contains (sources_of (bit_or a (1 * 2 ^ s % 2 ^ 32))) q
+        ≡ (bit_at (bit_or a (1 * 2 ^ s % 2 ^ 32)) q == 1)
+    has q = contains-sources_of _ q (or_word a _ is (place_word s low high))
 
 cleared_bit : (a s q : ℕ) → IsSourceWord a → s < 32 → (q ≡ s → ⊥)
     → bit_at (bit_and a (bit_not w32 (1 * 2 ^ s % 2 ^ 32))) q ≡ bit_at a q
@@ -128,25 +154,17 @@ cleared_bit a s q is high other =
 pub remove_word : (a s : ℕ) → IsSourceWord a → 0 < s → s < 32
     → sources_of (bit_and a (bit_not w32 (1 * 2 ^ s % 2 ^ 32))) ≡ remove (sources_of a) s
 remove_word a s is low high =
-    same_sources _ _ (λ q.
-    contains-sources_of _ q (and_word a _ is)
-    ∙ elim (cases_eq q s) [
-      | inl e ↦ ap (λ n. n == 1) (ap (λ k. bit_at (bit_and a (bit_not w32 (1 * 2 ^ s % 2 ^ 32))) k) e
-          ∙ bit_at_clear_same w32 a s high) ∙ sym (ap (λ b. not b && bit_at a q == 1) (eq-eqb q s e))
-      | inr other ↦ ap (λ n. n == 1) (cleared_bit a s q is high other)
-          ∙ sym (ap (λ b. not b && bit_at a q == 1) (ne_eqb q s other))
-    ]
-    ∙ sym (contains-remove nat_cmp_total (sources_of a) s q
-    ∙ (λ i. not (unsigned_tied q s i) && contains-sources_of a q is i)))
+    removed (sources_of a) _ s (has s ∙ ap (λ n. n == 1) (bit_at_clear_same w32 a s high))
+    (λ q other. has q ∙ ap (λ n. n == 1) (cleared_bit a s q is high other) ∙ sym (contains-sources_of a q is))
+  where
+    has : (q : ℕ) → contains (sources_of (bit_and a (bit_not w32 (1 * 2 ^ s % 2 ^ 32)))) q
+        ≡ (bit_at (bit_and a (bit_not w32 (1 * 2 ^ s % 2 ^ 32))) q == 1)
+    has q = contains-sources_of _ q (and_word a _ is)
 
 filter-range : (p r : ℕ → Bool) (a n : ℕ) → ((s : ℕ) → a ≤ s → s < a + n → p s ≡ r s)
     → filter p (range_with_len a n) ≡ filter r (range_with_len a n)
 filter-range p r a zero same = refl
-filter-range p r a (suc n) same =
-    let rest : filter p (range_with_len (a + 1) n) ≡ filter r (range_with_len (a + 1) n) =
-    filter-range p r (a + 1) n (λ s low high. same s (omega arith) (omega arith)) in
-    let first : p a ≡ r a = same a (omega arith) (omega arith) in
-    λ i. cond (first i) (a ∷ rest i) (rest i)
+filter-range p r a (suc n) same = grind (arith, nat_tests, common_steps, filter-range p r (a + 1) n)
 
 kept_bit : (word s : ℕ) → 1 ≤ s → s < 1 + 31 → bit_at (bit_and word (2 ^ 32 - 2 ^ 1)) s ≡ bit_at word s
 kept_bit word s low high =
