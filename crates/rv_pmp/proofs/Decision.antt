@@ -21,7 +21,7 @@ use Rattle.rv_pmp.specs.declared.active_entries.ActiveEntry.{ActiveEntry}
 use Rattle.rv_pmp.specs.declared.span.Span.{Span}
 use Rattle.rv_pmp.specs.Mode.{is_machine}
 use Rattle.rv_pmp.specs.Entry.{matched, permits, trailing_ones}
-use Rattle.rv_pmp.specs.Support.ActiveEntries.{is_matching, entry_answer, decision, some_on, some_locked, active_of, actives_from}
+use Rattle.rv_pmp.specs.Support.ActiveEntries.{entry_answer, decision, some_on, some_locked, active_of, actives_from}
 use Rattle.rv_pmp.specs.Pmp.{PmpState, decided, decider, entry_at, grants, lower_of, matches, off_entry}
 use Rattle.rv_pmp.specs.Support.Span.{is_between, span, span_of, holds, meets, no_bytes}
 
@@ -257,34 +257,7 @@ decision-spans : (mode : Mode) (access : Access) (a n lower : ℕ) (es : List En
     ≡ decided_from mode access (range_with_len a (suc n)) lower es (range_with_len 0 (length es))
 unfolding decision actives_from step
 decision-spans mode access a n lower [] = refl
-decision-spans mode access a n lower (e ∷ es) =
-    ap (λ (o : Option Bool). unwrap_or o (is_machine mode)) (decision-more mode access a (a + suc n) lower e es)
-    ∙ go (meets (span_of lower e) a (a + suc n))
-    (list_any (matched e.matching lower e.address) (range_with_len a (suc n))) (sym (any_matched lower e a n))
-    (decision-spans mode access a n e.address es
-    ∙ sym (decided-after mode access (range_with_len a (suc n)) lower e es))
-  where
-    rest : Option Bool
-    rest = decision mode access a (a + suc n) (actives_from e.address es)
-
-    says : ℕ → Bool
-    says n' =
-        list_all (matches_from lower (e ∷ es) n') (range_with_len a (suc n))
-        && permits (get_or (e ∷ es) n' off_entry) mode access
-
-    after : Option ℕ
-    after =
-        find (λ n'. list_any (matches_from lower (e ∷ es) n') (range_with_len a (suc n)))
-        (range_with_len 1 (length es))
-
-    go : (b c : Bool) → b ≡ c → unwrap_or rest (is_machine mode) ≡ option_map_or says after (is_machine mode)
-        → unwrap_or (if b then Some (holds (span_of lower e) a (a + suc n) && permits e mode access) else rest)
-        (is_machine mode)
-        ≡ option_map_or says (cond c (Some 0) after) (is_machine mode)
-    go true true same h = ap (λ b. b && permits e mode access) (sym (all_matched lower e a n))
-    go true false same h = absurd cc
-    go false true same h = absurd cc
-    go false false same h = h
+decision-spans mode access a n lower (e ∷ es) = grind (arith, nat_tests, common_steps, decision-more, any_matched, decided-after, all_matched, decision-spans mode access a n e.address es)
 
 -- ---- answers without a search
 
@@ -293,9 +266,7 @@ pub decision-off : (mode : Mode) (access : Access) (first last lower : ℕ) (es 
     → some_on es ≡ false → decision mode access first last (actives_from lower es) ≡ None
 unfolding decision actives_from
 decision-off mode access first last lower [] off = refl
-decision-off mode access first last lower (e ∷ es) off =
-    let parts = or_parts (is_matching e.matching) (some_on es) off in
-    rw parts.0 (decision-off mode access first last e.address es parts.1)
+decision-off mode access first last lower (e ∷ es) off = grind (arith, nat_tests, common_steps, or_parts, decision-off mode access first last e.address es)
 
 -- a span that has any byte of a part of a word has all of it
 word_held : (s : Span) (first last : ℕ) → IsWhole s → first < last → first % 4 + (last - first) ≤ 4
@@ -308,21 +279,7 @@ pub decision-word : (access : Access) (first last lower : ℕ) (es : List Entry)
     → unwrap_or (decision Machine access first last (actives_from lower es)) true ≡ true
 unfolding decision actives_from step
 decision-word access first last lower [] free some within = refl
-decision-word access first last lower (e ∷ es) free some within =
-    let parts = or_parts e.locked (some_locked es) free in
-    rw (decision-more Machine access first last lower e es)
-    (go (meets (span_of lower e) first last) refl parts.0
-    (decision-word access first last e.address es parts.1 some within))
-  where
-    rest : Option Bool
-    rest = decision Machine access first last (actives_from e.address es)
-
-    go : (b : Bool) → meets (span_of lower e) first last ≡ b → e.locked ≡ false → unwrap_or rest true ≡ true
-        → unwrap_or
-        (if b then Some (holds (span_of lower e) first last && permits e Machine access)
-        else rest) true ≡ true
-    go true m l r = rw (word_held (span_of lower e) first last (whole lower e) some within m, l) refl
-    go false m l r = r
+decision-word access first last lower (e ∷ es) free some within = grind (arith, nat_tests, common_steps, or_parts, decision-more, word_held, whole, decision-word access first last e.address es)
 
 -- ---- the answer of the registers
 
@@ -344,20 +301,14 @@ decision_of pmp mode access bytes (Some n) = refl
 by_entries : (pmp : PmpState) (mode : Mode) (access : Access) (bytes : List ℕ)
     → decided pmp mode access bytes (decider pmp bytes)
     ≡ decided_from mode access bytes 0 pmp.entries (range_with_len 0 (length pmp.entries))
-by_entries pmp mode access bytes =
-    decision_of pmp mode access bytes (decider pmp bytes)
-    ∙ ap (λ (m : ℕ → ℕ → Bool). option_map_or (λ n. list_all (m n) bytes && permits (entry_at pmp n) mode access)
-    (find (λ n. list_any (m n) bytes) (range_with_len 0 (length pmp.entries))) (is_machine mode))
-    (λ i n byte. same_matches pmp n byte i)
+by_entries pmp mode access bytes = grind (arith, nat_tests, common_steps, decision_of, same_matches)
 
 pub decision-grants : (pmp : PmpState) (mode : Mode) (access : Access) (first count : ℕ) → 0 < count
     → unwrap_or (decision mode access first (first + count) (actives_from 0 pmp.entries)) (is_machine mode)
     ≡ grants pmp mode access first count
 unfolding grants
 decision-grants pmp mode access first zero h = absurd (omega arith)
-decision-grants pmp mode access first (suc n) h =
-    decision-spans mode access first n 0 pmp.entries
-    ∙ sym (by_entries pmp mode access (range_with_len first (suc n)))
+decision-grants pmp mode access first (suc n) h = grind (arith, nat_tests, common_steps, decision-spans, by_entries)
 
 pub grants-off : (pmp : PmpState) (mode : Mode) (access : Access) (first count : ℕ) → 0 < count
     → some_on pmp.entries ≡ false → grants pmp mode access first count ≡ is_machine mode

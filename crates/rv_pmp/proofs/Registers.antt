@@ -1,6 +1,7 @@
 -- The registers by number are what the code reads and writes.
+use Rattle.std.proofs.lemmas.Grind.{common_steps}
 use Rattle.std.proofs.Common.{rules}
-use Rattle.std.proofs.Common.{◌≡◌, ◌≢◌, ◌∙◌, ℕ, zero, suc, ◌+◌, ◌-◌, ◌*◌, ◌/◌, ◌%◌, ◌<◌, ◌≤◌, ◌==◌, Bool, true, false, List, [], ◌∷◌, length, map, get_or, Some, None, refl, ap, sym, arith, add-zero, nat_lt, eqb-true}
+use Rattle.std.proofs.Common.{◌≡◌, ◌≢◌, ◌∙◌, ℕ, zero, suc, ◌+◌, ◌-◌, ◌*◌, ◌/◌, ◌<◌, ◌≤◌, ◌==◌, Bool, true, false, List, [], ◌∷◌, length, map, get_or, Some, None, refl, ap, sym, arith, add-zero, nat_lt, eqb-true}
 use Rattle.std.specs.Prelude.{slice_get, slice_set, if◌then◌else◌, ◌&&◌, ◌||◌, not}
 use Rattle.std.specs.List.{range_with_len}
 use Rattle.std.specs.Option.{option_map, option_map_or}
@@ -137,19 +138,7 @@ outside e first word i apart = search rules
 module _ (pmp : PmpState) (addr word i : ℕ) where
   config_written : is_config addr ≡ true → i < 16
       → one_by_one (entry_at pmp i) (4 * (addr - 0x3A0)) word i ≡ written pmp addr word i
-  config_written is small = go (addr == 0x3A0 + i / 4) refl (addr == 0x3B0 + i) refl where
-    go : (b : Bool) → (addr == 0x3A0 + i / 4) ≡ b → (c : Bool) → (addr == 0x3B0 + i) ≡ c
-        → one_by_one (entry_at pmp i) (4 * (addr - 0x3A0)) word i
-        ≡ (if b then configured (entry_at pmp i) (byte_of word (i % 4))
-        else (if c && not (is_locked_tor pmp (i + 1)) then addressed (entry_at pmp i) word
-        else entry_at pmp i))
-    go true here c at_address =
-        let place : i ≡ 4 * (addr - 0x3A0) + i % 4 = grind (arith, nat_tests) in
-        among (entry_at pmp i) (4 * (addr - 0x3A0)) word i (i % 4) place (omega arith)
-    go false apart true at_address = absurd (grind (arith, nat_tests))
-    go false apart false at_address =
-        outside (entry_at pmp i) (4 * (addr - 0x3A0)) word i
-        (λ r less same. absurd (grind (arith, nat_tests)))
+  config_written is small = grind (arith, nat_tests, common_steps, among, outside)
 
   -- ---- a write to an address register
   top : starts_locked pmp.entries (i + 1) ≡ is_locked_tor pmp (i + 1)
@@ -162,24 +151,12 @@ module _ (pmp : PmpState) (addr word i : ℕ) where
   same_test : is_address addr ≡ true → (c : Bool) → (addr == 0x3B0 + i) ≡ c
       → ((i == addr - 0x3B0) && not (starts_locked pmp.entries (addr - 0x3B0 + 1)))
       ≡ (c && not (is_locked_tor pmp (i + 1)))
-  same_test is true here =
-      let place : addr - 0x3B0 ≡ i = grind (arith, nat_tests) in
-      let same : (i == addr - 0x3B0) ≡ true = grind (arith, nat_tests) in
-      ap (λ b. b && not (starts_locked pmp.entries (addr - 0x3B0 + 1))) same
-      ∙ ap (λ k. not (starts_locked pmp.entries (k + 1))) place ∙ ap not top
-  same_test is false apart =
-      let differ : (i == addr - 0x3B0) ≡ false = grind (arith, nat_tests) in
-      ap (λ b. b && not (starts_locked pmp.entries (addr - 0x3B0 + 1))) differ
+  same_test is true here = grind (arith, nat_tests, common_steps, top)
+  same_test is false apart = grind (arith, nat_tests, common_steps)
 
   address_written : is_address addr ≡ true → i < 16 → i < length pmp.entries
       → at (with_address pmp.entries (addr - 0x3B0) word) i ≡ written pmp addr word i
-  address_written is small within =
-      address-at pmp.entries (addr - 0x3B0) word i within
-      ∙ ap (λ b. if b then addressed (entry_at pmp i) word else entry_at pmp i)
-      (same_test is (addr == 0x3B0 + i) refl)
-      ∙ sym (ap (λ b. if b then configured (entry_at pmp i) (byte_of word (i % 4))
-      else (if (addr == 0x3B0 + i) && not (is_locked_tor pmp (i + 1)) then addressed (entry_at pmp i) word
-      else entry_at pmp i)) (no_config is small))
+  address_written is small within = grind (arith, nat_tests, common_steps, address-at, same_test, no_config)
 
 abbrev with_entries : List Entry → PmpState
 with_entries es = record { entries = es }
@@ -188,26 +165,7 @@ with_entries es = record { entries = es }
 pub stored_entry : (pmp new : PmpState) (addr word : ℕ) → write_register pmp addr word ≡ Some new → (n : ℕ)
     → entry_at new n ≡ (if nat_lt n (length pmp.entries) then written pmp addr word n else entry_at pmp n)
 unfolding write_register
-stored_entry pmp new addr word is n = by (is_config addr || is_address addr) is where
-  all : List Entry
-  all = map (written pmp addr word) (range_with_len 0 (length pmp.entries))
-
-  one : (b : Bool) → nat_lt n (length pmp.entries) ≡ b
-      → at all n ≡ (if b then written pmp addr word n else entry_at pmp n)
-  one true less =
-      get_or-map-range_with_len (written pmp addr word) 0 (length pmp.entries) n n off_entry
-      (grind (arith, nat_tests)) (omega arith)
-  one false not_less =
-      let past : length pmp.entries ≤ n = grind (arith, nat_tests) in
-      let long = length-map-range_with_len (written pmp addr word) 0 (length pmp.entries) in
-      get_or-eq_default all off_entry (omega (arith, long, past)) ∙ sym (get_or-eq_default pmp.entries off_entry past)
-
-  by : (there : Bool) → (if there then Some (with_entries all) else None) ≡ Some new
-      → entry_at new n ≡ (if nat_lt n (length pmp.entries) then written pmp addr word n else entry_at pmp n)
-  by true gives =
-      let same : with_entries all ≡ new = cc in
-      ap (λ (p : PmpState). entry_at p n) (sym same) ∙ one (nat_lt n (length pmp.entries)) refl
-  by false gives = absurd cc
+stored_entry pmp new addr word is n = grind (arith, nat_tests, common_steps, get_or-map-range_with_len, length-map-range_with_len, get_or-eq_default)
 
 module _ (pmp : PmpState) (addr word : ℕ) (sixteen : length pmp.entries ≡ 16) where
   entries : List Entry

@@ -1,9 +1,10 @@
 -- The trailing ones of a number.
+use Rattle.std.proofs.lemmas.Grind.{common_steps}
 use Rattle.std.proofs.Common.{rules}
 use Rattle.std.proofs.Common.{◌≡◌, ℕ, zero, suc, ◌+◌, ◌-◌, ◌/◌, ◌%◌, ◌^◌, ◌<◌, ◌≤◌, ◌==◌, ◌*◌, Bool, true, false, refl, ap, sym, ◌∙◌, arith, eqb-true, mul_assoc}
 use Rattle.std.specs.Prelude.{if◌then◌else◌}
 use Rattle.std.proofs.Math.Nat.{pow-suc}
-use Rattle.std.specs.Int.Count.{count_trailing_zeros, under}
+use Rattle.std.specs.Int.Count.{count_trailing_zeros}
 use Rattle.std.proofs.lemmas.Bool.Decides.{nat_tests}
 use Rattle.std.proofs.lemmas.Nat.{shr-shr, pow_below}
 use Rattle.std.specs.List.{prefix_len, range_with_len}
@@ -23,32 +24,14 @@ ones_in (suc n) number = if number % 2 == 1 then suc (ones_in n (number / 2)) el
 pub ones_in-le : (n p : ℕ) → 2 ^ ones_in n p ≤ p + 1
 unfolding ones_in
 ones_in-le zero p = omega arith
-ones_in-le (suc n) p = go (p % 2 == 1) refl (ones_in n (p / 2)) (ones_in-le n (p / 2)) where
-  go : (b : Bool) → (p % 2 == 1) ≡ b → (k : ℕ) → 2 ^ k ≤ p / 2 + 1 → 2 ^ (if b then suc k else 0) ≤ p + 1
-  go true odd k h = omega (arith, pow-suc 2 k, eqb-true (p % 2) 1 odd)
-  go false even k h = omega arith
+ones_in-le (suc n) p = grind (arith, nat_tests, common_steps, pow-suc, eqb-true, ones_in-le n (p / 2))
 
 -- they are the trailing zeros of the complement
 pub count_trailing_zeros-complement : (n p : ℕ) → p < 2 ^ n
     → count_trailing_zeros n (2 ^ n - 1 - p) ≡ ones_in n p
 unfolding ones_in count_trailing_zeros
 count_trailing_zeros-complement zero p h = refl
-count_trailing_zeros-complement (suc n) p h =
-    let rest = 2 ^ suc n - 1 - p in
-    let half : rest / 2 ≡ 2 ^ n - 1 - p / 2 = omega (arith, pow-suc 2 n) in
-    let below : p / 2 < 2 ^ n = omega (arith, pow-suc 2 n) in
-    let tail : count_trailing_zeros n (rest / 2) ≡ ones_in n (p / 2)
-    = ap (count_trailing_zeros n) half ∙ count_trailing_zeros-complement n (p / 2) below in
-    go (p % 2 == 1) refl (rest % 2) refl tail
-  where
-    go : (b : Bool) → (p % 2 == 1) ≡ b → (r : ℕ) → (2 ^ suc n - 1 - p) % 2 ≡ r
-        → count_trailing_zeros n ((2 ^ suc n - 1 - p) / 2) ≡ ones_in n (p / 2)
-        → under r (count_trailing_zeros n ((2 ^ suc n - 1 - p) / 2)) ≡ if b
-        then suc (ones_in n (p / 2)) else 0
-    go true odd zero e t = ap suc t
-    go true odd (suc r) e t = absurd (omega (arith, pow-suc 2 n, eqb-true (p % 2) 1 odd))
-    go false even zero e t = absurd (grind (arith, nat_tests, pow-suc 2 n))
-    go false even (suc r) e t = refl
+count_trailing_zeros-complement (suc n) p h = grind (arith, nat_tests, common_steps, pow-suc, eqb-true, count_trailing_zeros-complement n (p / 2))
 
 -- ---- as the definition counts them
 
@@ -58,13 +41,7 @@ halved p a = shr-shr p a 1
 prefix-ones : (n a p : ℕ) → prefix_len (λ i. bit p i == 1) (range_with_len a n) ≡ ones_in n (p / 2 ^ a)
 unfolding ones_in
 prefix-ones zero a p = refl
-prefix-ones (suc n) a p = go (bit p a == 1) (prefix-ones n (a + 1) p ∙ ap (ones_in n) (sym (halved p a)))
-  where
-    go : (b : Bool) → prefix_len (λ i. bit p i == 1) (range_with_len (a + 1) n) ≡ ones_in n (p / 2 ^ a / 2)
-        → (if b then 1 + prefix_len (λ i. bit p i == 1) (range_with_len (a + 1) n) else 0)
-        ≡ (if b then suc (ones_in n (p / 2 ^ a / 2)) else 0)
-    go true e = omega arith
-    go false e = refl
+prefix-ones (suc n) a p = grind (arith, nat_tests, common_steps, halved, prefix-ones n (a + 1) p)
 
 pub trailing_ones-in : (p : ℕ) → trailing_ones p ≡ ones_in 32 p
 trailing_ones-in p = prefix-ones 32 0 p ∙ ap (ones_in 32) (omega arith)

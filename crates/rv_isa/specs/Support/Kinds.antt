@@ -96,7 +96,7 @@ operation_of kind.Wfi = Wfi
 -- ---- the fields, the word and the ranges of a kind
 
 -- the fields of a kind with this operation; those that it doesn't have are 0
-abbrev laid : Operation → Kind → Fields
+abbrev pub laid : Operation → Kind → Fields
 laid x (kind.Lui rd imm) = with_fields x rd 0 0 (pos imm)
 laid x (kind.Auipc rd imm) = with_fields x rd 0 0 (pos imm)
 laid x (kind.Jal rd offset) = with_fields x rd 0 0 offset
