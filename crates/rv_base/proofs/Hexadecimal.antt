@@ -1,5 +1,7 @@
 -- The hexadecimal digits of a number: those of a sixteenth of it, followed by its last digit.
-use Rattle.std.proofs.Common.{◌≡◌, ◌∙◌, ℕ, zero, suc, ◌+◌, ◌/◌, ◌%◌, ◌^◌, ◌<◌, ◌≤◌, cond, List, [], ◌∷◌, ◌++◌, length, refl, sym, ap, ⊎_elim, append_assoc, length-append, eq-eqb, ne_eqb, arith}
+use Rattle.std.proofs.lemmas.Bool.Decides.{nat_tests}
+use Rattle.std.proofs.lemmas.Grind.{common_steps}
+use Rattle.std.proofs.Common.{◌≡◌, ◌∙◌, ℕ, zero, suc, ◌+◌, ◌/◌, ◌%◌, ◌^◌, ◌<◌, ◌≤◌, List, [], ◌∷◌, ◌++◌, length, refl, sym, ap, ⊎_elim, append_assoc, length-append, eq-eqb, ne_eqb, arith}
 use Rattle.std.specs.Prelude.{false}
 use Rattle.std.specs.Fmt.{digits, digits_onto, digit_glyph}
 use Rattle.std.proofs.lemmas.Bool.{cases_lt}
@@ -15,12 +17,10 @@ unfolding digits
 whole n = refl
 
 spell_last : (k n : ℕ) (acc : List ℕ) → n < 16 → spell (suc k) n acc ≡ last_glyph n ∷ acc
-spell_last k n acc h = ap (λ t. cond t (last_glyph n ∷ acc) (spell k (n / 16) (last_glyph n ∷ acc)))
-    (eq-eqb (n / 16) 0 (omega arith))
+spell_last k n acc h = grind (arith, nat_tests, common_steps, eq-eqb)
 
 spell_next : (k n : ℕ) (acc : List ℕ) → 16 ≤ n → spell (suc k) n acc ≡ spell k (n / 16) (last_glyph n ∷ acc)
-spell_next k n acc h = ap (λ t. cond t (last_glyph n ∷ acc) (spell k (n / 16) (last_glyph n ∷ acc)))
-    (ne_eqb (n / 16) 0 (λ e. omega arith))
+spell_next k n acc h = grind (arith, nat_tests, common_steps, ne_eqb)
 
 -- the digits of a number in front of more text
 spell_append : (k n : ℕ) (acc : List ℕ) → spell k n acc ≡ spell k n [] ++ acc
@@ -36,13 +36,8 @@ spell_append (suc k) n acc = ⊎_elim
 spell_enough : (j k n : ℕ) (acc : List ℕ) → n < 16 ^ suc j → n < 16 ^ suc k →
     spell (suc j) n acc ≡ spell (suc k) n acc
 spell_enough zero k n acc p q = spell_last zero n acc (omega arith) ∙ sym (spell_last k n acc (omega arith))
-spell_enough (suc j) zero n acc p q =
-    spell_last (suc j) n acc (omega arith) ∙ sym (spell_last zero n acc (omega arith))
-spell_enough (suc j) (suc k) n acc p q = ⊎_elim
-    (λ l. spell_last (suc j) n acc l ∙ sym (spell_last (suc k) n acc l))
-    (λ l. spell_next (suc j) n acc l ∙ spell_enough j k (n / 16) (last_glyph n ∷ acc) (omega arith)
-    (omega arith) ∙ sym (spell_next (suc k) n acc l))
-    (cases_lt n 16)
+spell_enough (suc j) zero n acc p q = grind (arith, nat_tests, common_steps, spell_last)
+spell_enough (suc j) (suc k) n acc p q = grind (arith, nat_tests, common_steps, spell_last, spell_next, cases_lt, spell_enough j k (n / 16) (last_glyph n ∷ acc))
 
 pub hex_one : (n : ℕ) → n < 16 → digits 16 false n ≡ last_glyph n ∷ []
 hex_one n h = whole n ∙ spell_last 63 n [] h
@@ -57,23 +52,16 @@ hex_more n h small =
 -- the same after a text, one digit at a time
 pub more_after_text : (text longer : List ℕ) (n : ℕ) → 16 ≤ n → n < 2 ^ 32 →
     longer ≡ text ++ digits 16 false (n / 16) → text ++ digits 16 false n ≡ longer ++ last_glyph n ∷ []
-more_after_text text longer n h small is =
-    ap (λ x. text ++ x) (hex_more n h small) ∙ sym
-    (append_assoc text (digits 16 false (n / 16)) (last_glyph n ∷ []))
-    ∙ ap (λ x. x ++ last_glyph n ∷ []) (sym is)
+more_after_text text longer n h small is = grind (arith, nat_tests, common_steps, hex_more, append_assoc)
 
 pub one_long : (n : ℕ) → n < 16 → length (digits 16 false n) ≡ 1
 one_long n h = ap length (hex_one n h)
 
 pub one_longer : (n : ℕ) → 16 ≤ n → n < 2 ^ 32 → length (digits 16 false n)
     ≡ length (digits 16 false (n / 16)) + 1
-one_longer n h small =
-    ap length (hex_more n h small) ∙ length-append (digits 16 false (n / 16)) (last_glyph n ∷ [])
+one_longer n h small = grind (arith, nat_tests, common_steps, hex_more, length-append)
 
 -- a number below 16 ^ k has at most k digits
 pub hex_length : (k n : ℕ) → n < 16 ^ suc k → n < 2 ^ 32 → length (digits 16 false n) ≤ suc k
 hex_length zero n h small = omega (arith, one_long n (omega arith))
-hex_length (suc k) n h small = ⊎_elim
-    (λ l. omega (arith, one_long n l))
-    (λ l. omega (arith, one_longer n l small, hex_length k (n / 16) (omega arith) (omega arith)))
-    (cases_lt n 16)
+hex_length (suc k) n h small = grind (arith, nat_tests, common_steps, one_long, one_longer, cases_lt, hex_length k (n / 16))

@@ -1,4 +1,6 @@
 -- The first line of a text.
+use Rattle.std.proofs.lemmas.Bool.Decides.{nat_tests}
+use Rattle.std.proofs.lemmas.Grind.{common_steps}
 use Rattle.std.proofs.Common.{◌≡◌, ℕ, suc, ◌<◌, ◌≤◌, Bool, true, false, cond, List, [], ◌∷◌, length, take, drop, refl, ap, arith, ◌==◌}
 use Rattle.std.proofs.Math.Numerals.{one-add}
 use Rattle.std.specs.Prelude.{Some, None}
@@ -35,21 +37,12 @@ split_front (b ∷ bs) h = split_step b bs (b == 10) refl (split_front bs)
 -- a text with a LF
 pub lines_feed : (s : List ℕ) (n : ℕ) → 0 < length s → Some n ≡ position (λ b. b == 10) s →
     lines s ≡ strip_carriage_return (take n s) ∷ lines (drop 1 (drop n s))
-lines_feed s n h e =
-    let is = position_some (λ b. b == 10) s n e in
-    rw is (rw (split_front s h) refl)
+lines_feed s n h e = grind (arith, nat_tests, common_steps, position_some, split_front)
 
 -- a text without one
 pub lines_last : (s : List ℕ) → 0 < length s → None ≡ position (λ b. b == 10) s →
     lines s ≡ strip_carriage_return s ∷ lines (drop (length s) s)
-lines_last s h e =
-    let past = position_none (λ b. b == 10) s e in
-    rw (
-      split_front s h,
-      take_all (until_feed s) s past,
-      drop_all (until_feed s) s past,
-      drop_all (length s) s (omega arith),
-    ) refl
+lines_last s h e = grind (arith, nat_tests, common_steps, position_none, split_front, take_all, drop_all)
 
 -- an empty text has no line
 pub lines_end : (s : List ℕ) → length s ≡ 0 → lines s ≡ []

@@ -1,4 +1,6 @@
 -- Reading a number, digit by digit.
+use Rattle.std.proofs.lemmas.Bool.Decides.{nat_tests}
+use Rattle.std.proofs.lemmas.Grind.{common_steps}
 use Rattle.std.proofs.Common.{◌≡◌, ℕ, ◌+◌, ◌*◌, ◌<◌, ◌≤◌, List, [], ◌∷◌, length, drop, fold, get_or, refl, arith, add-one}
 use Rattle.std.specs.List.{list_all}
 use Rattle.std.specs.Prelude.{Option, None, Some, if◌then◌else◌, nat_le, nat_lt, ◌&&◌}
@@ -36,8 +38,7 @@ bad_digit base most sum i ds h bad = rw (drop-cons ds i 0 h, le-ltb (digit_value
 pub next_digit : (base most sum i : ℕ) (ds : List ℕ) → i < length ds → digit_value (get_or ds i 0) < base →
     rest_in base most sum (drop i ds) ≡ rest_in base most (base * sum + digit_value (get_or ds i 0)) (drop (i + 1) ds)
 unfolding rest_in
-next_digit base most sum i ds h good =
-    rw (drop-cons ds i 0 h, lt-ltb (digit_value (get_or ds i 0)) base good, add-one) refl
+next_digit base most sum i ds h good = grind (arith, nat_tests, common_steps, drop-cons, lt-ltb, add-one)
 
 -- more digits make no smaller number
 grows : (base : ℕ) → 1 ≤ base → (v : ℕ) (ds : List ℕ) → v ≤ fold (λ v b. base * v + digit_value b) v ds
@@ -46,15 +47,12 @@ grows base h v (d ∷ ds) = omega (arith, grows base h (base * v + digit_value d
 
 pub too_large : (base most sum : ℕ) (ds : List ℕ) → 1 ≤ base → most < sum → rest_in base most sum ds ≡ None
 unfolding rest_in
-too_large base most sum ds low h =
-    rw (lt-leb (fold (λ v b. base * v + digit_value b) sum ds) most (omega (arith, grows base low sum ds)), and-false) refl
+too_large base most sum ds low h = grind (arith, nat_tests, common_steps, lt-leb, fold, grows, and-false)
 
 -- no number has another byte
 pub no_digits : (base most i : ℕ) (ds : List ℕ) → i < length ds → base ≤ digit_value (get_or ds i 0) →
     number_in base most ds ≡ None
 unfolding number_in
-no_digits base most i ds h bad =
-    let other = list_all_at (λ b. nat_lt (digit_value b) base) ds i 0 h (le-ltb (digit_value (get_or ds i 0)) base bad) in
-    rw (other, and-false) refl
+no_digits base most i ds h bad = grind (arith, nat_tests, common_steps, list_all_at, le-ltb, and-false)
 
 pub ruleset digit_steps = (no_number, whole_number, bad_digit, next_digit, too_large, last_digit)

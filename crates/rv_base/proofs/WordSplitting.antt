@@ -1,4 +1,6 @@
 -- The words of a text, one after the other.
+use Rattle.std.proofs.lemmas.Bool.Decides.{nat_tests}
+use Rattle.std.proofs.lemmas.Grind.{common_steps}
 use Rattle.std.proofs.Common.{◌≡◌, ℕ, ◌+◌, ◌<◌, ◌≤◌, Bool, true, false, cond, List, [], ◌∷◌, length, take, drop, refl, sym, arith, length-take}
 use Rattle.std.proofs.lemmas.List.{drop-drop, drop_all}
 use Rattle.std.specs.Prelude.{Some, None, nat_lt}
@@ -25,9 +27,7 @@ position_none p xs h = missing _ (length xs) (nat_lt (position_or_len p xs) (len
 
 split_first : (xs : List ℕ) (n : ℕ) → Some n ≡ position is_blank xs → n < length xs →
     slice_split is_blank xs ≡ take n xs ∷ slice_split is_blank (drop (n + 1) xs)
-split_first xs n e h =
-    let is = position_some is_blank xs n e in
-    rw is (slice_split_first is_blank xs 0 (omega (arith, is, h)))
+split_first xs n e h = grind (arith, nat_tests, common_steps, position_some, slice_split_first)
 
 -- a word before a blank
 pub words_first : (xs : List ℕ) (n : ℕ) → Some n ≡ position is_blank xs → n < length xs → 0 < n →
@@ -41,18 +41,13 @@ words_first xs n e h some =
 pub words_blank : (xs : List ℕ) (n : ℕ) → Some n ≡ position is_blank xs → n < length xs → n ≡ 0 →
     words xs ≡ words (drop 1 (drop n xs))
 unfolding words
-words_blank xs n e h none =
-    let short : length (take n xs) ≤ 0 = omega (arith, length-take n xs) in
-    rw (split_first xs n e h, le-ltb 0 (length (take n xs)) short, drop-drop 1 n xs) refl
+words_blank xs n e h none = grind (arith, nat_tests, common_steps, length-take, split_first, le-ltb, drop-drop)
 
 -- no blank
 pub words_last : (xs : List ℕ) → None ≡ position is_blank xs → 0 < length xs →
     words xs ≡ xs ∷ words (drop (length xs) xs)
 unfolding words
-words_last xs e some =
-    let past = position_none is_blank xs e in
-    let no_blank = slice_split_none is_blank xs (λ k d h. fails_before_first is_blank xs k d (omega arith)) in
-    rw (no_blank, lt-ltb 0 (length xs) some, drop_all (length xs) xs (omega arith)) refl
+words_last xs e some = grind (arith, nat_tests, common_steps, position_none, slice_split_none, fails_before_first, lt-ltb, drop_all)
 
 pub words_none : (xs : List ℕ) → length xs ≡ 0 → words xs ≡ []
 unfolding words

@@ -1,10 +1,11 @@
 -- The table of the registers says what the cases by register say.
+use Rattle.std.proofs.lemmas.Grind.{common_steps}
 use Rattle.std.proofs.Common.{rules}
-use Rattle.std.proofs.Common.{◌≡◌, ℕ, zero, suc, ◌+◌, ◌-◌, ◌*◌, ◌==◌, Bool, true, false, cond, List, [], ◌∷◌, ◌++◌, map, length, Option, Some, None, refl, ap, subst, sym, ◌∙◌, arith, nat_lt, nat_le}
+use Rattle.std.proofs.Common.{◌≡◌, ℕ, zero, suc, ◌+◌, ◌-◌, ◌*◌, ◌==◌, Bool, true, false, List, [], ◌∷◌, ◌++◌, map, length, Option, Some, None, refl, ap, sym, ◌∙◌, arith, nat_lt, nat_le}
 use Rattle.std.specs.Prelude.{◌&&◌, ◌||◌, find, if◌then◌else◌, codes}
 use Rattle.std.specs.Fmt.{digits}
 use Rattle.std.specs.List.{list_all, list_any, range_with_len}
-use Rattle.std.specs.Option.{option_map, option_map_or, option_or}
+use Rattle.std.specs.Option.{option_map, option_or}
 use Rattle.std.proofs.lemmas.Bool.Decides.{nat_tests}
 use Rattle.std.proofs.lemmas.Bool.{eqb-true, or_from, or_parts}
 use Rattle.std.proofs.lemmas.List.Folds.{list_any-append}
@@ -133,31 +134,7 @@ zero_found : (addr : ℕ) (names : List (List ℕ × ℕ)) (b : Bool)
     → Same (find (λ row. is_at addr row.name) (map zero_row names)) (if b then Some Zero else None)
 zero_found addr [] true each is = absurd cc
 zero_found addr [] false each is = tt
-zero_found addr (n ∷ ns) b each is =
-    by (is_at addr n.0) b (ap (λ t. t || list_any (λ named. addr == named.1) ns) test ∙ is) (zero_found addr ns b rest)
-  where
-    parts : (p q : Bool) → (p && q) ≡ true → (p ≡ true) × (q ≡ true)
-    parts true q e = (refl, e)
-    parts false q e = absurd cc
-
-    rest : list_all (λ named. is_at named.1 named.0) ns ≡ true
-    rest = (parts (is_at n.1 n.0) _ each).1
-
-    found : (number : Option ℕ) → option_map_or (λ k. n.1 == k) number false ≡ true → number ≡ Some n.1
-    found None e = absurd cc
-    found (Some k) e = ap Some (sym (eqb-true n.1 k e))
-
-    test : is_at addr n.0 ≡ (addr == n.1)
-    test = ap (λ o. option_map_or (λ k. addr == k) o false) (found (number_of n.0) (parts (is_at n.1 n.0) _ each).0)
-
-    by : (here b : Bool) → (here || list_any (λ named. addr == named.1) ns) ≡ b
-        → (list_any (λ named. addr == named.1) ns ≡ b
-        → Same (find (λ row. is_at addr row.name) (map zero_row ns)) (if b then Some Zero else None))
-        → Same (cond here (Some (zero_row n)) (find (λ row. is_at addr row.name) (map zero_row ns)))
-        (if b then Some Zero else None)
-    by true true is later = record { value = λ s lines. refl; written = λ s word. refl }
-    by true false is later = absurd cc
-    by false b is later = later is
+zero_found addr (n ∷ ns) b each is = grind (arith, nat_tests, common_steps, eqb-true, zero_found addr ns b)
 
 -- the halves of the counters
 pub half_mcycle : (wrote : Option ℕ) → wrote_half (codes "mcycle") wrote ≡ cases.wrote_half 0xB00 wrote
@@ -187,26 +164,9 @@ rows_of : (addr : ℕ) (rows : List CsrRow) (rs : List (ℕ × Register)) → Ar
     → (list_any (λ r. addr == r.0) rs ≡ false
     → Same (find (λ row. is_at addr row.name) (map zero_row csr_names)) (by_number addr []))
     → Same (find (λ row. is_at addr row.name) rows) (by_number addr rs)
-rows_of addr rows [] is last =
-    subst (λ rows. Same (find (λ row. is_at addr row.name) rows) (by_number addr [])) (sym is) (last refl)
+rows_of addr rows [] is last = grind (arith, nat_tests, common_steps)
 rows_of addr [] (r ∷ rs) is last = absurd is
-rows_of addr (row ∷ rows) (r ∷ rs) is last =
-    subst (λ t. Same (cond t (Some row) rest) (by_number addr (r ∷ rs))) (sym test)
-    (one (addr == r.0) refl (rows_of addr rows rs is.2))
-  where
-    rest : Option CsrRow
-    rest = find (λ row. is_at addr row.name) rows
-
-    test : is_at addr row.name ≡ (addr == r.0)
-    test = ap (λ o. option_map_or (λ k. addr == k) o false) is.0
-
-    one : (here : Bool) → (addr == r.0) ≡ here
-        → ((list_any (λ r. addr == r.0) rs ≡ false
-        → Same (find (λ row. is_at addr row.name) (map zero_row csr_names)) (by_number addr []))
-        → Same rest (by_number addr rs))
-        → Same (cond here (Some row) rest) (if here then Some r.1 else by_number addr rs)
-    one true at later = is.1
-    one false apart later = later (λ others. last (or_from (addr == r.0) _ apart others))
+rows_of addr (row ∷ rows) (r ∷ rs) is last = grind (arith, nat_tests, common_steps, or_from, rows_of addr rows rs is.2)
 
 are_rows : AreRows table registers
 unfolding table number_of csr_names
