@@ -15,4 +15,6 @@ pub use run::run_text;
 pub use rv_io::{
     FileIn, FileOut, InFailed, MemoryIn, MemoryOut, OutFailed, ReadFault, TextIn, TextName, TextOut,
 };
-pub use rv_options::{Options, Origin, REFUSED, Words, read_words, refusal_status};
+pub use rv_options::{
+    Options, Origin, REFUSED, Words, print_refusal, read_words, refusal_status, run_with_words,
+};

@@ -1,18 +1,32 @@
 //! The options that the programs share.
-ghost use Rattle.rv_options.specs.Board.{file_rule};
+ghost use Rattle.std.specs.Prelude.{[]};
+ghost use Rattle.rv_options.specs.Board.{file_rule, source_rule};
 ghost use Rattle.rv_options.specs.Support.Chain.{HasRule, input_rule, pages_rule, parsed_rule, slots_rule};
 
 use clap::builder::ValueParser;
 use clap::{Arg, ArgAction, value_parser};
 use std::alloc::Global;
 
+/// Returns the positional argument SOURCE.
+pub fn source_arg<'a>(alloc: Global, help: &'a str) -> Arg<'a>
+    ensures { HasRule result (record source_rule { defaults = [] }) }
+{
+    Arg::new(alloc, "source")
+        .value_name("SOURCE")
+        .help(help)
+        .action(ArgAction::Set)
+}
+
+/// Returns the option `--name`, which takes no value.
+pub fn flag_arg<'a>(alloc: Global, name: &'a str, help: &'a str) -> Arg<'a> {
+    Arg::new(alloc, name)
+        .long(name)
+        .help(help)
+        .action(ArgAction::SetTrue)
+}
+
 /// Returns the option `--name`, which takes a value that the help calls `value_name`.
-pub(crate) fn option_arg<'a>(
-    alloc: Global,
-    name: &'a str,
-    value_name: &'a str,
-    help: &'a str,
-) -> Arg<'a>
+pub fn option_arg<'a>(alloc: Global, name: &'a str, value_name: &'a str, help: &'a str) -> Arg<'a>
     ensures { HasRule result (file_rule name.entry.now) }
 {
     Arg::new(alloc, name)

@@ -5,22 +5,24 @@
 ghost use Rattle.std.specs.Prelude.{◌≡◌, All, codes, IfErr, IfOk, false, map, true};
 ghost use Rattle.clap.specs.Words.{FailsBy, app_of, fault_of, kind_of, matches_of, rule_of, takes};
 ghost use Rattle.clap.specs.Walk.{texts};
-ghost use Rattle.rv_options.specs.Board.{board_app, source_rule};
-ghost use Rattle.rv_options.specs.Support.Chain.{HasRule, IsLocal, board_rules};
+ghost use Rattle.rv_options.specs.Board.{board_app};
+ghost use Rattle.rv_options.specs.Support.Chain.{IsLocal, board_rules};
 ghost use Rattle.rv_options.specs.Support.Parse.{IsBoardParse};
 ghost use Rattle.rv_options.specs.Read.{IsReadFrom};
 
 mod args;
 mod laws;
 mod origin;
+mod program;
 mod status;
 
-use args::{number_arg, option_arg};
-pub use args::{input_arg, pages_arg, slots_arg};
+use args::number_arg;
+pub use args::{flag_arg, input_arg, option_arg, pages_arg, slots_arg, source_arg};
 use clap::error::ErrorKind;
-use clap::{Arg, ArgAction, ArgMatches, Command, Error, value_parser};
+use clap::{Arg, ArgMatches, Command, Error, value_parser};
 pub use laws::{help_is_answered, words_have_a_meaning};
 pub use origin::Origin;
+pub use program::{print_refusal, read_file, run_with_words};
 pub use status::{REFUSED, refusal_status};
 use std::alloc::{AllocError, Global};
 
@@ -49,27 +51,17 @@ pub struct Words<'a> {
     pub options: Options,
 }
 
-/// Returns the positional argument SOURCE, whose default is `-`.
-fn source_arg<'a>(alloc: Global) -> Arg<'a>
-    ensures { HasRule result source_rule }
-{
-    Arg::new(alloc, "source")
-        .value_name("SOURCE")
-        .help("the assembly source, or - for the standard input")
-        .action(ArgAction::Set)
-        .default_value("-")
-}
-
 /// Returns the arguments of the command, in their order.
 fn board_args<'a>(alloc: Global) -> Result<Vec<Arg<'a>>, AllocError>
     ensures rules { IfOk result (λ args. map rule_of args.items ≡ board_rules) }
     ensures local { IfOk result (λ args. All IsLocal args.items) }
 {
+    let source = "the assembly source, or - for the standard input";
     let commands = "the monitor's commands, a file";
     let steps = "the most steps, 0 to 1000000000";
     let most_steps = value_parser!(u32).range(0..=1_000_000_000);
     Ok(vec![in alloc;
-        source_arg(alloc),
+        source_arg(alloc, source).default_value("-"),
         input_arg(alloc),
         option_arg(alloc, "commands", "F", commands),
         number_arg(alloc, "steps", "N", steps, "1000000", most_steps),

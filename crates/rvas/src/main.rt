@@ -15,9 +15,9 @@ use rv_base::{NoMemory, TEXT_LIMIT};
 use rv_diagnosis::{append_report, diagnose};
 use rv_ihex::hex_file;
 use rv_object::{ElfFault, elf_file, listing_text};
-use rv_options::refusal_status;
+use rv_options::{print_refusal, read_file, run_with_words};
 use std::alloc::AllocError;
-use std::io::{self, Write};
+use std::io::Write;
 use std::process::ExitCode;
 use std::{env, fs};
 
@@ -38,16 +38,6 @@ fn report(rt: &HostRuntime, parts: &[&str]) {
 fn no_memory(rt: &HostRuntime) -> u8 {
     report(rt, &["error: out of memory\n"]);
     FAILED
-}
-
-/// Reads a file of at most 16,777,216 bytes.
-fn read_file(rt: &HostRuntime, path: &str) -> Option<Vec<u8>> {
-    let text = fs::read(rt, path).ok()?;
-    if text.len() > TEXT_LIMIT {
-        None
-    } else {
-        Some(text)
-    }
 }
 
 /// Reports each faulty line of a rejected source, and returns the exit status.
@@ -183,7 +173,7 @@ fn run(rt: &HostRuntime, words: &Words<'_>) -> u8 {
         );
         return REFUSED;
     }
-    match read_file(rt, words.source) {
+    match read_file(rt, words.source, TEXT_LIMIT) {
         Some(source) => assemble(rt, words, &source),
         None => {
             report(
@@ -201,38 +191,24 @@ fn run(rt: &HostRuntime, words: &Words<'_>) -> u8 {
 
 /// Prints the help or the version that was asked for, or why the words are refused, and returns the exit status.
 fn refuse_words(rt: &HostRuntime, error: &clap::Error) -> u8 {
-    if error.kind() == ErrorKind::OutOfMemory {
-        return no_memory(rt);
-    }
-    let _ = error.print(rt);
     match error.kind() {
-        ErrorKind::DisplayVersion => 0,
-        _ => refusal_status(error),
+        ErrorKind::OutOfMemory => no_memory(rt),
+        ErrorKind::DisplayVersion => {
+            let _ = print_refusal(rt, error);
+            0
+        }
+        _ => print_refusal(rt, error),
     }
 }
 
 /// Reads the words, does what they ask for, and returns the exit status.
-fn run_words(rt: &HostRuntime, all: &[String]) -> Result<u8, AllocError> {
-    let list: Vec<&str> = all.iter().map(|word| word.as_str()).collect(rt.alloc())?;
-    Ok(match read_words(rt.alloc(), list.as_slice()) {
+fn run_words(rt: &HostRuntime, words: &[&str]) -> u8 {
+    match read_words(rt.alloc(), words) {
         Ok(words) => run(rt, &words),
         Err(error) => refuse_words(rt, &error),
-    })
-}
-
-/// Returns the words of the command line, the program's name first.
-fn all_words(rt: &HostRuntime) -> io::Result<Vec<String>> {
-    let all = env::args(rt)?.collect(rt.alloc())?;
-    Ok(all)
+    }
 }
 
 fn main(rt: HostRuntime) -> ExitCode {
-    let status = match all_words(&rt) {
-        Ok(all) => run_words(&rt, all.as_slice()).unwrap_or(FAILED),
-        Err(_) => {
-            report(&rt, &["error: a word is not UTF-8\n"]);
-            REFUSED
-        }
-    };
-    ExitCode::from(status)
+    ExitCode::from(run_with_words(&rt, |words| run_words(&rt, words)).unwrap_or(FAILED))
 }

@@ -1,6 +1,7 @@
 //! The words of the command line, read with `clap`: `rvas SOURCE [-o FILE] [--form elf|bin|hex] [--listing]`.
 use clap::builder::ValueParser;
-use clap::{Arg, ArgAction, ArgMatches, Command, Error};
+use clap::{Arg, ArgMatches, Command, Error};
+use rv_options::{flag_arg, option_arg, source_arg};
 use std::alloc::{AllocError, Global};
 
 /// The names of the forms.
@@ -19,50 +20,16 @@ pub struct Words<'a> {
     pub wants_listing: bool,
 }
 
-/// Returns the positional argument SOURCE.
-fn source_arg<'a>(alloc: Global) -> Arg<'a> {
-    Arg::new(alloc, "source")
-        .value_name("SOURCE")
-        .help("the assembly source")
-        .required(true)
-        .action(ArgAction::Set)
-}
-
-/// Returns the option for the file that is written.
-fn output_arg<'a>(alloc: Global) -> Arg<'a> {
-    Arg::new(alloc, "output")
-        .short('o')
-        .long("output")
-        .value_name("FILE")
-        .help("the file to write: its form is that of its ending, .elf, .bin or .hex")
-        .action(ArgAction::Set)
-}
-
-/// Returns the option for the form of that file.
-fn form_arg<'a>(alloc: Global) -> Arg<'a> {
-    Arg::new(alloc, "form")
-        .long("form")
-        .value_name("FORM")
-        .help("the form of FILE, whatever its ending is")
-        .value_parser(ValueParser::Names(FORMS))
-        .action(ArgAction::Set)
-}
-
-/// Returns the option for the listing.
-fn listing_arg<'a>(alloc: Global) -> Arg<'a> {
-    Arg::new(alloc, "listing")
-        .long("listing")
-        .help("print each line with its number, its address and its bytes")
-        .action(ArgAction::SetTrue)
-}
-
 /// Returns the arguments of the command, in their order.
 fn args<'a>(alloc: Global) -> Result<Vec<Arg<'a>>, AllocError> {
+    let output = "the file to write: its form is that of its ending, .elf, .bin or .hex";
+    let form = "the form of FILE, whatever its ending is";
+    let listing = "print each line with its number, its address and its bytes";
     Ok(vec![in alloc;
-        source_arg(alloc),
-        output_arg(alloc),
-        form_arg(alloc),
-        listing_arg(alloc),
+        source_arg(alloc, "the assembly source").required(true),
+        option_arg(alloc, "output", "FILE", output).short('o'),
+        option_arg(alloc, "form", "FORM", form).value_parser(ValueParser::Names(FORMS)),
+        flag_arg(alloc, "listing", listing),
     ]?)
 }
 

@@ -8,13 +8,12 @@ ghost use Rattle.std.specs.Prelude.{◌≡◌, IfOk, IfSome, false};
 
 use clap::error::ErrorKind;
 use rv_cli::{
-    CliFault, Ending, FileIn, FileOut, MemoryIn, Options, Origin, REFUSED, TextIn, TextName, Words,
-    exit_status, fault_line, file_or_fault, read_words, refusal_status, run_text,
+    CliFault, Ending, FileIn, FileOut, MemoryIn, Options, Origin, TextIn, TextName, Words,
+    exit_status, fault_line, file_or_fault, print_refusal, read_words, run_text, run_with_words,
 };
 use std::alloc::AllocError;
-use std::env;
 use std::fs::File;
-use std::io::{self, Write};
+use std::io::Write;
 use std::process::ExitCode;
 
 /// Writes the line of a fault to the standard error, if there is memory for it.
@@ -93,46 +92,25 @@ fn finish(rt: &HostRuntime, outcome: &Result<Ending, CliFault>) -> u8 {
 }
 
 /// Prints the help that was asked for, or why the words are refused, and returns the exit status.
-fn refuse(rt: &HostRuntime, error: &clap::Error) -> u8 {
+fn refuse_words(rt: &HostRuntime, error: &clap::Error) -> u8 {
     if error.kind() == ErrorKind::OutOfMemory {
-        report(rt, &CliFault::OutOfMemory);
-    } else {
-        let _ = error.print(rt);
+        return finish(rt, &Err(CliFault::OutOfMemory));
     }
-    refusal_status(error)
+    print_refusal(rt, error)
 }
 
 /// Reads the words, makes the run that they ask for, and returns the exit status.
-fn run_words(rt: &HostRuntime, all: &[String]) -> Result<u8, AllocError> {
-    let list: Vec<&str> = all.iter().map(|word| word.as_str()).collect(rt.alloc())?;
-    Ok(match read_words(rt.alloc(), list.as_slice()) {
+fn run_words(rt: &HostRuntime, words: &[&str]) -> u8 {
+    match read_words(rt.alloc(), words) {
         Ok(words) => finish(rt, &run(rt, &words)),
-        Err(error) => refuse(rt, &error),
-    })
-}
-
-/// Returns the words of the command line, the program's name first.
-fn words(rt: &HostRuntime) -> io::Result<Vec<String>> {
-    let all = env::args(rt)?.collect(rt.alloc())?;
-    Ok(all)
-}
-
-/// Reports why there are no words: one of them is not UTF-8, or memory ran out. Returns the exit status.
-fn refuse_words(rt: &HostRuntime, error: &io::Error) -> u8 {
-    if error.kind() == io::ErrorKind::OutOfMemory {
-        return finish(rt, &Err(CliFault::OutOfMemory));
+        Err(error) => refuse_words(rt, &error),
     }
-    let _ = rt.stderr().write_all(b"error: a word is not UTF-8\n");
-    REFUSED
 }
 
 fn main(rt: HostRuntime) -> ExitCode {
-    let status = match words(&rt) {
-        Ok(all) => match run_words(&rt, all.as_slice()) {
-            Ok(status) => status,
-            Err(AllocError) => finish(&rt, &Err(CliFault::OutOfMemory)),
-        },
-        Err(error) => refuse_words(&rt, &error),
+    let status = match run_with_words(&rt, |words| run_words(&rt, words)) {
+        Ok(status) => status,
+        Err(AllocError) => finish(&rt, &Err(CliFault::OutOfMemory)),
     };
     ExitCode::from(status)
 }

@@ -18,11 +18,9 @@ use clap::error::ErrorKind;
 use rv_base::TEXT_LIMIT;
 use rv_json::source_json;
 use rv_lab::{Lab, LabFault, Printer, append_diagnosis};
-use rv_options::refusal_status;
-use std::alloc::AllocError;
-use std::io::{self, Write};
+use rv_options::{print_refusal, read_file, run_with_words};
+use std::io::Write;
 use std::process::ExitCode;
-use std::{env, fs};
 
 /// The exit status where the source, the timed list or the words are refused.
 const REFUSED: u8 = 3;
@@ -33,16 +31,6 @@ const FAILED: u8 = 4;
 /// Writes a line to the standard error.
 fn report(rt: &HostRuntime, line: &[u8]) {
     let _ = rt.stderr().write_all(line);
-}
-
-/// Reads a file of at most 16,777,216 bytes.
-fn read_file(rt: &HostRuntime, path: &str) -> Option<Vec<u8>> {
-    let text = fs::read(rt, path).ok()?;
-    if text.len() > TEXT_LIMIT {
-        None
-    } else {
-        Some(text)
-    }
 }
 
 /// Writes the line of JSON that says what is wrong with a source, and returns the exit status.
@@ -121,7 +109,7 @@ fn run_source(rt: &HostRuntime, words: &Words<'_>, source: &[u8]) -> u8 {
     let Some(path) = words.input else {
         return open(rt, words, source, b"");
     };
-    match read_file(rt, path) {
+    match read_file(rt, path, TEXT_LIMIT) {
         Some(inputs) => open(rt, words, source, inputs.as_slice()),
         None => fail(rt, b"cannot read input\n"),
     }
@@ -129,7 +117,7 @@ fn run_source(rt: &HostRuntime, words: &Words<'_>, source: &[u8]) -> u8 {
 
 /// Reads the files that the words name, and talks. Returns the exit status.
 fn run(rt: &HostRuntime, words: &Words<'_>) -> u8 {
-    match read_file(rt, words.source) {
+    match read_file(rt, words.source, TEXT_LIMIT) {
         Some(source) => run_source(rt, words, source.as_slice()),
         None => fail(rt, b"cannot read source\n"),
     }
@@ -138,35 +126,19 @@ fn run(rt: &HostRuntime, words: &Words<'_>) -> u8 {
 /// Prints the help that was asked for, or why the words are refused, and returns the exit status.
 fn refuse_words(rt: &HostRuntime, error: &clap::Error) -> u8 {
     if error.kind() == ErrorKind::OutOfMemory {
-        report(rt, b"out of memory\n");
-    } else {
-        let _ = error.print(rt);
+        return fail(rt, b"out of memory\n");
     }
-    refusal_status(error)
+    print_refusal(rt, error)
 }
 
 /// Reads the words, does what they ask for, and returns the exit status.
-fn run_words(rt: &HostRuntime, all: &[String]) -> Result<u8, AllocError> {
-    let list: Vec<&str> = all.iter().map(|word| word.as_str()).collect(rt.alloc())?;
-    Ok(match read_words(rt.alloc(), list.as_slice()) {
+fn run_words(rt: &HostRuntime, words: &[&str]) -> u8 {
+    match read_words(rt.alloc(), words) {
         Ok(words) => run(rt, &words),
         Err(error) => refuse_words(rt, &error),
-    })
-}
-
-/// Returns the words of the command line, the program's name first.
-fn all_words(rt: &HostRuntime) -> io::Result<Vec<String>> {
-    let all = env::args(rt)?.collect(rt.alloc())?;
-    Ok(all)
+    }
 }
 
 fn main(rt: HostRuntime) -> ExitCode {
-    let status = match all_words(&rt) {
-        Ok(all) => run_words(&rt, all.as_slice()).unwrap_or(FAILED),
-        Err(_) => {
-            report(&rt, b"error: a word is not UTF-8\n");
-            REFUSED
-        }
-    };
-    ExitCode::from(status)
+    ExitCode::from(run_with_words(&rt, |words| run_words(&rt, words)).unwrap_or(FAILED))
 }

@@ -1,8 +1,8 @@
 //! The words of the command line, read with `clap`: `rvlab SOURCE [--input F] [--pages P]
 //! [--slots S] [--json]`.
-use clap::{Arg, ArgAction, ArgMatches, Command, Error};
+use clap::{Arg, ArgMatches, Command, Error};
 use rv_lab::Sizes;
-use rv_options::{input_arg, pages_arg, slots_arg};
+use rv_options::{flag_arg, input_arg, pages_arg, slots_arg, source_arg};
 use std::alloc::{AllocError, Global};
 
 /// What the words of the command line ask for.
@@ -18,31 +18,14 @@ pub struct Words<'a> {
     pub is_json: bool,
 }
 
-/// Returns the positional argument SOURCE.
-fn source_arg<'a>(alloc: Global) -> Arg<'a> {
-    Arg::new(alloc, "source")
-        .value_name("SOURCE")
-        .help("the assembly source")
-        .required(true)
-        .action(ArgAction::Set)
-}
-
-/// Returns the option for JSON.
-fn json_arg<'a>(alloc: Global) -> Arg<'a> {
-    Arg::new(alloc, "json")
-        .long("json")
-        .help("answer each command line by a line of JSON")
-        .action(ArgAction::SetTrue)
-}
-
 /// Returns the arguments of the command, in their order.
 fn lab_args<'a>(alloc: Global) -> Result<Vec<Arg<'a>>, AllocError> {
     Ok(vec![in alloc;
-        source_arg(alloc),
+        source_arg(alloc, "the assembly source").required(true),
         input_arg(alloc),
         pages_arg(alloc),
         slots_arg(alloc),
-        json_arg(alloc),
+        flag_arg(alloc, "json", "answer each command line by a line of JSON"),
     ]?)
 }
 
