@@ -1,11 +1,10 @@
 -- Inputs following others.
-use Rattle.std.proofs.Common.{rules}
-use Rattle.std.proofs.Common.{◌≡◌, ◌∙◌, ℕ, suc, ◌-◌, ◌<◌, Bool, true, false, cond, List, [], ◌∷◌, ◌++◌, length, get_or, refl, sym, ap, arith, append-nil, append_assoc}
+use Rattle.std.proofs.lemmas.Grind.{common_steps}
+use Rattle.std.proofs.Common.{rules, ◌≡◌, ◌∙◌, ℕ, ◌-◌, ◌<◌, Bool, true, false, cond, List, [], ◌∷◌, ◌++◌, length, get_or, refl, sym, ap, arith, append-nil, append_assoc}
 use Rattle.std.proofs.lemmas.Bool.{and_parts, le-leb, lt-leb, ltb-true, ltb-false}
 use Rattle.std.proofs.lemmas.Bool.Decides.{nat_tests}
 use Rattle.std.proofs.Math.Bool.{and-true}
-use Rattle.std.specs.Prelude.{Option, Some, None, IfSome, nat_le, nat_lt, codes, unwrap_or}
-use Rattle.std.specs.Str.{bytes_eq}
+use Rattle.std.specs.Prelude.{Option, Some, None, IfSome, nat_le, nat_lt, unwrap_or}
 use Rattle.std.specs.Option.{option_map, option_zip}
 use Rattle.rv_timeline.specs.declared.input.Input.{Input}
 use Rattle.rv_timeline.specs.declared.input.Input.TheVariants.{Rx, Line}
@@ -18,9 +17,7 @@ pub latest_is : (xs : List TimedInput) (d : TimedInput) → 0 < length xs
     → (get_or xs (length xs - 1) d).step ≡ latest_step xs
 latest_is [] d h = absurd (omega arith)
 latest_is (x ∷ []) d h = refl
-latest_is (x ∷ y ∷ more) d h =
-    let e : suc (suc (length more)) - 1 ≡ suc (length (y ∷ more) - 1) = omega arith in
-    rw e (latest_is (y ∷ more) d (omega arith))
+latest_is (x ∷ y ∷ more) d h = search (rules, arith, latest_is (y ∷ more) d)
 
 -- ---- the bytes of a line
 
@@ -127,7 +124,6 @@ either false false r d h k = tt
 pub inputs_some : (ws : List (List ℕ)) → HasSome (inputs_of ws)
 unfolding inputs_of
 inputs_some [] = tt
-inputs_some (kind ∷ ws) =
-    either (bytes_eq (codes "rx") kind) (bytes_eq (codes "line") kind) _ _ (received_some ws) (driven_some ws)
+inputs_some (kind ∷ ws) = grind (arith, nat_tests, common_steps, either, received_some, driven_some)
 
 pub ruleset line_steps = (with_line-nothing, with_line-step, with_line-fallen, inputs_some)

@@ -1,6 +1,6 @@
 -- A list with one input more.
-use Rattle.std.proofs.Common.{rules}
-use Rattle.std.proofs.Common.{◌≡◌, ℕ, zero, suc, ◌<◌, ◌≤◌, Bool, true, List, [], ◌∷◌, length, get_or, take, refl, ap, arith}
+use Rattle.std.proofs.lemmas.Grind.{common_steps}
+use Rattle.std.proofs.Common.{rules, ◌≡◌, ℕ, zero, suc, ◌<◌, ◌≤◌, Bool, true, List, [], ◌∷◌, length, get_or, take, refl, arith}
 use Rattle.std.proofs.lemmas.Bool.{and_parts, lt-ltb, le-ltb, leb-true}
 use Rattle.std.proofs.lemmas.Bool.Decides.{nat_tests}
 use Rattle.std.specs.Prelude.{nat_le, insert}
@@ -21,10 +21,7 @@ unfolding inserted
 placed [] zero x d w h later = refl
 placed [] (suc n) x d w h later = absurd (omega arith)
 placed (y ∷ ys) zero x d w h later = rw (lt-ltb x.step y.step (later (omega arith))) refl
-placed (y ∷ ys) (suc n) x d w h later =
-    let p = and_parts _ _ h in
-    rw (le-ltb x.step y.step (leb-true y.step x.step p.0))
-    (ap (λ zs. y ∷ zs) (placed ys n x d (omega arith) p.1 (λ l. later (omega arith))))
+placed (y ∷ ys) (suc n) x d w h later = grind (arith, nat_tests, common_steps, and_parts, le-ltb, leb-true, placed ys n x d)
 
 pub at_later : (xs : List TimedInput) (n step : ℕ) (x y d : TimedInput) → n < length xs
     → up_to step (take n xs) ≡ true → y ≡ get_or xs n d → step < y.step → x.step ≡ step
@@ -41,5 +38,4 @@ pub rises : (xs : List TimedInput) (x : TimedInput) → never_falls xs ≡ true 
 unfolding never_falls inserted
 rises [] x h = refl
 rises (y ∷ []) x h = grind (arith, nat_tests)
-rises (y ∷ z ∷ zs) x h =
-    let more = rises (z ∷ zs) x (and_parts _ _ h).1 in grind (arith, nat_tests)
+rises (y ∷ z ∷ zs) x h = grind (arith, nat_tests, common_steps, and_parts, rises (z ∷ zs) x)

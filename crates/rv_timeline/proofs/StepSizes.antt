@@ -1,9 +1,9 @@
 -- The steps of a list that was read have ten digits at most.
-use Rattle.std.proofs.Common.{rules}
-use Rattle.std.proofs.Common.{◌≡◌, ℕ, Bool, true, false, cond, List, [], ◌∷◌, refl}
+use Rattle.std.proofs.lemmas.Bool.Decides.{nat_tests}
+use Rattle.std.proofs.lemmas.Grind.{common_steps}
+use Rattle.std.proofs.Common.{arith, rules, ◌≡◌, ℕ, Bool, true, false, cond, List, [], ◌∷◌, refl}
 use Rattle.std.proofs.lemmas.Bool.{and_from}
 use Rattle.std.proofs.lemmas.List.Folds.{list_all-append}
-use Rattle.std.specs.List.{list_all}
 use Rattle.std.specs.Prelude.{Option, Some, None, nat_le, nat_lt, ◌&&◌, length, option_and_then}
 use Rattle.std.specs.Option.{option_map}
 use Rattle.rv_base.specs.Numbers.{number_in}
@@ -40,9 +40,7 @@ step_small word n h = step_by (nat_le (length word) 10) word n h
 
 at_small : (step : ℕ) (is : List Input) → nat_le step 9999999999 ≡ true → HasSteps (at_step step is)
 at_small step [] h = refl
-at_small step (i ∷ is) h =
-    and_from (nat_le step 9999999999) (list_all (λ x. nat_le x.step 9999999999) (at_step step is)) h
-    (at_small step is h)
+at_small step (i ∷ is) h = grind (arith, nat_tests, common_steps, and_from, at_small step is h)
 
 words_by : (comment : Bool) (step : Option ℕ) (is : Option (List Input)) (xs : List TimedInput)
     → ((n : ℕ) → step ≡ Some n → nat_le n 9999999999 ≡ true)

@@ -1,8 +1,7 @@
 -- The text of a list is read as the list.
-use Rattle.std.proofs.Common.{rules}
+use Rattle.std.proofs.Common.{rules, ◌≡◌, ◌∙◌, ℕ, zero, suc, ◌+◌, ◌*◌, ◌/◌, ◌%◌, ◌^◌, ◌<◌, ◌≤◌, Bool, true, false, List, [], ◌∷◌, ◌++◌, length, get_or, take, fold, refl, ap, arith, append-nil, append_assoc, length-append}
 use Rattle.std.proofs.lemmas.Bool.Decides.{nat_tests}
 use Rattle.std.proofs.lemmas.Grind.{common_steps}
-use Rattle.std.proofs.Common.{◌≡◌, ◌∙◌, ℕ, zero, suc, ◌+◌, ◌*◌, ◌/◌, ◌%◌, ◌^◌, ◌<◌, ◌≤◌, Bool, true, false, List, [], ◌∷◌, ◌++◌, length, get_or, take, fold, refl, ap, arith, append-nil, append_assoc, length-append}
 use Rattle.std.proofs.lemmas.List.{take_more}
 use Rattle.std.proofs.lemmas.Bool.{and_parts, and_from, ltb-true, leb-true, lt-ltb, le-ltb, le-leb, ne_eqb}
 use Rattle.std.proofs.lemmas.Fmt.{decimal_by_steps, length-decimal-le}
@@ -28,8 +27,7 @@ use Rattle.rv_timeline.specs.Timed.{all_of, step_of, inputs_of, timed_line, neve
 weaker : {A : Type 0} (p q : A → Bool) → ((a : A) → p a ≡ true → q a ≡ true) → (xs : List A)
     → list_all p xs ≡ true → list_all q xs ≡ true
 weaker p q more [] h = refl
-weaker p q more (x ∷ xs) h = and_from _ _ (more x (and_parts _ _ h).0)
-    (weaker p q more xs (and_parts _ _ h).1)
+weaker p q more (x ∷ xs) h = grind (arith, nat_tests, common_steps, and_from, and_parts, weaker p q more xs)
 
 -- ---- bytes
 
@@ -68,10 +66,7 @@ words_last w some h = rw (slice_split_none is_blank w (no_blanks w h), lt-ltb 0 
 split_line : (line rest : List ℕ) → printed line ≡ true → split (line ++ 10 ∷ rest) ≡ line ∷ split rest
 unfolding split
 split_line [] rest h = refl
-split_line (b ∷ bs) rest h =
-    let m : 32 ≤ b = leb-true 32 b (and_parts _ _ h).0 in
-    let tail = split_line bs rest (and_parts _ _ h).1 in
-    rw (ne_eqb b 10 (λ e. omega arith), tail) refl
+split_line (b ∷ bs) rest h = grind (arith, nat_tests, common_steps, leb-true, and_parts, ne_eqb, split_line bs rest)
 
 printed_at : (line : List ℕ) (i : ℕ) → printed line ≡ true → i < length line → 32 ≤ get_or line i 0
 printed_at [] i h l = absurd (omega arith)
@@ -99,9 +94,7 @@ is_digit n h = rw (le-leb 48 (48 + n) (omega arith), le-leb (48 + n) 57 (omega a
 
 digit_means : (n : ℕ) → n < 10 → digit_value (48 + n) ≡ n
 unfolding hex_digit
-digit_means n h =
-    let written = rw (lt-ltb n 10 h) at (digit_value-digit_char n (omega arith)) in
-    rw (written, lt-ltb n 16 (omega arith)) refl
+digit_means n h = grind (arith, nat_tests, common_steps, lt-ltb, digit_value-digit_char)
 
 one_digit : (n : ℕ) → n < 10 → IsWritten n ((48 + n) ∷ [])
 one_digit n h = search (rules, is_digit, digit_means, lt-ltb)
@@ -265,11 +258,7 @@ all_said : (xs : List TimedInput) → list_all (λ x. is_input x.input) xs ≡ t
     → all_of timed_line (lines (list_text xs)) ≡ Some xs
 unfolding list_text all_of split
 all_said [] ranges small = refl
-all_said (x ∷ xs) ranges small =
-    let input = and_parts _ _ ranges in
-    let step = and_parts _ _ small in
-    let first : x.step ≤ 9999999999 = leb-true _ _ step.0 in
-    rw (first_line x input.0 first (list_text xs), body_said x input.0 first, all_said xs input.1 step.1) refl
+all_said (x ∷ xs) ranges small = grind (arith, nat_tests, common_steps, and_parts, leb-true, first_line, body_said, all_said xs)
 
 pub reads : (xs : List TimedInput) (text : List ℕ) → text ≡ list_text xs
     → list_all (λ x. is_input x.input) xs ≡ true → never_falls xs ≡ true → HasSteps xs → timed (lines text) ≡ Some xs

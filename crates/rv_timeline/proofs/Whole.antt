@@ -1,6 +1,7 @@
 -- Reading the lines of a timed list, one by one.
-use Rattle.std.proofs.Common.{rules}
-use Rattle.std.proofs.Common.{◌≡◌, ◌∙◌, ℕ, zero, suc, ◌+◌, ◌<◌, true, List, [], ◌∷◌, ◌++◌, length, take, drop, refl, sym, ap, arith, add-one, append-nil, append_assoc, length-drop, below_more}
+use Rattle.std.proofs.lemmas.Bool.Decides.{nat_tests}
+use Rattle.std.proofs.lemmas.Grind.{common_steps}
+use Rattle.std.proofs.Common.{rules, ◌≡◌, ◌∙◌, ℕ, zero, suc, ◌+◌, ◌<◌, true, List, [], ◌∷◌, ◌++◌, length, take, drop, refl, sym, ap, arith, add-one, append-nil, append_assoc, length-drop, below_more}
 use Rattle.std.specs.Prelude.{Option, Some, None, is_some, option_and_then}
 use Rattle.std.proofs.lemmas.List.{take_all}
 use Rattle.rv_timeline.specs.declared.input.TimedInput.{TimedInput}
@@ -22,9 +23,7 @@ all_of_more : {A B : Type 0} (meaning : A → Option (List B)) (xs : List A) (x 
     → all_of meaning (xs ++ x ∷ []) ≡ joined (all_of meaning xs) (meaning x)
 unfolding all_of
 all_of_more meaning [] x = joined_nothing (meaning x)
-all_of_more meaning (y ∷ ys) x =
-    ap (joined (meaning y)) (all_of_more meaning ys x)
-    ∙ joined_assoc (meaning y) (all_of meaning ys) (meaning x)
+all_of_more meaning (y ∷ ys) x = grind (arith, nat_tests, common_steps, joined_assoc, all_of_more meaning ys x)
 
 -- ---- lines that have a list
 
@@ -79,9 +78,7 @@ dropped : (texts : List (List ℕ)) (n : ℕ) (text : List ℕ) (after : List (L
 dropped [] zero text after e = absurd cc
 dropped [] (suc n) text after e = absurd cc
 dropped (t ∷ ts) zero text after e = record { below = omega arith; front = ap (λ x. x ∷ []) cc; back = cc }
-dropped (t ∷ ts) (suc n) text after e =
-    let r = dropped ts n text after e in record
-    { below = omega (arith, r.below); front = ap (λ xs. t ∷ xs) r.front; back = r.back }
+dropped (t ∷ ts) (suc n) text after e = grind (arith, nat_tests, common_steps, dropped ts n text after e)
 
 module _ (texts rest : List (List ℕ)) (n : ℕ) (inputs : List TimedInput)
     (so : SoFar texts rest n inputs) where

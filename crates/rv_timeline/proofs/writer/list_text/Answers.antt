@@ -1,4 +1,6 @@
-use Rattle.std.proofs.Common.{◌≡◌, ◌∙◌, ◌<◌, length, take, refl, rules}
+use Rattle.std.proofs.lemmas.Bool.Decides.{nat_tests}
+use Rattle.std.proofs.lemmas.Grind.{common_steps}
+use Rattle.std.proofs.Common.{arith, ◌∙◌, ◌<◌, length, refl, rules}
 use Rattle.std.proofs.lemmas.List.{take_all}
 use Rattle.std.proofs.lemmas.Bool.{and_from}
 use Rattle.std.proofs.lemmas.List.Folds.{list_all_more}
@@ -24,8 +26,4 @@ loop-timed-preserved c =
     }
 
 pub returns-clause-read : goal.returns-clause-read
-returns-clause-read c rising small =
-    let all : take c.loop-timed.timed-index c.args.inputs.now ≡ c.args.inputs.now =
-    take_all c.loop-timed.timed-index c.args.inputs.now c.loop-timed-test.false in
-    reads c.args.inputs.now c.loop-timed.text.items (rw all at c.loop-timed.invariant.text)
-    (rw all at c.loop-timed.invariant.ranges) rising small
+returns-clause-read c rising small = grind (arith, nat_tests, common_steps, take_all, reads)

@@ -1,3 +1,5 @@
+use Rattle.std.proofs.lemmas.Bool.Decides.{nat_tests}
+use Rattle.std.proofs.lemmas.Grind.{common_steps}
 use Rattle.std.proofs.Common.{◌≡◌, ◌∙◌, ◌∷◌, length, ap, arith}
 use Rattle.rv_base.specs.Lines.{lines}
 use Rattle.rv_timeline.proofs.Whole.{begun, rising, read_more, refused, read_all}
@@ -47,5 +49,4 @@ pub returns-clause-list : goal.returns-clause-list
 returns-clause-list c = read_all _ _ _ _ c.loop-line.invariant.so_far c.in-None.ensures.steps.0
 
 pub returns-clause-steps : goal.returns-clause-steps
-returns-clause-steps c =
-    steps_small _ _ (read_all _ _ _ _ c.loop-line.invariant.so_far c.in-None.ensures.steps.0)
+returns-clause-steps c = grind (arith, nat_tests, common_steps, steps_small, read_all)
