@@ -1,7 +1,7 @@
 //! Words of other assemblers and machines.
 
 /// Words with what to write instead.
-pub(crate) static FOREIGN: [(&str, &str); 66] = [
+pub(crate) static FOREIGN: [(&str, &str); 70] = [
     ("mov", "copy a register by `mv`, and load a value by `li`"),
     ("move", "copy a register by `mv`"),
     ("movi", "load a value by `li`"),
@@ -107,6 +107,16 @@ pub(crate) static FOREIGN: [(&str, &str); 66] = [
     (".int", "write `.word`"),
     (".comm", "write a label and `.space SIZE`"),
     (".end", "leave it out: the source ends with its last line"),
+    (".asciiz", "write `.asciz`"),
+    (".eqv", "define a constant by `.equ NAME,VALUE`"),
+    (
+        ".endm",
+        "there are no macros: write the lines out, or a function that is called",
+    ),
+    (
+        ".end_macro",
+        "there are no macros: write the lines out, or a function that is called",
+    ),
 ];
 
 /// The mnemonics of the machine's instructions.

@@ -33,13 +33,14 @@ impl<'a> Nearest<'a> {
         }
     }
 
-    /// Offers a name.
+    /// Offers a name. Of two that take as many edits, one that the word begins with is nearer.
     pub(crate) fn offer(&mut self, alloc: Global, name: &'a [u8]) {
         if self.word.len() > LONGEST || name.len() > LONGEST || name.is_empty() {
             return;
         }
         if let Ok(edits) = generic_levenshtein(alloc, self.word, name)
-            && edits < self.edits
+            && (edits < self.edits
+                || edits == self.edits && !self.name.is_empty() && self.word.starts_with(name))
         {
             self.edits = edits;
             self.name = name;

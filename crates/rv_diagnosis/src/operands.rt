@@ -3,8 +3,8 @@ use crate::foreign::{FOREIGN, MNEMONICS};
 use crate::names::Nearest;
 use crate::spot::{Spot, run_of, skip_blanks};
 use crate::text::{Draft, Text, in_words};
-use rv_base::look_up;
-use rv_isa::{operation_named, reg_named};
+use rv_base::{decimal, look_up};
+use rv_isa::{csr_named, operation_named, reg_named};
 use rv_source::{Body, Role, Shape, read_line_form, shape_of, word_at};
 use std::alloc::Global;
 
@@ -15,7 +15,7 @@ const MOST_SHAPES: usize = 4;
 const MOST_WORDS: usize = 80;
 
 /// Returns whether the language has a word.
-fn is_word(word: &[u8]) -> bool {
+pub(crate) fn is_word(word: &[u8]) -> bool {
     if operation_named(word).is_some() {
         return true;
     }
@@ -36,13 +36,13 @@ fn nearest_word<'a>(alloc: Global, word: &'a [u8]) -> &'a [u8] {
     nearest.name
 }
 
+/// What is said of a word that the language doesn't have.
+pub(crate) const NO_WORD: &str = "`^` is neither an instruction nor a directive";
+
 /// Says that the language doesn't have a word.
 pub(crate) fn unknown_word(alloc: Global, spot: Spot, draft: &mut Draft) {
     let word = spot.piece;
-    draft.tell(
-        in_words("`^` is neither an instruction nor a directive", ""),
-        word,
-    );
+    draft.tell(in_words(NO_WORD, ""), word);
     if let Some(advice) = look_up(&FOREIGN, word) {
         draft.advice.say(advice);
         return;
@@ -169,6 +169,40 @@ fn is_name(piece: &[u8]) -> bool {
     run_of(piece).len() == piece.len() && piece.first().is_some_and(|byte| !byte.is_ascii_digit())
 }
 
+/// Whether a text is a number that has more than five bits.
+fn is_large(piece: &[u8]) -> bool {
+    match piece {
+        [b'0', b'x', _] | [b'0', b'x', b'0' | b'1', _] => false,
+        [first, ..] => first.is_ascii_digit() && decimal(31, piece).is_none(),
+        [] => false,
+    }
+}
+
+/// Says which word takes what was written, if one does, and returns whether it was said.
+fn other_word(word: &[u8], piece: &[u8], draft: &mut Draft) -> bool {
+    if word == b"csrr".as_slice() && csr_named(piece).is_some() {
+        draft
+            .advice
+            .fill("write to a control register by `csrw ^,register`", piece);
+        return true;
+    }
+    if word == b"jalr".as_slice() && is_name(piece) && !is_register(piece) {
+        draft.advice.fill("call a function by `call ^`", piece);
+        return true;
+    }
+    if word.starts_with(b"csr") && is_large(piece) {
+        draft
+            .advice
+            .fill("load `^` by `li` into a register, and write that", piece);
+        return true;
+    }
+    false
+}
+
+/// The names of the registers.
+const REGISTERS: &str =
+    "registers are x0 to x31, or zero, ra, sp, gp, tp, t0 to t6, s0 to s11, a0 to a7; ";
+
 /// Says which operand a word doesn't take, and what is wanted there.
 fn wrong_operand(word: &[u8], count: usize, wrong: usize, piece: &[u8], draft: &mut Draft) {
     let role = shape_for(word, count).and_then(|shape| role_at(shape, wrong.saturating_sub(1)));
@@ -176,9 +210,9 @@ fn wrong_operand(word: &[u8], count: usize, wrong: usize, piece: &[u8], draft: &
     match role {
         Some(role) if noun_of(role) == "register" && is_name(piece) => {
             out.fill("`^` is no register", piece);
-            draft.advice.say(
-                "registers are x0 to x31, or zero, ra, sp, gp, tp, t0 to t6, s0 to s11, a0 to a7; ",
-            );
+            if draft.advice.is_empty() {
+                draft.advice.say(REGISTERS);
+            }
         }
         Some(role) => {
             out.say("operand ");
@@ -210,10 +244,14 @@ pub(crate) fn bad_operands(
     };
     let word = word.bytes();
     let count = operands.as_slice().len();
+    let is_told = wrong > 0 && other_word(word, spot.piece, draft);
     if wrong == 0 {
         draft.sentence.fill("operands of `^` are missing", word);
     } else {
         wrong_operand(word, count, wrong, spot.piece, draft);
+    }
+    if is_told {
+        return;
     }
     if is_word(run_of(spot.piece)) && wrong > 0 {
         draft

@@ -1,5 +1,5 @@
 //! Diagnoses as compilers print them.
-use crate::diagnosis::Diagnosis;
+use crate::diagnosis::{Detail, Diagnosis};
 use crate::explanation::explain;
 use crate::spot::{Spot, line_text, spot_of};
 use crate::text::Text;
@@ -99,9 +99,29 @@ fn append_one(
     Ok(())
 }
 
+/// Whether a diagnosis is that of an instruction whose address is no multiple of 4.
+fn is_unaligned(diagnosis: &Diagnosis) -> bool {
+    matches!(diagnosis.detail, Detail::Address(_))
+}
+
+/// Appends how many faulty lines weren't told, and how many of them follow from the first that isn't aligned.
+fn append_untold(more: usize, unaligned: usize, out: &mut Text) {
+    if more > 0 {
+        out.say("and ");
+        out.count(more);
+        out.say(" more faulty lines\n");
+    }
+    if unaligned > 1 {
+        out.say("and ");
+        out.count(unaligned - 1);
+        out.say(" more at addresses that are no multiple of 4: mend the first such line\n");
+    }
+}
+
 /// Appends what is wrong with a source as compilers print it: for each diagnosis a line
 /// `FILE:LINE:COLUMN: KIND: sentence`, the line of the source, a mark beneath the place that is meant, and
-/// a line of advice where there is some. At most 20 diagnoses are written, and then how many more there are.
+/// a line of advice where there is some. At most 20 diagnoses are written, and then how many more there are. Of the
+/// instructions that aren't aligned only the first is written: the others mostly follow from it.
 ///
 /// # Errors
 ///
@@ -113,16 +133,25 @@ pub fn append_report(
     diagnoses: &[Diagnosis],
     out: &mut Vec<u8>,
 ) -> Result<(), NoMemory> {
-    let (first, more) = diagnoses.split_at(MOST.min(diagnoses.len()));
     let mut text = Text::new(alloc);
-    for diagnosis in first {
+    let mut told: usize = 0;
+    let mut more: usize = 0;
+    let mut unaligned: usize = 0;
+    for diagnosis in diagnoses {
+        if is_unaligned(diagnosis) {
+            unaligned = unaligned.saturating_add(1);
+        }
+        if unaligned > 1 && is_unaligned(diagnosis) {
+            continue;
+        }
+        if told >= MOST {
+            more = more.saturating_add(1);
+            continue;
+        }
+        told += 1;
         append_one(alloc, file, source, diagnosis, &mut text)?;
     }
-    if !more.is_empty() {
-        text.say("and ");
-        text.count(more.len());
-        text.say(" more faulty lines\n");
-    }
+    append_untold(more, unaligned, &mut text);
     let bytes = text.finish()?;
     out.extend_from_slice(&bytes)?;
     Ok(())

@@ -79,6 +79,20 @@ pub(crate) fn skip_blanks(text: &[u8]) -> &[u8] {
     text.split_at(len.min(text.len())).1
 }
 
+/// Returns the word with which the statement of a line begins, by what stands before a place in it: what follows the
+/// last colon, which ends a label.
+pub(crate) fn word_in(before: &[u8]) -> &[u8] {
+    let mut place: usize = 0;
+    let mut begin: usize = 0;
+    for byte in before {
+        place = place.saturating_add(1);
+        if *byte == b':' {
+            begin = place;
+        }
+    }
+    run_of(skip_blanks(before.split_at(begin.min(before.len())).1))
+}
+
 /// Returns how often a byte stands in a text.
 pub(crate) fn count_of(text: &[u8], wanted: u8) -> usize {
     let mut count: usize = 0;

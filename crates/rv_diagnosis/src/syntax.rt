@@ -1,6 +1,9 @@
 //! Tokens that can't stand where they stand, and bytes at which no token begins (E3).
-use crate::spot::{Spot, count_of, first_byte, is_in_name, last_byte, run_of};
+use crate::foreign::FOREIGN;
+use crate::operands::{NO_WORD, is_word};
+use crate::spot::{Spot, count_of, first_byte, is_in_name, last_byte, run_of, word_in};
 use crate::text::{Words, in_words};
+use rv_base::look_up;
 
 /// Returns what is said where no token begins at a quote.
 fn string(spot: Spot) -> Words {
@@ -253,8 +256,31 @@ const OPERATOR: (&str, &str) = (
     "write the value itself, or define a name for it by `.equ`",
 );
 
+/// Returns what is said where a comma seems to be missing, but the word of the statement is none: a label without its
+/// colon, or a word of another assembler.
+fn no_statement<'a>(spot: Spot<'a>) -> Option<(Words, &'a [u8])> {
+    let word = word_in(spot.before);
+    if word.is_empty() || is_word(word) || !is_in_name(last_byte(spot.before)) {
+        return None;
+    }
+    if let Some(advice) = look_up(&FOREIGN, word) {
+        return Some((in_words(NO_WORD, advice), word));
+    }
+    if is_word(run_of(spot.rest)) {
+        let said = in_words(
+            "`^` is no instruction",
+            "if it is a label write `^:`, with a colon",
+        );
+        return Some((said, word));
+    }
+    None
+}
+
 /// Returns what is said of a byte or a token that can't stand there, with the piece that is meant.
 pub(crate) fn syntax<'a>(spot: Spot<'a>) -> (Words, &'a [u8]) {
+    if let Some(said) = no_statement(spot) {
+        return said;
+    }
     let run = run_of(spot.rest);
     if run.len() != spot.piece.len() && run.first().is_some_and(|byte| byte.is_ascii_digit()) {
         return (number(run), run);

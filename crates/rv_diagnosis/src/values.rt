@@ -2,7 +2,7 @@
 use crate::diagnosis::{Diagnosis, Field};
 use crate::names::survey_of;
 use crate::operands::is_register;
-use crate::spot::Spot;
+use crate::spot::{Spot, word_in};
 use crate::text::{Draft, in_words};
 use rv_asm::FaultKind;
 use std::alloc::Global;
@@ -51,6 +51,14 @@ fn local_label(spot: Spot, kind: FaultKind, draft: &mut Draft) {
     }
 }
 
+/// Returns what to write where a register stands for a value.
+fn for_register(word: &[u8]) -> &'static str {
+    match word {
+        b"call" => "call the function at the address in it by `jalr ^`",
+        _ => "copy a register by `mv`, add it by `add`, jump to it by `jr`, and load from `(^)`",
+    }
+}
+
 /// Says that a name has no value where it stands.
 pub(crate) fn unknown(
     alloc: Global,
@@ -86,13 +94,18 @@ pub(crate) fn unknown(
         draft.tell(
             in_words(
                 "`^` is a register, and a value is wanted here",
-                "copy a register by `mv`, add it by `add`, jump to it by `jr`, and load from `(^)`",
+                for_register(word_in(spot.before)),
             ),
             name,
         );
         return;
     }
     draft.sentence.fill("`^` isn't defined", name);
+    if name.iter().all(|byte| byte.is_ascii_hexdigit()) {
+        draft
+            .advice
+            .fill("a hexadecimal number is written `0x^`; else ", name);
+    }
     if found.nearest.name.is_empty() {
         draft
             .advice
