@@ -1,4 +1,5 @@
 -- The meaning of a word is the kind of the operation whose codes it has, with the fields at their places.
+use Rattle.std.proofs.lemmas.Grind.{common_steps}
 use Rattle.std.proofs.Common.{◌≡◌, ◌∙◌, ℕ, ◌/◌, ◌%◌, ◌^◌, ◌<◌, Bool, true, false, nat_lt, List, [], ◌∷◌, Option, Some, None, refl, sym, ap, subst, SFits, w32, arith}
 use Rattle.std.specs.Prelude.{if◌then◌else◌}
 use Rattle.std.proofs.lemmas.Bool.{ltb-true, lt-ltb, true≢false}
@@ -49,9 +50,7 @@ placed_codes (R _ _ _ _) f w c a b d e = grind arith
 placed_codes x f w c a b d e = grind arith
 
 word_codes : (f : Fields) (w : ℕ) → AreInRange f → encoded f ≡ w → HasCodes w (codes_of (row f.operation).1)
-word_codes f w r e =
-    let x = row f.operation in
-    placed_codes x.1 f w (codes_fit f.operation) r.0 r.1 r.2 (same_word x.1 f ∙ e)
+word_codes f w r e = grind (arith, nat_tests, common_steps, placed_codes, codes_fit, same_word)
 
 -- ---- the fields of a word
 
@@ -86,9 +85,7 @@ placed_below (R _ _ _ _) f c a b d = grind arith
 placed_below e f c a b d = grind arith
 
 word_below : (f : Fields) (w : ℕ) → AreInRange f → encoded f ≡ w → w < 2 ^ 32
-word_below f w r e =
-    let x = row f.operation in
-    subst (λ w. w < 2 ^ 32) (same_word x.1 f ∙ e) (placed_below x.1 f (codes_fit f.operation) r.0 r.1 r.2)
+word_below f w r e = grind (arith, nat_tests, common_steps, same_word, placed_below, codes_fit)
 
 pub some_meaning : (x : Operation) (w : ℕ) → w < 2 ^ 32 → HasCodes w (codes_of (row x).1)
     → means w ≡ Some (kind_of (read x w))
@@ -163,6 +160,4 @@ read_range x w c n b e is =
 
 pub read_laid : (x : Operation) (w : ℕ) (c : Codes) (n : Fields) → w < 2 ^ 32 → c ≡ codes_of (row x).1
     → n ≡ normal c.format (read_in c.format x w) → fields_of (kind_of n) ≡ n
-read_laid x w c n b e is =
-    normal_fields x _ _ _ _ n _ (read_small (row x).1 w b) refl (same_read x w c n e is)
-    (kind_in_range (read x w) (read_fits x w b))
+read_laid x w c n b e is = grind (arith, nat_tests, common_steps, normal_fields, read_small, same_read, kind_in_range, read_fits)

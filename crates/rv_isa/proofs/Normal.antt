@@ -1,4 +1,6 @@
 -- An instruction of fields without those that its operation doesn't have.
+use Rattle.std.proofs.lemmas.Bool.Decides.{nat_tests}
+use Rattle.std.proofs.lemmas.Grind.{common_steps}
 use Rattle.std.proofs.Common.{◌≡◌, ◌∙◌, ℕ, ℤ, pos, negsuc, refl, ap, sym, subst, SFits, w32, arith}
 use Rattle.rv_isa.specs.Fields.{kind_of, with_fields}
 use Rattle.rv_isa.specs.Table.{kind_in, row, Encoding, R}
@@ -19,10 +21,7 @@ same_kind e f = refl
 
 kind : (f : Fields) → kind_of (normal (codes_of (row f.operation).1).format f) ≡ kind_of f
 unfolding kind_of
-kind f =
-    let e = (row f.operation).1 in
-    let n = normal (codes_of e).format f in
-    ap (λ x. kind_in (row x).1 n) (same_operation e f) ∙ same_kind e f
+kind f = grind (arith, nat_tests, common_steps, same_operation, same_kind)
 
 fields : (x : Operation) (rd rs1 rs2 : ℕ) (imm : ℤ) → SFits w32 imm
     → IsInRange (kind_in (row x).1 (with_fields x rd rs1 rs2 imm))
@@ -46,7 +45,4 @@ pub normal_fields : (x : Operation) (rd rs1 rs2 : ℕ) (imm : ℤ) (n : Fields) 
     → c ≡ codes_of (row x).1 → n ≡ normal c.format (with_fields x rd rs1 rs2 imm)
     → IsInRange (kind_of (with_fields x rd rs1 rs2 imm)) → fields_of (kind_of n) ≡ n
 unfolding kind_of
-normal_fields x rd rs1 rs2 imm n c b e is r =
-    let f = with_fields x rd rs1 rs2 imm in
-    let same : n ≡ normal (codes_of (row x).1).format f = is ∙ ap (λ c. normal c.format f) e in
-    ap fields_of (ap kind_of same ∙ kind f) ∙ fields x rd rs1 rs2 imm b r ∙ sym same
+normal_fields x rd rs1 rs2 imm n c b e is r = grind (arith, nat_tests, common_steps, kind, fields)

@@ -1,6 +1,8 @@
 -- Words as signed numbers, and signed numbers as words.
-use Rattle.std.proofs.Common.{◌≡◌, ◌∙◌, ℕ, zero, suc, ◌-◌, ◌/◌, ◌%◌, ◌^◌, ◌<◌, ◌≤◌, refl, sym, ap, subst, ℤ, pos, negsuc, ◌*ℤ◌, nat_lt, w32, w64, SFits, to_z, of_z, arith}
-use Rattle.std.specs.Prelude.{int_div, int_rem, if◌then◌else◌}
+use Rattle.std.proofs.lemmas.Bool.Decides.{nat_tests}
+use Rattle.std.proofs.lemmas.Grind.{common_steps}
+use Rattle.std.proofs.Common.{◌≡◌, ◌∙◌, ℕ, zero, suc, ◌-◌, ◌/◌, ◌%◌, ◌^◌, ◌<◌, ◌≤◌, refl, sym, ap, subst, ℤ, pos, negsuc, ◌*ℤ◌, w32, w64, SFits, to_z, of_z, arith}
+use Rattle.std.specs.Prelude.{int_div, int_rem}
 use Rattle.std.specs.Int.{int_wrapping_div}
 use Rattle.std.specs.Int.RustNames.{unsigned_abs}
 use Rattle.std.proofs.lemmas.Int.{of_z-to_z, to_z-of_z, to_z_pos, fits_signed_mul}
@@ -11,9 +13,7 @@ use Rattle.rv_isa.specs.Number.{unsigned}
 
 -- a cast to a signed number
 signed_is : (a : ℕ) → to_z w32 a ≡ signed a
-signed_is a =
-    let same : 2 ^ 32 - suc a ≡ 2 ^ 32 - 1 - a = omega arith in
-    ap (λ (n : ℕ). if nat_lt a (2 ^ 31) then pos a else negsuc n) same
+signed_is a = grind (arith, nat_tests, common_steps)
 
 -- a number after casts to a word, to 64 bits and back
 widened : (x : ℤ) → SFits w32 x → to_z w64 (of_z w64 (to_z w32 (of_z w32 x))) ≡ x
@@ -28,11 +28,7 @@ abs_le (negsuc n) f = omega (arith, f.sfits)
 pub signed_product : (a b : ℕ) (x y : ℤ) → SFits w32 x → SFits w32 y → x ≡ to_z w32 a → y ≡ to_z w32 b
     → to_z w64 (of_z w64 (to_z w64 (of_z w64 (to_z w32 (of_z w32 x))) *ℤ to_z w64
     (of_z w64 (to_z w32 (of_z w32 y))))) ≡ signed a *ℤ signed b
-signed_product a b x y f g e d =
-    ap (λ (z : ℤ). to_z w64 (of_z w64 z)) (λ i. widened x f i *ℤ widened y g i)
-    ∙ to_z-of_z w64 (x *ℤ y) (fits_signed_mul w64 x y (2 ^ 31) (2 ^ 31) (abs_le x f) (abs_le y g)
-    (omega arith))
-    ∙ (λ i. (e ∙ signed_is a) i *ℤ (d ∙ signed_is b) i)
+signed_product a b x y f g e d = grind (arith, nat_tests, common_steps, widened, to_z-of_z, fits_signed_mul, abs_le, signed_is)
 
 mixed_factors : (x : ℤ) (b : ℕ) → SFits w32 x → b < 2 ^ 32 →
     to_z w64 (of_z w64 (to_z w32 (of_z w32 x))) *ℤ to_z w64 b ≡ x *ℤ pos b
@@ -48,10 +44,7 @@ mixed_fits x b f h = subst (SFits w64) (sym (mixed_factors x b f h)) (mixed_is_s
 
 pub mixed_product : (a b : ℕ) (x : ℤ) → SFits w32 x → b < 2 ^ 32 → x ≡ to_z w32 a
     → to_z w64 (of_z w64 (to_z w64 (of_z w64 (to_z w32 (of_z w32 x))) *ℤ to_z w64 b)) ≡ signed a *ℤ pos b
-mixed_product a b x f h e =
-    ap (λ (z : ℤ). to_z w64 (of_z w64 z)) (mixed_factors x b f h)
-    ∙ to_z-of_z w64 (x *ℤ pos b) (mixed_is_small x b f h)
-    ∙ (λ i. (e ∙ signed_is a) i *ℤ pos b)
+mixed_product a b x f h e = grind (arith, nat_tests, common_steps, mixed_factors, to_z-of_z, mixed_is_small, signed_is)
 
 -- the word of a quotient and of a remainder, neither of which is above its dividend
 word_above : (n : ℕ) → n ≤ 2 ^ 31 → n ≡ unsigned (pos n)
@@ -86,7 +79,4 @@ pub word_of : (op : ℤ → ℤ → ℤ) (meaning : ℤ → ℤ → ℕ) (a b r 
     → x ≡ to_z w32 a → y ≡ to_z w32 b → z ≡ op (to_z w32 (of_z w32 x)) (to_z w32 (of_z w32 y)) →
     r ≡ of_z w32 (to_z w32 (of_z w32 z))
     → of_z w32 (op x y) ≡ meaning x y → r ≡ meaning (signed a) (signed b)
-word_of op meaning a b r x y z f g h e d is was small =
-    was ∙ ap (of_z w32) (to_z-of_z w32 z h ∙ is ∙ (λ i. op (to_z-of_z w32 x f i) (to_z-of_z w32 y g i)))
-    ∙ small
-    ∙ (λ i. meaning ((e ∙ signed_is a) i) ((d ∙ signed_is b) i))
+word_of op meaning a b r x y z f g h e d is was small = grind (arith, nat_tests, common_steps, to_z-of_z, signed_is)
