@@ -1,5 +1,6 @@
 -- The rows of the registers are the registers by cases.
-use Rattle.std.proofs.Common.{◌≡◌, ◌≢◌, ℕ, zero, suc, ◌+◌, ◌*◌, ◌/◌, ◌%◌, ◌<◌, ◌≤◌, Bool, true, false, cond, List, [], ◌∷◌, ◌++◌, map, Option, Some, None, refl, ap, arith, nat_lt, nat_le, eqb-true}
+use Rattle.std.proofs.lemmas.Grind.{common_steps}
+use Rattle.std.proofs.Common.{◌≡◌, ◌≢◌, ℕ, zero, suc, ◌+◌, ◌*◌, ◌/◌, ◌%◌, ◌<◌, ◌≤◌, Bool, true, false, cond, List, [], ◌∷◌, ◌++◌, map, Option, Some, None, refl, arith, nat_lt, nat_le, eqb-true}
 use Rattle.std.specs.Prelude.{◌==◌, ◌&&◌, find, unwrap_or, slice_set, if◌then◌else◌}
 use Rattle.std.specs.List.{range_with_len}
 use Rattle.std.specs.Option.{option_map_or}
@@ -39,23 +40,7 @@ found_from : (off s a n : ℕ) (rest : List (ℕ × Register PlicState)) → off
     ≡ Some (priority_row s)
 unfolding priority_row
 found_from off s a zero rest is low high = absurd (omega arith)
-found_from off s a (suc n) rest is low high =
-    go (off == 4 * a) refl (λ above. found_from off s (a + 1) n rest is above (omega (arith, high)))
-  where
-    go : (b : Bool) → (off == 4 * a) ≡ b
-        → (a + 1 ≤ s
-        → find (λ r. off == r.0) (map priority_row (range_with_len (a + 1) n) ++ rest)
-        ≡ Some (priority_row s))
-        → cond b (Some (priority_row a))
-        (find (λ r. off == r.0) (map priority_row (range_with_len (a + 1) n) ++ rest))
-        ≡ Some (priority_row s)
-    go true here later =
-        let same : off ≡ 4 * a = eqb-true off (4 * a) here in
-        let it : a ≡ s = omega (arith, is, same) in
-        ap (λ q. Some (priority_row q)) it
-    go false apart later =
-        let other : a ≢ s = (λ it. absurd (grind (arith, nat_tests))) in
-        later (omega (arith, other, low))
+found_from off s a (suc n) rest is low high = grind (arith, nat_tests, common_steps, priority_row, eqb-true, found_from off s (a + 1) n rest is)
 
 none_from : (off a n : ℕ) (rest : List (ℕ × Register PlicState)) → ((s : ℕ) → a ≤ s → s < a + n → off ≢ 4 * s)
     → find (λ r. off == r.0) (map priority_row (range_with_len a n) ++ rest)
