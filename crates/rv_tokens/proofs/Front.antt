@@ -58,10 +58,7 @@ other n b e h = search rules
 
 name_byte_at : (xs : List ℕ) (m n : ℕ) → m < n → n ≤ length xs → list_all is_name_byte (take n xs) ≡ true
     → is_name_byte (get_or xs m 0) ≡ true
-name_byte_at xs m n lt le h =
-    true_from_ne_false (is_name_byte (get_or xs m 0)) (λ f. both_ways (list_all is_name_byte (take n xs))
-    (list_all_at is_name_byte (take n xs) m 0 (omega (arith, length-take n xs))
-    (ap is_name_byte (get_or-take n xs m 0 lt) ∙ f)) h)
+name_byte_at xs m n lt le h = search (rules, nat_tests, true_from_ne_false, both_ways, list_all_at, length-take, get_or-take)
 
 token_of_word : (xs : List ℕ) → list_all is_name_byte xs ≡ true → token_of xs ≡ word xs
 unfolding token_of
@@ -228,9 +225,6 @@ character_long xs long = search (rules, length-drop, length-take, between_none, 
 
 pub character_within : (line : List ℕ) (n : ℕ) → n ≤ length line → ((m : ℕ) → n < m → m ≤ length line → 6 < m)
     → get_or line 0 0 ≡ 39 → longest (token_in line) n ≡ front line
-character_within line n le long e =
-    sym (longest_above (token_in line) n (length line) le (λ m p q. character_in line m (omega arith) q e
-    ∙ ap (option_map (λ n. Character n))
-    (character_long (take m line) (omega (arith, long m p q, length-take m line)))))
+character_within line n le long e = search (rules, nat_tests, longest_above, character_in, character_long, length-take)
 
 pub ruleset half_steps = (front_short, front_half, at_front)

@@ -96,9 +96,7 @@ made_step b bs false false (Some at) more e f g =
 made : (k : ℕ) (line : List ℕ) → length line ≤ k → IsCut line (tokens_after line 0)
 made k [] h = rw (cut_end [] refl) Ended
 made zero (b ∷ bs) h = absurd (omega arith)
-made (suc k) (b ∷ bs) h =
-    made_step b bs (is_blank b) (is_comment (b ∷ bs)) (front (b ∷ bs)) (λ l m. made k l (omega (arith, h, m)))
-    refl refl refl
+made (suc k) (b ∷ bs) h = search (rules, nat_tests, made_step, made k)
 
 -- ---- lines that are too long
 

@@ -1,7 +1,7 @@
 -- The end of a string.
 use Rattle.std.proofs.lemmas.Grind.{common_steps}
 use Rattle.std.proofs.Common.{rules}
-use Rattle.std.proofs.Common.{◌≡◌, ℕ, zero, suc, ◌+◌, ◌-◌, ◌<◌, ◌≤◌, Bool, true, false, cond, leb, List, [], ◌∷◌, length, take, drop, get_or, refl, sym, ap, ◌∙◌, inl, inr, arith, length-take, length-drop, get_or-take, get_or-drop}
+use Rattle.std.proofs.Common.{◌≡◌, ℕ, zero, suc, ◌+◌, ◌-◌, ◌<◌, ◌≤◌, Bool, true, false, cond, leb, List, [], ◌∷◌, length, take, drop, get_or, refl, sym, ap, ◌∙◌, arith, length-take, length-drop, get_or-take, get_or-drop}
 use Rattle.std.specs.Prelude.{Option, None, Some, option_and_then, is_some, ◌&&◌}
 use Rattle.std.specs.Bool.{◌==◌}
 use Rattle.std.specs.Option.{option_map}
@@ -137,24 +137,7 @@ module _ (text : List ℕ) (i : ℕ) (so : IsScanned text i) where
 
   pub scanned_more : (b k : ℕ) → (get_or text i 0 ≡ 34 → ⊥) → first_byte (drop i text) ≡ Some (b, k)
       → IsScanned text (i + k)
-  scanned_more b k test e =
-      let l = longest_found (string_byte_in (drop i text)) (length (drop i text)) k b e in
-      record {
-        within = omega (arith, length-drop i text, l.within, so.within);
-        goes_on = λ m less q. elim (cases_lt m (i + 1)) [
-          | inl lt ↦ rw (lt-leb (i + k) m (omega (arith, l.some))) (elim (cases_lt m i) [
-            | inl before ↦ early m before less q
-            | inr at ↦ absurd (test (let same : m ≡ i = omega arith in rw same at q))
-          ])
-          | inr gt ↦
-              let same : (m - i) - k ≡ m - (i + k) = omega arith in
-              let test_same : leb k (m - i) ≡ leb (i + k) m = grind (arith, nat_tests) in
-              late m (omega arith) less q
-              ∙ (spells_step (drop i text) b k (m - i) e (omega arith)
-              (omega (arith, length-drop i text)) (quote_at m (omega arith) q)
-              ∙ rw (test_same, same, drop-drop k i text) refl)
-        ];
-      }
+  scanned_more b k test e = search (rules, nat_tests, longest_found, string_byte_in, length-drop, cases_lt, lt-leb, early, late, spells_step, quote_at, drop-drop)
 
 -- ---- the string at the front of a line
 
@@ -234,13 +217,7 @@ front_unended text n so end = front_open text (λ k p q. early text n so k (omeg
 -- no byte is spelled at n
 pub front_bad : (text : List ℕ) (n : ℕ) → IsScanned text n → (get_or text n 0 ≡ 34 → ⊥)
     → first_byte (drop n text) ≡ None → front (34 ∷ text) ≡ None
-front_bad text n so test e = front_open text (λ k p q. elim (cases_lt k (n + 1)) [
-  | inl lt ↦ (elim (cases_lt k n) [
-    | inl before ↦ early text n so k before p q
-    | inr at ↦ absurd (test (let same : k ≡ n = omega arith in rw same at q))
-  ])
-  | inr gt ↦ past text n so k e (omega arith) p q
-])
+front_bad text n so test e = search (rules, nat_tests, front_open, cases_lt, early, past)
 
 -- a line that begins with a quote
 pub begins_quoted : (line : List ℕ) → 0 < length line → get_or line 0 0 ≡ 34 → line ≡ 34 ∷ drop 1 line
