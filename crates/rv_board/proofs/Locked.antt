@@ -1,11 +1,11 @@
 -- Locked entries of protection, which no event changes.
-use Rattle.std.proofs.Common.{◌≡◌, ◌∙◌, ℕ, List, ◌+◌, ◌*◌, ◌/◌, ◌%◌, ◌^◌, ◌==◌, Bool, true, false, [], ◌∷◌, length, Option, Some, None, Result, Ok, Err, refl, sym, ap, subst, nat_lt}
+use Rattle.std.proofs.Common.{rules, arith, ◌≡◌, ◌∙◌, ℕ, List, ◌+◌, ◌*◌, ◌/◌, ◌%◌, ◌^◌, Bool, true, false, [], ◌∷◌, length, Option, Some, None, Result, Ok, Err, refl, sym, ap, nat_lt}
 use Rattle.std.specs.Prelude.{if◌then◌else◌, ◌&&◌, not}
 use Rattle.std.specs.Option.{option_map}
-use Rattle.rv_isa.specs.Number.{flag}
 use Rattle.rv_isa.specs.declared.kind.Kind.{Kind}
 use Rattle.rv_isa.specs.declared.op.CsrOp.{CsrOp}
-use Rattle.rv_pmp.specs.Entry.{addressed, configured, matching_code, matching_of}
+use Rattle.rv_isa.specs.Number.{flag}
+use Rattle.rv_pmp.specs.Entry.{addressed, configured, matching_of}
 use Rattle.rv_pmp.specs.Pmp as protection
 use Rattle.rv_pmp.specs.Pmp.{PmpState, entry_at, is_locked_tor, written}
 use Rattle.rv_pmp.proofs.Registers.{stored_entry}
@@ -42,19 +42,13 @@ both false b is = absurd cc
 stays_top : (old new : PmpState) → KeepsLocked old new → (n : ℕ) → is_locked_tor old n ≡ true
     → is_locked_tor new n ≡ true
 unfolding is_locked_tor
-stays_top old new k n is =
-    let locked : (entry_at old n).locked ≡ true = both _ _ is in
-    ap (λ (e : Entry). e.locked && (matching_code e.matching == 1)) (k.locked n locked) ∙ is
+stays_top old new k n is = search (rules, arith, both)
 
 kept : (a : PmpState) → KeepsLocked a a
 kept a = record { locked = λ n locked. refl; below = λ n top. refl }
 
 kept_on : (a b c : PmpState) → KeepsLocked a b → KeepsLocked b c → KeepsLocked a c
-kept_on a b c one two = record {
-  locked = λ n locked.
-      two.locked n (ap (λ (e : Entry). e.locked) (one.locked n locked) ∙ locked) ∙ one.locked n locked;
-  below = λ n top. two.below n (stays_top a b one (n + 1) top) ∙ one.below n top;
-}
+kept_on a b c one two = search (rules, arith, stays_top)
 
 -- ---- a write to a register of protection
 
@@ -112,16 +106,12 @@ store_kept pmp new addr word is = record {
 
     same : (n : ℕ) (there : Bool) → (entry_at pmp n).locked ≡ true
         → (if there then written pmp addr word n else entry_at pmp n) ≡ entry_at pmp n
-    same n true locked =
-        locked_by (entry_at pmp n) (byte n) word locked (addr == 0x3A0 + n / 4)
-        ((addr == 0x3B0 + n) && not (is_locked_tor pmp (n + 1)))
+    same n true locked = search (rules, arith, locked_by, byte)
     same n false locked = refl
 
     same_address : (n : ℕ) (there : Bool) → is_locked_tor pmp (n + 1) ≡ true
         → (if there then written pmp addr word n else entry_at pmp n).address ≡ (entry_at pmp n).address
-    same_address n true top =
-        below_by (entry_at pmp n) (byte n) word (addr == 0x3A0 + n / 4) (addr == 0x3B0 + n)
-        (is_locked_tor pmp (n + 1)) top
+    same_address n true top = search (rules, arith, below_by, byte)
     same_address n false top = refl
 
 -- ---- a write to a control register
@@ -136,16 +126,11 @@ module _ (state new : CsrState) (addr word : ℕ) where
       → option_map (λ (pmp : PmpState). record state { pmp = pmp }) stored ≡ Some new
       → KeepsLocked state.pmp new.pmp
   at_protection None is gives = absurd cc
-  at_protection (Some pmp) is gives =
-      let same : record state { pmp = pmp } ≡ new = cc in
-      subst (λ (s : CsrState). KeepsLocked state.pmp s.pmp) same (store_kept state.pmp pmp addr word is)
+  at_protection (Some pmp) is gives = search (rules, arith, store_kept)
 
   at_register : (found : Option Register) → with_value_at state addr word found ≡ Some new
       → KeepsLocked state.pmp new.pmp
-  at_register (Some register) gives =
-      let same : with_value state register word ≡ new = cc in
-      subst (KeepsLocked state.pmp)
-      (sym (other_registers state register word) ∙ ap (λ (s : CsrState). s.pmp) same) (kept state.pmp)
+  at_register (Some register) gives = search (rules, arith, other_registers, kept)
   at_register None gives = at_protection (protection.write_register state.pmp addr word) refl gives
 
   wrote_kept : (d : Mode) → write state addr d word ≡ Some new → KeepsLocked state.pmp new.pmp
@@ -163,8 +148,7 @@ KeptFrom m new = KeepsLocked m.csrs.pmp new.csrs.pmp
 
 module _ (m : Machine) where
   same_registers : (new : Machine) → new.csrs ≡ m.csrs → KeptFrom m new
-  same_registers new same =
-      subst (λ (s : CsrState). KeepsLocked m.csrs.pmp s.pmp) (sym same) (kept m.csrs.pmp)
+  same_registers new same = search (rules, arith, kept)
 
   registers : (k : Kind) (op : CsrOp) (field operand rd csr : ℕ)
       → IfRetired (KeptFrom m) (exchange_effect k m op field operand rd csr)
