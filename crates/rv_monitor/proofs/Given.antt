@@ -1,6 +1,6 @@
 -- Inputs that are given by hand, and states that a board comes to by its inputs and its steps.
-use Rattle.std.proofs.Common.{◌≡◌, ◌∙◌, ℕ, zero, suc, ◌+◌, ◌<◌, ◌≤◌, Bool, true, false, List, [], ◌∷◌, ◌++◌, length, drop, refl, sym, ap, subst, arith, inl, inr}
-use Rattle.std.specs.Prelude.{◌⊎◌, nat_eq, nat_le, nat_lt, ◌==◌, map, filter, None, Result, Ok, Err, OnOk, OnErr}
+use Rattle.std.proofs.Common.{rules, ◌≡◌, ◌∙◌, ℕ, zero, suc, ◌+◌, ◌<◌, ◌≤◌, Bool, true, false, List, [], ◌∷◌, ◌++◌, length, drop, refl, sym, ap, subst, arith, inl, inr}
+use Rattle.std.specs.Prelude.{◌⊎◌, nat_eq, nat_le, nat_lt, filter, None, Result, Ok, Err, OnOk, OnErr}
 use Rattle.rv_base.specs.declared.memory.NoMemory.{NoMemory}
 use Rattle.rv_hart.specs.declared.trap.Outcome.{Outcome}
 use Rattle.std.proofs.lemmas.Bool.{and_from, and_parts, eq-eqb, le-leb, le-ltb, lt-ltb, ltb-false, ltb-true, ne_eqb}
@@ -51,9 +51,7 @@ inserted_from_by : (t : ℕ) (y : TimedInput) (ys : List TimedInput) (x : TimedI
     → nat_lt x.step y.step ≡ b → t ≤ x.step → never_falls (y ∷ ys) ≡ true
     → from t (drop n (inserted ys x)) ≡ true → from t (drop (suc n) (inserted (y ∷ ys) x)) ≡ true
 unfolding inserted
-inserted_from_by t y ys x n true e k h more =
-    let l : x.step < y.step = ltb-true x.step y.step e in
-    rw e (drop_from t n (y ∷ ys) (all_from t y ys h (omega arith)))
+inserted_from_by t y ys x n true e k h more = search (rules, arith, ltb-true, drop_from, all_from)
 inserted_from_by t y ys x n false e k h more = rw e more
 
 inserted_all_by : (t : ℕ) (y : TimedInput) (ys : List TimedInput) (x : TimedInput) (b : Bool)
@@ -61,8 +59,7 @@ inserted_all_by : (t : ℕ) (y : TimedInput) (ys : List TimedInput) (x : TimedIn
     → from t (inserted (y ∷ ys) x) ≡ true
 unfolding inserted
 inserted_all_by t y ys x true e k h more = rw e (and_from (nat_le t x.step) _ (le-leb t x.step k) h)
-inserted_all_by t y ys x false e k h more =
-    rw e (and_from (nat_le t y.step) _ (and_parts (nat_le t y.step) (from t ys) h).0 more)
+inserted_all_by t y ys x false e k h more = search (rules, arith, and_from, and_parts, from)
 
 inserted_from : (t : ℕ) (xs : List TimedInput) (x : TimedInput) (n : ℕ) → t ≤ x.step → never_falls xs ≡ true
     → from t (drop n xs) ≡ true → from t (drop n (inserted xs x)) ≡ true
@@ -71,11 +68,9 @@ inserted_from t [] x zero k h all = and_from (nat_le t x.step) true (le-leb t x.
 inserted_from t [] x (suc zero) k h all = refl
 inserted_from t [] x (suc (suc n)) k h all = refl
 inserted_from t (y ∷ ys) x zero k h all =
-    inserted_all_by t y ys x (nat_lt x.step y.step) refl k all
-    (inserted_from t ys x zero k (tail_rises y ys h) (tail_from t y ys all))
+    search (rules, arith, inserted_all_by, tail_rises, tail_from, inserted_from t ys x zero k)
 inserted_from t (y ∷ ys) x (suc n) k h all =
-    inserted_from_by t y ys x n (nat_lt x.step y.step) refl k h
-    (inserted_from t ys x n k (tail_rises y ys h) all)
+    search (rules, arith, inserted_from_by, tail_rises, inserted_from t ys x n k)
 
 -- the list with the input is in time as well
 pub inserted_in_time : (b : BoardState) (xs : List TimedInput) (place t : ℕ) (x : TimedInput) → t ≤ x.step
@@ -105,9 +100,7 @@ module _ (t : ℕ) (input : Input) where
       let none : count_before (t + 1) (y ∷ ys) ≡ 0 =
       none_before (t + 1) (y ∷ ys) (all_from (t + 1) y ys h (omega arith)) in
       rw (none, e) refl
-  here_by y ys false e h more =
-      let l : y.step ≤ t = ltb-false t y.step e in
-      rw (lt-ltb y.step (t + 1) (omega arith), e) more
+  here_by y ys false e h more = search (rules, arith, ltb-false, lt-ltb)
 
   here : (xs : List TimedInput) → never_falls xs ≡ true
       → drop (count_before (t + 1) xs) (inserted xs new) ≡ new ∷ drop (count_before (t + 1) xs) xs
@@ -119,10 +112,7 @@ module _ (t : ℕ) (input : Input) where
       → never_falls (y ∷ ys) ≡ true → of t (inserted ys new) ≡ of t ys ++ new ∷ []
       → of t (inserted (y ∷ ys) new) ≡ of t (y ∷ ys) ++ new ∷ []
   unfolding inserted
-  last_by y ys true c e f h more =
-      let l : t < y.step = ltb-true t y.step e in
-      let none : of t (y ∷ ys) ≡ [] = none_of t (y ∷ ys) (all_from (t + 1) y ys h (omega arith)) in
-      rw (e, eq-eqb t t refl, none) refl
+  last_by y ys true c e f h more = search (rules, arith, ltb-true, none_of, all_from, eq-eqb)
   last_by y ys false true e f h more = rw (e, f, more) refl
   last_by y ys false false e f h more = rw (e, f, more) refl
 
@@ -136,9 +126,7 @@ module _ (t : ℕ) (input : Input) where
       → count_before (t + 1) (inserted (y ∷ ys) new) ≡ count_before (t + 1) (y ∷ ys) + 1
   unfolding inserted
   count_by y ys true e more = rw (e, lt-ltb t (t + 1) (omega arith)) (omega arith)
-  count_by y ys false e more =
-      let l : y.step ≤ t = ltb-false t y.step e in
-      rw (e, lt-ltb y.step (t + 1) (omega arith)) (omega (arith, more))
+  count_by y ys false e more = search (rules, arith, ltb-false, lt-ltb)
 
   count_more : (xs : List TimedInput) → count_before (t + 1) (inserted xs new) ≡ count_before (t + 1) xs + 1
   unfolding inserted
@@ -149,8 +137,7 @@ module _ (t : ℕ) (input : Input) where
     -- the events of the steps before are the same
     before : (u : ℕ) → u < t → inputs_at (inserted xs new) u ≡ inputs_at xs u
     unfolding inputs_at
-    before u k =
-        ap (map (λ x. event_of x.input)) (left_out (λ x. x.step == u) xs new (ne_eqb t u (λ same. omega arith)))
+    before u k = search (rules, arith, left_out, ne_eqb, same)
 
     pub events_before : (k : ℕ) → k ≤ t → events_of (inserted xs new) 0 k ≡ events_of xs 0 k
     unfolding events_of
@@ -163,9 +150,7 @@ module _ (t : ℕ) (input : Input) where
     -- the event of the input comes last
     inputs_more : inputs_at (inserted xs new) t ≡ inputs_at xs t ++ event_of input ∷ []
     unfolding inputs_at
-    inputs_more =
-        ap (map (λ x. event_of x.input)) (last xs rising)
-        ∙ map-append (λ x. event_of x.input) (of t xs) (new ∷ [])
+    inputs_more = search (rules, arith, last, map-append)
 
     abbrev late : List TimedInput
     late = drop (count_before (t + 1) xs) xs
@@ -178,10 +163,7 @@ module _ (t : ℕ) (input : Input) where
     one_left = rw (here xs rising, eq-eqb t t refl, no_more) refl
 
     one_counted : count_before (t + 1) (drop (count_before (t + 1) xs) (inserted xs new)) ≡ 1
-    one_counted =
-        let none : count_before (t + 1) late ≡ 0 = none_before (t + 1) late (late_from (t + 1) xs rising) in
-        let now : nat_lt t (t + 1) ≡ true = lt-ltb t (t + 1) (omega arith) in
-        rw (here xs rising, now, none) refl
+    one_counted = search (rules, arith, none_before, late_from, lt-ltb, here)
 
 -- ---- states that are reached
 
@@ -203,27 +185,19 @@ module _ (board : BoardState) (xs : List TimedInput) where
 
   pub after_begun : (k : ℕ) → after (begun board xs) k ≡ after_steps k
   unfolding after
-  after_begun k = same _ _ xs _ _ _ _ refl
-      (zero_more (count_before (0 + k) xs) ∙ ap (λ n. count_before n xs) (zero_more k)) (zero_more k)
+  after_begun k = search (rules, arith, same, zero_more)
 
   module _ (rising : never_falls xs ≡ true) (k : ℕ) where
     due_steps : with_due (after_steps k) ≡ after_inputs k
     unfolding with_due
-    due_steps = same _ _ xs _ _ _ _
-        (ap (run (run board (events_of xs 0 k))) (inputs_late xs k k (omega arith) rising))
-        (late_count k (k + 1) (omega arith) xs rising) refl
+    due_steps = search (rules, arith, same, inputs_late, late_count)
 
     pub due_begun : with_due (after (begun board xs) k) ≡ after_inputs k
     due_begun = ap with_due (after_begun k) ∙ due_steps
 
     due_again : with_due (after_inputs k) ≡ after_inputs k
     unfolding with_due
-    due_again =
-        let late = drop (count_before (k + 1) xs) xs in
-        let none : count_before (k + 1) late ≡ 0 = none_before (k + 1) late (late_from (k + 1) xs rising) in
-        same _ _ xs _ _ _ _
-        (ap (run (run (run board (events_of xs 0 k)) (inputs_at xs k))) (none_due xs k rising))
-        (omega (arith, none)) refl
+    due_again = search (rules, arith, none_before, late_from, same, none_due)
 
     -- inputs are given once
     pub due_twice : with_due (with_due (after (begun board xs) k)) ≡ with_due (after (begun board xs) k)
@@ -241,70 +215,39 @@ module _ (board : BoardState) (xs : List TimedInput) (rising : never_falls xs �
   -- before the other inputs of its step
   steps_before : (k : ℕ) → k ≤ t → with_longer (after_steps board xs k) ≡ after_steps board longer k
   unfolding with_longer
-  steps_before k h =
-      same _ _ longer _ _ _ _ (ap (run board) (sym (events_before t input xs rising k h)))
-      (sym (count_same t input xs rising k h)) refl
+  steps_before k h = search (rules, arith, same, events_before, count_same)
 
   running_before : (k : ℕ) → k ≤ t
       → halted_of (after (begun board longer) k).board ≡ halted_of (after (begun board xs) k).board
   unfolding with_longer
-  running_before k h =
-      ap (λ s. halted_of s.board) (after_begun board longer k ∙ sym (steps_before k h))
-      ∙ ap (λ s. halted_of s.board) (sym (after_begun board xs k))
+  running_before k h = search (rules, arith, after_begun, steps_before)
 
   first : (s : TimedState) → s ≡ after (begun board xs) t
       → with_due (with_longer s) ≡ with_due (after (begun board longer) t)
-  first s e =
-      ap (λ u. with_due (with_longer u)) (e ∙ after_begun board xs t)
-      ∙ (ap with_due (steps_before t (omega arith)) ∙ ap with_due (sym (after_begun board longer t)))
+  first s e = search (rules, arith, with_longer, after_begun, steps_before)
 
   -- after them
   after_others : with_due (with_longer (after_inputs board xs t)) ≡ after_inputs board longer t
   unfolding with_due with_longer
   after_others =
-      let here = run (run board (events_of xs 0 t)) (inputs_at xs t) in
-      same _ _ longer _ _ _ _
-      (ap (run here) (one_left t input xs rising)
-      ∙ (sym (run_append (run board (events_of xs 0 t)) (inputs_at xs t) (event_of input ∷ []))
-      ∙ (ap (run (run board (events_of xs 0 t))) (sym (inputs_more t input xs rising))
-      ∙ ap (λ es. run (run board es) (inputs_at longer t)) (sym (events_before t input xs rising t (omega arith))))))
-      (ap (λ n. count_before (t + 1) xs + n) (one_counted t input xs rising)
-      ∙ sym (count_more t input xs)) refl
+      search (rules, arith, same, one_left, run_append, inputs_more, events_before, one_counted, count_more)
 
   second : (s : TimedState) → s ≡ with_due (after (begun board xs) t)
       → with_due (with_longer s) ≡ with_due (after (begun board longer) t)
-  second s e =
-      ap (λ u. with_due (with_longer u)) (e ∙ due_begun board xs rising t)
-      ∙ (after_others ∙ sym (due_begun board longer (rises xs (new t input) rising) t))
+  second s e = search (rules, arith, with_longer, due_begun, after_others, rises)
 
 -- a state by its inputs and steps
 pub reached_steps : (board : BoardState) (xs : List TimedInput) (k : ℕ) (s : TimedState)
     → never_falls xs ≡ true → s ≡ after (begun board xs) k
     → ((i : ℕ) → i < k → halted_of (after (begun board xs) i).board ≡ None) → IsReached board s
 unfolding after
-reached_steps board xs k s h e goes =
-    let from_here : s.inputs ≡ xs = ap (λ u. u.inputs) e in
-    let time : s.taken ≡ k = ap (λ u. u.taken) e ∙ zero_more k in
-    record {
-      rising = ap never_falls from_here ∙ h;
-      state = inl (e ∙ (ap (λ ys. after (begun board ys) k) (sym from_here)
-          ∙ ap (λ n. after (begun board s.inputs) n) (sym time)));
-      running = λ i l. ap (λ ys. halted_of (after (begun board ys) i).board) from_here ∙ goes i (omega arith);
-    }
+reached_steps board xs k s h e goes = search (rules, arith, zero_more)
 
 pub reached_due : (board : BoardState) (xs : List TimedInput) (k : ℕ) (s : TimedState)
     → never_falls xs ≡ true → s ≡ with_due (after (begun board xs) k)
     → ((i : ℕ) → i < k → halted_of (after (begun board xs) i).board ≡ None) → IsReached board s
 unfolding after with_due
-reached_due board xs k s h e goes =
-    let from_here : s.inputs ≡ xs = ap (λ u. u.inputs) e in
-    let time : s.taken ≡ k = ap (λ u. u.taken) e ∙ zero_more k in
-    record {
-      rising = ap never_falls from_here ∙ h;
-      state = inr (e ∙ (ap (λ ys. with_due (after (begun board ys) k)) (sym from_here)
-          ∙ ap (λ n. with_due (after (begun board s.inputs) n)) (sym time)));
-      running = λ i l. ap (λ ys. halted_of (after (begun board ys) i).board) from_here ∙ goes i (omega arith);
-    }
+reached_due board xs k s h e goes = search (rules, arith, zero_more)
 
 pub given_listed : (board : BoardState) (s : TimedState) (input : Input) → never_falls s.inputs ≡ true
     → (s ≡ after (begun board s.inputs) s.taken) ⊎ (s ≡ with_due (after (begun board s.inputs) s.taken))
@@ -347,15 +290,7 @@ stepped_in_time b c xs place t later s e h quiet after_now =
 pub restored : (b c : BoardState) (xs ys : List TimedInput) (place t n : ℕ) → ys ≡ xs
     → IsInTime (record { board = b; inputs = xs; place = place; taken = t }) × (from n (drop place xs) ≡ true)
     → IsInTime (record { board = c; inputs = ys; place = place; taken = t }) × (from n (drop place ys) ≡ true)
-restored b c xs ys place t n e h =
-    let time = h.0 in (
-      record {
-        within = omega (arith, ap length e, time.within);
-        rising = ap never_falls e ∙ time.rising;
-        ahead = ap (λ zs. from t (drop place zs)) e ∙ time.ahead;
-      },
-      ap (λ zs. from n (drop place zs)) e ∙ h.1,
-    )
+restored b c xs ys place t n e h = search (rules, arith, from)
 
 pub restored_is : (b c : BoardState) (xs ys : List TimedInput) (place t : ℕ) (s : TimedState)
     → record { board = b; inputs = xs; place = place; taken = t } ≡ s → c ≡ b → ys ≡ xs

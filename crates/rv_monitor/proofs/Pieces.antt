@@ -1,5 +1,5 @@
 -- Pieces of text, one after another, after a head.
-use Rattle.std.proofs.Common.{◌≡◌, ℕ, zero, suc, ◌+◌, List, ◌++◌, sym, ◌∙◌, ap, add-one, append-nil, append_assoc, arith}
+use Rattle.std.proofs.Common.{rules, ◌≡◌, ℕ, zero, suc, ◌+◌, List, ◌++◌, sym, ◌∙◌, ap, add-one, append-nil, append_assoc, arith}
 use Rattle.std.specs.List.{flat_map, range_with_len}
 use Rattle.rv_monitor.specs.Views.{pieces}
 
@@ -10,26 +10,17 @@ no_piece_after head piece = append-nil head
 more_from : (piece : ℕ → List ℕ) (a n : ℕ)
     → flat_map piece (range_with_len a (suc n)) ≡ flat_map piece (range_with_len a n) ++ piece (a + n)
 more_from piece a zero = let none : a + 0 ≡ a = omega arith in append-nil (piece a) ∙ ap piece (sym none)
-more_from piece a (suc n) =
-    let here : a + 1 + n ≡ a + suc n = omega arith in
-    ap (λ text. piece a ++ text) (more_from piece (a + 1) n)
-    ∙ (sym (append_assoc (piece a) (flat_map piece (range_with_len (a + 1) n)) (piece (a + 1 + n)))
-    ∙ ap (λ i. (piece a ++ flat_map piece (range_with_len (a + 1) n)) ++ piece i) here)
+more_from piece a (suc n) = search (rules, arith, append_assoc, more_from piece (a + 1) n)
 
 one_more_piece : (piece : ℕ → List ℕ) (n : ℕ) → pieces piece (n + 1) ≡ pieces piece n ++ piece n
 unfolding pieces
-one_more_piece piece n =
-    let from_none : 0 + n ≡ n = omega arith in
-    ap (λ count. flat_map piece (range_with_len 0 count)) (add-one n)
-    ∙ (more_from piece 0 n ∙ ap (λ i. flat_map piece (range_with_len 0 n) ++ piece i) from_none)
+one_more_piece piece n = search (rules, arith, add-one, more_from)
 
 pub one_more_after : (head : List ℕ) (piece : ℕ → List ℕ) (n : ℕ) →
     head ++ pieces piece (n + 1) ≡ head ++ pieces piece n ++ piece n
-one_more_after head piece n =
-    ap (λ text. head ++ text) (one_more_piece piece n) ∙ sym (append_assoc head (pieces piece n) (piece n))
+one_more_after head piece n = search (rules, arith, one_more_piece, append_assoc)
 
 -- a text of a head and the first n pieces, with the next piece appended, has n + 1 pieces
 pub piece_appended : (head before after : List ℕ) (piece : ℕ → List ℕ) (n : ℕ)
     → before ≡ head ++ pieces piece n → after ≡ before ++ piece n → after ≡ head ++ pieces piece (n + 1)
-piece_appended head before after piece n stands appended =
-    appended ∙ ap (λ text. text ++ piece n) stands ∙ sym (one_more_after head piece n)
+piece_appended head before after piece n stands appended = search (rules, arith, one_more_after)

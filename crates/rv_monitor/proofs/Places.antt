@@ -1,5 +1,5 @@
 -- The room for breakpoints after one was set or removed.
-use Rattle.std.proofs.Common.{◌≡◌, ◌∙◌, ℕ, ◌+◌, ◌-◌, ◌<◌, ◌≤◌, Bool, true, false, cond, sym, ap, arith}
+use Rattle.std.proofs.Common.{rules, ◌≡◌, ◌∙◌, ℕ, ◌+◌, ◌-◌, ◌<◌, ◌≤◌, Bool, true, false, cond, ap, arith}
 use Rattle.std.proofs.lemmas.Bool.{cond-false, cond-true, le-ltb, lt-ltb}
 use Rattle.std.specs.Prelude.{◌==◌, if◌then◌else◌, nat_lt}
 use Rattle.std.specs.Cmp.{nat_cmp_total}
@@ -30,17 +30,13 @@ no_longer false n = omega arith
 -- an address that was there already takes no place
 pub one_there : (b : Breaks) (x : ℕ) → contains b.addresses x ≡ true → b.room ≡ room_after b (insert b.addresses x)
 unfolding room_after
-one_there b x h =
-    let count = same_count b x h in
-    sym (where_not (len b.addresses) (len (insert b.addresses x)) _ b.room (omega (arith, count)))
+one_there b x h = search (rules, arith, same_count, where_not)
 
 -- another takes one, of nine that were made where there was none
 pub one_more : (b : Breaks) (x : ℕ) → contains b.addresses x ≡ false
     → room_after b (insert b.addresses x) ≡ (if b.room == 0 then 9 else b.room) - 1
 unfolding room_after
-one_more b x h =
-    let count = one_counted b x h in
-    where_less (len b.addresses) (len (insert b.addresses x)) _ b.room (omega (arith, count))
+one_more b x h = search (rules, arith, one_counted, where_less)
 
 -- and to remove one gives none back
 pub one_less : (b : Breaks) (x : ℕ) → room_after b (remove b.addresses x) ≡ b.room

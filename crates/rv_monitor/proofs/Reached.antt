@@ -1,5 +1,5 @@
 -- States that a board comes to by its inputs and its steps: what calls leave is one.
-use Rattle.std.proofs.Common.{◌≡◌, ◌∙◌, ℕ, zero, suc, ◌+◌, ◌-◌, ◌<◌, true, List, sym, ap, subst, arith, inl, inr, ⊎_elim}
+use Rattle.std.proofs.Common.{rules, ◌≡◌, ◌∙◌, ℕ, zero, suc, ◌+◌, ◌-◌, ◌<◌, true, List, sym, ap, subst, arith, inl, inr, ⊎_elim}
 use Rattle.std.specs.Prelude.{◌⊎◌, None}
 use Rattle.std.proofs.lemmas.Bool.{cases_lt}
 use Rattle.rv_board.specs.Support.State.{BoardState, halted_of}
@@ -21,17 +21,12 @@ begun_in_time board xs h = record { within = omega arith; rising = h; ahead = fr
 -- the board before its first step
 pub begun_stands : (board : BoardState) (xs : List TimedInput) → never_falls xs ≡ true
     → IsReached board (begun board xs)
-begun_stands board xs h =
-    reached_steps board xs 0 (begun board xs) h (sym (after_none (begun board xs) (begun_in_time board xs h)))
-    (λ i l. absurd (omega arith))
+begun_stands board xs h = search (rules, arith, reached_steps, after_none, begun_in_time)
 
 in_time_by : (board : BoardState) (s : TimedState) (xs : List TimedInput) (k : ℕ) → never_falls xs ≡ true
     → (s ≡ after (begun board xs) k) ⊎ (s ≡ with_due (after (begun board xs) k)) → IsInTime s
-in_time_by board s xs k h (inl e) =
-    subst IsInTime (sym e) (in_time_after (begun board xs) k (begun_in_time board xs h))
-in_time_by board s xs k h (inr e) =
-    subst IsInTime (sym e)
-    (in_time_due (after (begun board xs) k) (in_time_after (begun board xs) k (begun_in_time board xs h)))
+in_time_by board s xs k h (inl e) = search (rules, arith, in_time_after, begun_in_time)
+in_time_by board s xs k h (inr e) = search (rules, arith, in_time_due, in_time_after, begun_in_time)
 
 pub in_time : (board : BoardState) (s : TimedState) → IsReached board s → IsInTime s
 in_time board s r = in_time_by board s s.inputs s.taken r.rising r.state
@@ -47,18 +42,12 @@ module _ (board : BoardState) (s : TimedState) (r : IsReached board s) where
   more e n = ap (λ u. after u n) e ∙ after_more first s.taken n h.rising
 
   more_due : s ≡ with_due (after first s.taken) → (j : ℕ) → after s (1 + j) ≡ after first (s.taken + (1 + j))
-  more_due e j =
-      ap (λ u. after u (1 + j)) e
-      ∙ (after_due (after first s.taken) j (after_rises first s.taken h.rising)
-      ∙ after_more first s.taken (1 + j) h.rising)
+  more_due e j = search (rules, arith, after_due, after_rises, after_more)
 
   halted_same : (s ≡ after first s.taken) ⊎ (s ≡ with_due (after first s.taken)) → (j : ℕ)
       → halted_of (after s j).board ≡ halted_of (after first (s.taken + j)).board
   halted_same (inl e) j = ap (λ u. halted_of u.board) (more e j)
-  halted_same (inr e) zero =
-      let none : s.taken ≡ s.taken + 0 = omega arith in
-      ap (λ u. halted_of u.board) (after_none s h ∙ e)
-      ∙ (halted_due (after first s.taken) ∙ ap (λ n. halted_of (after first n).board) none)
+  halted_same (inr e) zero = search (rules, arith, after_none, h, halted_due)
   halted_same (inr e) (suc j) =
       let one : suc j ≡ 1 + j = omega arith in
       ap (λ n. halted_of (after s n).board) one
@@ -79,8 +68,7 @@ module _ (board : BoardState) (s : TimedState) (r : IsReached board s) where
       → (n : ℕ) → ((j : ℕ) → j < n → halted_of (after s j).board ≡ None) → IsReached board (after s n)
   after_stands_by (inl e) n goes =
       reached_steps board s.inputs (s.taken + n) (after s n) r.rising (more e n) (goes_on n goes)
-  after_stands_by (inr e) zero goes =
-      reached_due board s.inputs s.taken (after s zero) r.rising (after_none s h ∙ e) r.running
+  after_stands_by (inr e) zero goes = search (rules, arith, reached_due, after_none, h)
   after_stands_by (inr e) (suc j) goes =
       let one : suc j ≡ 1 + j = omega arith in
       reached_steps board s.inputs (s.taken + suc j) (after s (suc j)) r.rising
@@ -94,9 +82,7 @@ module _ (board : BoardState) (s : TimedState) (r : IsReached board s) where
   due_stands_by : (s ≡ after first s.taken) ⊎ (s ≡ with_due (after first s.taken))
       → IsReached board (with_due s)
   due_stands_by (inl e) = reached_due board s.inputs s.taken (with_due s) r.rising (ap with_due e) r.running
-  due_stands_by (inr e) =
-      reached_due board s.inputs s.taken (with_due s) r.rising
-      (ap with_due e ∙ due_twice board s.inputs r.rising s.taken) r.running
+  due_stands_by (inr e) = search (rules, arith, reached_due, due_twice)
 
   pub due_stands : IsReached board (with_due s)
   due_stands = due_stands_by r.state

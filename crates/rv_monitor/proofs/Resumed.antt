@@ -1,10 +1,10 @@
 -- Boards that go on after some of their steps.
-use Rattle.std.proofs.Common.{◌≡◌, ◌∙◌, ℕ, zero, suc, ◌+◌, ◌-◌, ◌<◌, ◌≤◌, Bool, true, false, cond, List, [], ◌∷◌, length, get_or, drop, refl, sym, ap, subst, arith, zero-add, inl, inr, ⊎_elim}
-use Rattle.std.specs.Prelude.{◌⊎◌, nat_eq, nat_lt, map, filter, is_some, IsSome, Result, Ok, Err, OnErr, IfOk}
+use Rattle.std.proofs.Common.{rules, ◌≡◌, ◌∙◌, ℕ, zero, suc, ◌+◌, ◌-◌, ◌<◌, ◌≤◌, Bool, true, false, List, [], ◌∷◌, length, get_or, drop, refl, sym, ap, arith, inl, inr, ⊎_elim}
+use Rattle.std.specs.Prelude.{◌⊎◌, nat_eq, nat_lt, map, IsSome, Result, Ok, Err, OnErr, IfOk}
 use Rattle.std.specs.FinSet as set
 use Rattle.std.proofs.lemmas.Bool.{cases_lt, eqb-true, false≢true, lt-ltb}
 use Rattle.rv_base.specs.declared.memory.NoMemory.{NoMemory}
-use Rattle.rv_board.specs.Support.State.{BoardState, halted_of, pc_of}
+use Rattle.rv_board.specs.Support.State.{BoardState}
 use Rattle.rv_board.specs.Move.{run}
 use Rattle.rv_timeline.specs.declared.input.TimedInput.{TimedInput}
 use Rattle.rv_timeline.specs.Timed.{never_falls}
@@ -24,31 +24,15 @@ use Rattle.rv_monitor.proofs.Given.{after_begun, due_begun}
 -- ---- the number of inputs before a step, one after another
 
 module _ (t : ℕ) where
-  pub counted_first : (xs : List TimedInput) → 0 + count_before t (drop 0 xs) ≡ count_before t xs
-  counted_first xs = zero-add (count_before t xs)
-
   one_less : (xs : List TimedInput) (i : ℕ) (d : TimedInput) → i < length xs → (get_or xs i d).step < t
       → count_before t (drop i xs) ≡ suc (count_before t (drop (suc i) xs))
   one_less [] i d h k = absurd (omega arith)
   one_less (x ∷ xs) zero d h k = rw (lt-ltb x.step t k) refl
   one_less (x ∷ xs) (suc i) d h k = one_less xs i d (omega arith) k
 
-  pub counted_more : (xs : List TimedInput) (i : ℕ) (x d : TimedInput) → i < length xs → x ≡ get_or xs i d
-      → x.step < t → i + count_before t (drop i xs) ≡ count_before t xs
-      → (i + 1) + count_before t (drop (i + 1) xs) ≡ count_before t xs
-  counted_more xs i x d h e k more =
-      let next : i + 1 ≡ suc i = omega arith in
-      let less = one_less xs i d h (omega (arith, ap (λ y. y.step) e)) in
-      ap (λ n. n + count_before t (drop n xs)) next ∙ omega (arith, less, more)
-
   none_left : (xs : List TimedInput) → count_before t (drop (length xs) xs) ≡ 0
   none_left [] = refl
   none_left (x ∷ xs) = none_left xs
-
-  pub counted_all : (xs : List TimedInput) (n : ℕ) → n ≡ length xs
-      → n + count_before t (drop n xs) ≡ count_before t xs → n ≡ count_before t xs
-  counted_all xs n e h =
-      let none = ap (λ i. count_before t (drop i xs)) e ∙ none_left xs in omega (arith, h, none)
 
   pub counted_till : (xs : List TimedInput) (i : ℕ) (x d : TimedInput) → never_falls xs ≡ true → i < length xs
       → x ≡ get_or xs i d → t ≤ x.step → i + count_before t (drop i xs) ≡ count_before t xs
@@ -77,8 +61,7 @@ resumed_in_time b xs t place rising e = (
 pub resumed_within : (r : Result Stop NoMemory) (old new : TimedState) (b : BoardState) (taken most limit : ℕ)
     → IfOk r (HasStopped set.empty most (resumed b old.inputs taken) new) → OnErr r (new ≡ old)
     → taken + most ≤ limit → old.taken ≤ limit → new.taken ≤ limit
-resumed_within (Ok stop) old new b taken most limit ok err k h =
-    omega (arith, ok.within, taken_is (resumed b old.inputs taken) new ok.count ok.state)
+resumed_within (Ok stop) old new b taken most limit ok err k h = search (rules, arith, taken_is)
 resumed_within (Err e) old new b taken most limit ok err k h = omega (arith, ap (λ u. u.taken) err)
 
 -- ---- where no input of the next step was given, the board is what the steps taken left
@@ -86,26 +69,13 @@ resumed_within (Err e) old new b taken most limit ok err k h = omega (arith, ap 
 none_counted_by : (t : ℕ) (x : TimedInput) (xs : List TimedInput) (b c : Bool) → nat_eq x.step t ≡ b
     → nat_lt x.step (t + 1) ≡ c → (count_before (t + 1) xs ≡ 0 → of t xs ≡ [])
     → count_before (t + 1) (x ∷ xs) ≡ 0 → of t (x ∷ xs) ≡ []
-none_counted_by t x xs true c e f more h =
-    absurd (omega (
-      arith,
-      subst (λ (b : Bool). length (cond b (x ∷ filter (λ y. nat_lt y.step (t + 1)) xs)
-          (filter (λ y. nat_lt y.step (t + 1)) xs)) ≡ 0) (lt-ltb x.step (t + 1) (omega (arith, eqb-true x.step t e))) h,
-    ))
-none_counted_by t x xs false true e f more h =
-    absurd (omega (
-      arith,
-      subst (λ (b : Bool). length (cond b (x ∷ filter (λ y. nat_lt y.step (t + 1)) xs)
-          (filter (λ y. nat_lt y.step (t + 1)) xs)) ≡ 0) f h,
-    ))
-none_counted_by t x xs false false e f more h =
-    rw e (more (subst (λ (b : Bool). length (cond b (x ∷ filter (λ y. nat_lt y.step (t + 1)) xs)
-    (filter (λ y. nat_lt y.step (t + 1)) xs)) ≡ 0) f h))
+none_counted_by t x xs true c e f more h = search (rules, arith, lt-ltb, eqb-true)
+none_counted_by t x xs false true e f more h = search (rules, arith)
+none_counted_by t x xs false false e f more h = search (rules, arith)
 
 none_counted : (t : ℕ) (xs : List TimedInput) → count_before (t + 1) xs ≡ 0 → of t xs ≡ []
 none_counted t [] h = refl
-none_counted t (x ∷ xs) h =
-    none_counted_by t x xs (nat_eq x.step t) (nat_lt x.step (t + 1)) refl refl (none_counted t xs) h
+none_counted t (x ∷ xs) h = search (rules, arith, none_counted_by, none_counted t xs)
 
 none_at : (t : ℕ) (xs : List TimedInput) → never_falls xs ≡ true → count_before (t + 1) xs ≡ count_before t xs
     → inputs_at xs t ≡ []
@@ -122,10 +92,7 @@ module _ (first : BoardState) (s : TimedState) (r : IsReached first s) where
   left_by : (s ≡ after from_reset_on s.taken) ⊎ (s ≡ with_due (after from_reset_on s.taken))
       → s.place ≡ count_before s.taken s.inputs → s.board ≡ run first (events_of s.inputs 0 s.taken)
   left_by (inl e) h = ap (λ u. u.board) (e ∙ after_begun first s.inputs s.taken)
-  left_by (inr e) h =
-      let is = e ∙ due_begun first s.inputs r.rising s.taken in
-      let none = none_at s.taken s.inputs r.rising (sym (ap (λ u. u.place) is) ∙ h) in
-      ap (λ u. u.board) is ∙ ap (run (run first (events_of s.inputs 0 s.taken))) none
+  left_by (inr e) h = search (rules, arith, due_begun, none_at)
 
   pub left_by_steps : s.place ≡ count_before s.taken s.inputs
       → s.board ≡ run first (events_of s.inputs 0 s.taken)
@@ -138,21 +105,14 @@ module _ (first : BoardState) (s : TimedState) (r : IsReached first s) where
       (least : count < n - k → IsSome (stop_after set.empty new.board count))
       (state : new ≡ after (resumed b s.inputs k) count) where
     resumed_is : resumed b s.inputs k ≡ after from_reset_on k
-    resumed_is =
-        ap (λ (c : BoardState). resumed c s.inputs k) h ∙ sym (after_begun first s.inputs k)
+    resumed_is = search (rules, arith, after_begun)
 
     on : (j : ℕ) → after (resumed b s.inputs k) j ≡ after from_reset_on (k + j)
     on j = ap (λ u. after u j) resumed_is ∙ after_more from_reset_on k j r.rising
 
     -- the board hadn't halted before any of them
     all_taken : k + count ≡ n
-    all_taken = ⊎_elim
-        (λ less.
-        let halt = ap (λ u. halted_of u.board) (state ∙ on count) ∙ r.running (k + count) (omega arith) in
-        let none = no_reason set.empty new.board count halt (λ above. sym (no_member (pc_of new.board))) in
-        absurd (false≢true (ap is_some (sym none) ∙ least (omega arith))))
-        (λ enough. omega (arith, most))
-        (cases_lt (k + count) n)
+    all_taken = search (rules, arith, on, no_reason, no_member, false≢true, cases_lt)
 
     pub resumed_back : new ≡ after from_reset_on n
     resumed_back = state ∙ (on count ∙ ap (after from_reset_on) all_taken)

@@ -1,5 +1,5 @@
 -- The calls of a session, by the calls of its board with the timed inputs.
-use Rattle.std.proofs.Common.{◌≡◌, ◌∙◌, ℕ, ap}
+use Rattle.std.proofs.Common.{rules, arith, ◌≡◌, ℕ}
 use Rattle.std.specs.Prelude.{Result, Ok, Err, OnOk, OnErr, IfOk}
 use Rattle.rv_base.specs.declared.memory.NoMemory.{NoMemory}
 use Rattle.rv_monitor.specs.declared.stop.Stop.{Stop}
@@ -13,13 +13,7 @@ module _ (a : Addresses) (n : ℕ) (old new : SessionState) where
 
   pub took : (r : Result Stop NoMemory) → IfOk r (HasStopped a (most_of old n) old.timed new.timed)
       → new ≡ put new.timed → OnOk r (Took a n old new)
-  took (Ok stop) h e = record {
-    count = h.count;
-    within = h.within;
-    going = h.going;
-    least = h.least;
-    state = e ∙ ap put h.state;
-  }
+  took (Ok stop) h e = search (rules, arith)
   took (Err refusal) h e = tt
 
   pub word : (r : Result Stop NoMemory) → IfOk r (HasStopped a (most_of old n) old.timed new.timed)
@@ -30,10 +24,4 @@ module _ (a : Addresses) (n : ℕ) (old new : SessionState) where
   pub was_refused : (r : Result Stop NoMemory) → OnErr r (IsRefused a (most_of old n) old.timed new.timed)
       → new ≡ put new.timed → OnErr r (WasRefused a n old new)
   was_refused (Ok stop) h e = tt
-  was_refused (Err refusal) h e = record {
-    count = h.count;
-    within = h.within;
-    going = h.going;
-    state = e ∙ ap put h.state;
-    next_writes = h.next_writes;
-  }
+  was_refused (Err refusal) h e = search (rules, arith)

@@ -1,6 +1,5 @@
 -- Lists of addresses, seen as sets.
-use Rattle.std.proofs.Common.{◌≡◌, ◌∙◌, ℕ, Bool, true, false, cond, List, [], ◌∷◌, length, sym, refl, ap, arith}
-use Rattle.std.proofs.lemmas.Bool.Decides.{nat_tests}
+use Rattle.std.proofs.Common.{rules, ◌≡◌, ◌∙◌, ℕ, Bool, true, false, cond, List, [], ◌∷◌, length, sym, refl, ap, arith}
 use Rattle.std.specs.Prelude.{nat_eq, ◌||◌, ◌&&◌, not}
 use Rattle.std.specs.List.{list_any}
 use Rattle.std.specs.Ordering.{nat_cmp}
@@ -38,9 +37,7 @@ inserted xs ys x each = same_set nat_cmp_total nat_cmp-IsAntisymmetric _ _ (λ q
 -- an address that is there already, inserted again
 with_same : (s : set.FinSet nat_cmp) (x q : ℕ) (b : Bool) → nat_eq x q ≡ b → contains s x ≡ true →
     (nat_eq x q || contains s q) ≡ contains s q
-with_same s x q true e h =
-    let same : q ≡ x = grind (arith, nat_tests) in
-    ap (λ b. b || contains s q) e ∙ sym (ap (contains s) same ∙ h)
+with_same s x q true e h = search (rules, arith)
 with_same s x q false e h = ap (λ b. b || contains s q) e
 
 -- so inserting it changes nothing
@@ -57,11 +54,6 @@ removed xs ys x each = same_set nat_cmp_total nat_cmp-IsAntisymmetric _ _ (λ q.
     ∙ sym (contains-remove nat_cmp_total (from_list xs) x q
     ∙ (ap (λ b. not b && contains (from_list {R = nat_cmp} xs) q)
     (unsigned_tied q x ∙ nat_eq_equiv.symm q x) ∙ ap (λ b. not (nat_eq x q) && b) (has xs q))))))
-
--- the empty list has no member
-pub has_none : (xs : List ℕ) (q : ℕ) → length xs ≡ 0 → contains (from_list {R = nat_cmp} xs) q ≡ false
-has_none [] q e = contains-empty nat_cmp q
-has_none (x ∷ xs) q e = absurd (omega arith)
 
 -- the set of the empty list is empty
 pub none_listed : (xs : List ℕ) → length xs ≡ 0 → set.empty {R = nat_cmp} ≡ from_list {R = nat_cmp} xs

@@ -1,5 +1,5 @@
 -- Commands that answer nothing lack no room; and the command after which no other follows.
-use Rattle.std.proofs.Common.{◌≡◌, ◌∙◌, ℕ, Option, Some, None, ap, refl, subst, arith}
+use Rattle.std.proofs.Common.{rules, ◌≡◌, ◌∙◌, ℕ, Option, Some, None, ap, refl, arith}
 use Rattle.std.specs.Prelude.{◌≢◌}
 use Rattle.rv_ram.specs.Room.{RoomRule}
 use Rattle.rv_commands.specs.declared.command.Command.{Command}
@@ -12,13 +12,11 @@ use Rattle.rv_monitor.specs.declared.command.Next.TheVariants as next
 
 pub no_quit : (rule : RoomRule) (c : Option Command) (room : ℕ) (old new : SessionState)
     → LacksRoom rule c room old new → c ≢ Some Quit
-no_quit rule c room old new h e =
-    let none = subst (λ (d : Option Command). LacksRoom rule d room old new) e h in omega (arith, none)
+no_quit rule c room old new h e = search (rules, arith)
 
 pub no_nothing : (rule : RoomRule) (c : Option Command) (room : ℕ) (old new : SessionState)
     → LacksRoom rule c room old new → c ≢ Some Nothing
-no_nothing rule c room old new h e =
-    let none = subst (λ (d : Option Command). LacksRoom rule d room old new) e h in omega (arith, none)
+no_nothing rule c room old new h e = search (rules, arith)
 
 -- ---- whether commands follow
 

@@ -1,6 +1,8 @@
 -- Steps with the inputs of their times.
-use Rattle.std.proofs.Common.{◌≡◌, ◌∙◌, ℕ, zero, suc, ◌+◌, ◌<◌, ◌≤◌, true, false, List, [], ◌∷◌, ◌++◌, length, get_or, take, drop, replicate, refl, sym, ap, arith, append-nil, append_assoc, add_assoc}
-use Rattle.std.specs.Prelude.{nat_eq, nat_lt, map, Option, Some, None}
+use Rattle.std.proofs.lemmas.Bool.Decides.{nat_tests}
+use Rattle.std.proofs.lemmas.Grind.{common_steps}
+use Rattle.std.proofs.Common.{rules, ◌≡◌, ◌∙◌, ℕ, zero, suc, ◌+◌, ◌<◌, ◌≤◌, true, false, List, [], ◌∷◌, ◌++◌, length, get_or, take, drop, replicate, refl, sym, ap, arith, append-nil, append_assoc, add_assoc}
+use Rattle.std.specs.Prelude.{nat_eq, map, Option, Some, None}
 use Rattle.std.proofs.lemmas.List.{map-append, length-drop, drop-drop, replicate_more}
 use Rattle.std.proofs.lemmas.List.Elements.{filter_more}
 use Rattle.std.proofs.lemmas.List.Filters.{length-filter_more}
@@ -38,17 +40,12 @@ pub events_late : (xs : List TimedInput) (t u count : ℕ) → t ≤ u → never
     events_of (drop (count_before t xs) xs) u count ≡ events_of xs u count
 unfolding events_of
 events_late xs t u zero k h = refl
-events_late xs t u (suc count) k h =
-    let due : inputs_at (drop (count_before t xs) xs) (u + count) ≡ inputs_at xs (u + count) =
-    inputs_late xs t (u + count) (omega arith) h in
-    rw (events_late xs t u count k h, due) refl
+events_late xs t u (suc count) k h = search (rules, arith, inputs_late, events_late xs t u count k h)
 
 pub events_join : (xs : List TimedInput) (t k j : ℕ) →
     events_of xs t (k + j) ≡ events_of xs t k ++ events_of xs (t + k) j
 unfolding events_of
-events_join xs t k zero =
-    let e : k + 0 ≡ k = omega arith in
-    ap (events_of xs t) e ∙ sym (append-nil (events_of xs t k))
+events_join xs t k zero = search (rules, arith, append-nil)
 events_join xs t k (suc j) =
     let e : k + suc j ≡ suc (k + j) = omega arith in
     let f : t + (k + j) ≡ (t + k) + j = omega arith in
@@ -62,44 +59,29 @@ events_join xs t k (suc j) =
 pub run_step : (b : BoardState) (xs : List TimedInput) (t : ℕ) →
     run b (events_of xs t 1) ≡ moved (run b (inputs_at xs t)) Step
 unfolding events_of
-run_step b xs t =
-    let e : t + 0 ≡ t = omega arith in
-    rw e (run_more b (inputs_at xs t) Step)
+run_step b xs t = search (rules, arith, run_more)
 
 -- steps and then more steps, with the inputs that are left
 pub run_join : (b : BoardState) (xs : List TimedInput) (t k j : ℕ) → never_falls xs ≡ true
     → run (run b (events_of xs t k)) (events_of (drop (count_before (t + k) xs) xs) (t + k) j)
     ≡ run b (events_of xs t (k + j))
-run_join b xs t k j h =
-    ap (run (run b (events_of xs t k))) (events_late xs (t + k) (t + k) j (omega arith) h)
-    ∙ (sym (run_append b (events_of xs t k) (events_of xs (t + k) j))
-    ∙ ap (run b) (sym (events_join xs t k j)))
+run_join b xs t k j h = search (rules, arith, events_late, run_append, events_join)
 
 -- steps after inputs that were given ahead of them
 pub none_due : (xs : List TimedInput) (t : ℕ) → never_falls xs ≡ true →
     inputs_at (drop (count_before (t + 1) xs) xs) t ≡ []
 unfolding inputs_at
-none_due xs t h =
-    ap (map (λ x. event_of x.input)) (none_of t (drop (count_before (t + 1) xs) xs) (late_from (t + 1) xs h))
+none_due xs t h = search (rules, arith, none_of, late_from)
 
 -- a first step and more steps
 run_first : (b : BoardState) (xs : List TimedInput) (t j : ℕ) →
     run b (events_of xs t (1 + j)) ≡ run (moved (run b (inputs_at xs t)) Step) (events_of xs (t + 1) j)
-run_first b xs t j =
-    ap (run b) (events_join xs t 1 j)
-    ∙ (run_append b (events_of xs t 1) (events_of xs (t + 1) j)
-    ∙ ap (λ c. run c (events_of xs (t + 1) j)) (run_step b xs t))
+run_first b xs t j = search (rules, arith, events_join, run_append, run_step)
 
 pub run_due : (b : BoardState) (xs : List TimedInput) (t j : ℕ) → never_falls xs ≡ true
     → run (run b (inputs_at xs t)) (events_of (drop (count_before (t + 1) xs) xs) t (1 + j))
     ≡ run b (events_of xs t (1 + j))
-run_due b xs t j h =
-    let late = drop (count_before (t + 1) xs) xs in
-    run_first (run b (inputs_at xs t)) late t j
-    ∙ (ap (λ es. run (moved (run (run b (inputs_at xs t)) es) Step) (events_of late (t + 1) j))
-    (none_due xs t h)
-    ∙ (ap (run (moved (run b (inputs_at xs t)) Step)) (events_late xs (t + 1) (t + 1) j (omega arith) h)
-    ∙ sym (run_first b xs t j)))
+run_due b xs t j h = search (rules, arith, run_first, none_due, events_late)
 
 -- ---- states
 
@@ -116,10 +98,7 @@ rest_late s t = sym (drop-drop (count_before t (rest s)) s.place s.inputs)
 place_late : (s : TimedState) (t u : ℕ) → t ≤ u → never_falls s.inputs ≡ true
     → (s.place + count_before t (rest s)) + count_before u (drop (s.place + count_before t (rest s)) s.inputs)
     ≡ s.place + count_before u (rest s)
-place_late s t u k h =
-    ap (λ xs. (s.place + count_before t (rest s)) + count_before u xs) (rest_late s t)
-    ∙ (add_assoc s.place (count_before t (rest s)) (count_before u (drop (count_before t (rest s)) (rest s)))
-    ∙ ap (λ n. s.place + n) (late_count t u k (rest s) (drop_rises s.place s.inputs h)))
+place_late s t u k h = search (rules, arith, rest_late, add_assoc, late_count, drop_rises)
 
 pub after_none : (s : TimedState) → IsInTime s → after s 0 ≡ s
 unfolding after events_of
@@ -132,26 +111,12 @@ after_none s h =
 pub after_more : (s : TimedState) (k j : ℕ) → never_falls s.inputs ≡ true →
     after (after s k) j ≡ after s (k + j)
 unfolding after
-after_more s k j h =
-    let sum : (s.taken + k) + j ≡ s.taken + (k + j) = omega arith in
-    same _ _ s.inputs _ _ _ _
-    (ap (λ xs. run (run s.board (events_of (rest s) s.taken k)) (events_of xs (s.taken + k) j))
-    (rest_late s (s.taken + k))
-    ∙ run_join s.board (rest s) s.taken k j (drop_rises s.place s.inputs h))
-    (place_late s (s.taken + k) ((s.taken + k) + j) (omega arith) h
-    ∙ ap (λ t. s.place + count_before t (rest s)) sum)
-    sum
+after_more s k j h = search (rules, arith, same, rest_late, run_join, drop_rises, place_late)
 
 pub after_due : (s : TimedState) (j : ℕ) → never_falls s.inputs ≡ true →
     after (with_due s) (1 + j) ≡ after s (1 + j)
 unfolding after with_due
-after_due s j h =
-    same _ _ s.inputs _ _ _ _
-    (ap (λ xs. run (run s.board (inputs_at (rest s) s.taken)) (events_of xs s.taken (1 + j)))
-    (rest_late s (s.taken + 1))
-    ∙ run_due s.board (rest s) s.taken j (drop_rises s.place s.inputs h))
-    (place_late s (s.taken + 1) (s.taken + (1 + j)) (omega arith) h)
-    refl
+after_due s j h = search (rules, arith, same, rest_late, run_due, drop_rises, place_late)
 
 pub after_rises : (s : TimedState) (k : ℕ) → never_falls s.inputs ≡ true → never_falls (after s k).inputs ≡ true
 unfolding after
@@ -170,21 +135,13 @@ after_step s = same _ _ s.inputs _ _ _ _ (run_step s.board (rest s) s.taken) ref
 events_quiet : (xs : List TimedInput) (t n : ℕ) → from (t + n) xs ≡ true → events_of xs t n ≡ replicate n Step
 unfolding events_of inputs_at
 events_quiet xs t zero h = refl
-events_quiet xs t (suc n) h =
-    let e : (t + n) + 1 ≡ t + suc n = omega arith in
-    let next : n + 1 ≡ suc n = omega arith in
-    let none : of (t + n) xs ≡ [] = none_of (t + n) xs (ap (λ u. from u xs) e ∙ h) in
-    let before : from (t + n) xs ≡ true = from_earlier (t + n) (t + suc n) xs h (omega arith) in
-    rw (none, events_quiet xs t n before) (replicate_more n Step ∙ ap (λ k. replicate k Step) next)
+events_quiet xs t (suc n) h = search (rules, arith, none_of, from, from_earlier, replicate_more, events_quiet xs t n)
 
 -- such steps with a timed list are the same steps without one
 pub after_quiet : (s : TimedState) (n : ℕ) → from (s.taken + n) (rest s) ≡ true →
     after s n ≡ record s { board = after_steps s.board n; taken = s.taken + n }
 unfolding after
-after_quiet s n h =
-    let none : count_before (s.taken + n) (rest s) ≡ 0 = none_before (s.taken + n) (rest s) h in
-    same _ _ s.inputs _ _ _ _ (ap (run s.board) (events_quiet (rest s) s.taken n h))
-    (omega (arith, none)) refl
+after_quiet s n h = search (rules, arith, none_before, same, events_quiet)
 
 -- ---- no input halts a board
 
@@ -210,8 +167,7 @@ halted_due s = halted_run s.board (of s.taken (rest s))
 -- ---- a state that is in time stays so
 
 place_within : (s : TimedState) (t : ℕ) → IsInTime s → s.place + count_before t (rest s) ≤ length s.inputs
-place_within s t h = let w : s.place ≤ length s.inputs = h.within
-    in omega (arith, count_most t (rest s), length-drop s.place s.inputs)
+place_within s t h = search (rules, arith, count_most, length-drop)
 
 pub in_time_due : (s : TimedState) → IsInTime s → IsInTime (with_due s)
 unfolding with_due
@@ -224,12 +180,7 @@ in_time_due s h = record {
 
 pub in_time_after : (s : TimedState) (n : ℕ) → IsInTime s → IsInTime (after s n)
 unfolding after
-in_time_after s n h = record {
-  within = place_within s (s.taken + n) h;
-  rising = h.rising;
-  ahead = ap (from (s.taken + n)) (rest_late s (s.taken + n))
-      ∙ late_from (s.taken + n) (rest s) (drop_rises s.place s.inputs h.rising);
-}
+in_time_after s n h = search (rules, arith, place_within, from, rest_late, late_from, drop_rises)
 
 -- a state with no input before a later time, by its fields
 module _ (b : BoardState) (xs : List TimedInput) (place t later : ℕ)
@@ -246,10 +197,7 @@ module _ (b : BoardState) (xs : List TimedInput) (place t later : ℕ)
 
   pub none_is_due : quiet_state ≡ with_due quiet_state
   unfolding with_due
-  none_is_due =
-      let none : count_before (t + 1) (drop place xs) ≡ 0 = none_before (t + 1) (drop place xs) all_later in
-      same b (run b (inputs_at (drop place xs) t)) xs place (place + count_before (t + 1) (drop place xs)) t t
-      (ap (run b) (sym none_now)) (omega (arith, none)) refl
+  none_is_due = search (rules, arith, none_before, all_later, same, none_now)
 
 -- a state whose next n inputs were given, by its fields
 module _ (b : BoardState) (xs more : List TimedInput) (place t n : ℕ) (is : more ≡ drop place xs)
@@ -275,8 +223,7 @@ module _ (b : BoardState) (xs more : List TimedInput) (place t n : ℕ) (is : mo
   pub given_is_due : (c : BoardState) (p : ℕ) → c ≡ run b (inputs_at more t) → p ≡ place + n →
       ◌≡◌ {A = TimedState} (record { board = c; inputs = xs; place = p; taken = t }) (with_due old)
   unfolding with_due
-  given_is_due c p ran at =
-      same _ _ xs _ _ _ _ (ran ∙ ap (λ ys. run b (inputs_at ys t)) is) (at ∙ ap (λ i. place + i) number) refl
+  given_is_due c p ran at = search (rules, arith, same, number)
 
 -- ---- the inputs of a time are given one after another
 
@@ -302,24 +249,18 @@ ran_more b s new xs t i x d h lt at le was is =
 pub count_more : (xs : List TimedInput) (t i : ℕ) (x d : TimedInput) → i < length xs → x ≡ get_or xs i d →
     x.step ≤ t
     → count_before (t + 1) (take i xs) ≡ i → count_before (t + 1) (take (i + 1) xs) ≡ i + 1
-count_more xs t i x d lt at le was =
-    let here : (get_or xs i d).step ≤ t = rw (← at) le in
-    length-filter_more (λ y. nat_lt y.step (t + 1)) xs i d lt ∙ rw (lt-ltb (get_or xs i d).step (t + 1) (omega arith), was) refl
+count_more xs t i x d lt at le was = grind (arith, nat_tests, common_steps, length-filter_more, lt-ltb)
 
 -- at an input of a later time all inputs of this time are given
 pub ran_all : (b s : BoardState) (xs : List TimedInput) (t i : ℕ) (x d : TimedInput) → never_falls xs ≡ true →
     i < length xs
     → x ≡ get_or xs i d → t < x.step → s ≡ run b (inputs_at (take i xs) t) → s ≡ run b (inputs_at xs t)
 unfolding inputs_at
-ran_all b s xs t i x d h lt at later was =
-    let here : t < (get_or xs i d).step = rw (← at) later in
-    was ∙ ap (λ ys. run b (map (λ y. event_of y.input) ys)) (sym (later_of t xs i d h lt here))
+ran_all b s xs t i x d h lt at later was = search (rules, arith, later_of)
 
 pub count_all : (xs : List TimedInput) (t i : ℕ) (x d : TimedInput) → never_falls xs ≡ true → i < length xs
     → x ≡ get_or xs i d → t < x.step → count_before (t + 1) (take i xs) ≡ i → i ≡ count_before (t + 1) xs
-count_all xs t i x d h lt at later was =
-    let here : t < (get_or xs i d).step = rw (← at) later in
-    sym (later_count t xs i d h lt here ∙ was)
+count_all xs t i x d h lt at later was = search (rules, arith, later_count)
 
 -- ---- the laws
 

@@ -1,5 +1,5 @@
 -- When a call ends.
-use Rattle.std.proofs.Common.{◌≡◌, ◌∙◌, ℕ, zero, suc, ◌+◌, ◌-◌, ◌<◌, ◌≤◌, Bool, true, false, cond, List, drop, refl, sym, ap, arith, below_more, ⊎_elim}
+use Rattle.std.proofs.Common.{rules, ◌≡◌, ◌∙◌, ℕ, zero, suc, ◌+◌, ◌-◌, ◌<◌, ◌≤◌, Bool, true, false, cond, List, drop, refl, sym, ap, arith, below_more, ⊎_elim}
 use Rattle.std.specs.Prelude.{Option, Some, None, unwrap_or, is_some}
 use Rattle.std.specs.FinSet as set
 use Rattle.std.proofs.lemmas.Bool.{cases_lt, false≢true, lt-ltb}
@@ -57,10 +57,7 @@ took_steps s new n e = omega (arith, taken_is s new n e)
 ended_for : (a : Addresses) (s new : TimedState) (n : ℕ) (stop : Stop) (reason : Option Stop) → new ≡ after s n
     → stop_after a new.board n ≡ reason → stop ≡ unwrap_or reason Limit
     → stop ≡ unwrap_or (stop_after a new.board (new.taken - s.taken)) Limit
-ended_for a s new n stop reason is ends word =
-    word
-    ∙ sym (ap (λ i. unwrap_or (stop_after a new.board i) Limit) (took_steps s new n is)
-    ∙ ap (λ o. unwrap_or o Limit) ends)
+ended_for a s new n stop reason is ends word = search (rules, arith, took_steps)
 
 -- ---- a call at its beginning and its end
 
@@ -104,8 +101,7 @@ module _ (a : Addresses) (s : TimedState) where
 pub ahead_fields : (most : ℕ) (b : BoardState) (xs : List TimedInput) (place t : ℕ) (s : TimedState) (n : ℕ)
     → record { board = b; inputs = xs; place = place; taken = t } ≡ s → from (s.taken + most) (rest s) ≡ true
     → n ≤ most → from (t + n) (drop place xs) ≡ true
-ahead_fields most b xs place t s n e quiet le =
-    from_earlier (t + n) (t + most) (drop place xs) (ap (λ u. from (u.taken + most) (rest u)) e ∙ quiet) (omega arith)
+ahead_fields most b xs place t s n e quiet le = search (rules, arith, from_earlier, from)
 
 -- ---- a part of a call: the next inputs are given, and then steps are taken before which no input comes
 
@@ -115,9 +111,7 @@ module _ (a : Addresses) (s : TimedState) (h : IsInTime s) (n : ℕ) (mid given 
   given_is = due ∙ ap with_due at
 
   pub given_runs : halted_of given.board ≡ None
-  given_runs =
-      ap (λ u. halted_of u.board) given_is
-      ∙ (halted_due (after s n) ∙ running a (after s n).board n (before n (omega arith)))
+  given_runs = search (rules, arith, given_is, halted_due, running)
 
   joined : (j : ℕ) → 0 < j → after given j ≡ after s (n + j)
   joined j some =
@@ -159,25 +153,11 @@ module _ (a : Addresses) (s : TimedState) (h : IsInTime s) (n : ℕ) (mid given 
     ends some = same_stop a new.board (n + k) k (omega arith) some ∙ sym took.ends
 
     pub goes_further : reason ≡ None → GoesOn a s (n + k + 1)
-    goes_further none = ⊎_elim
-        (λ some.
-        below_more (λ i. stop_after a (after s i).board i ≡ None) (n + k) goes_to
-        (ap (λ u. stop_after a u.board (n + k)) (sym (stands some)) ∙ (ends some ∙ none)))
-        (λ all i less. before i (omega arith))
-        (cases_lt 0 k)
+    goes_further none = search (rules, arith, below_more, goes_to, stands, ends, cases_lt)
 
     -- a board that hasn't halted gives no reason to end before the first step
     some_taken : is_some reason ≡ true → 0 < k
-    some_taken some = ⊎_elim
-        (λ above. above)
-        (λ all.
-        let zero_taken : k ≡ 0 = omega arith in
-        let none : reason ≡ None =
-        took.ends ∙ (ap (stop_after a new.board) zero_taken
-        ∙ (ap (λ b. stop_after a b 0) (took.state ∙ ap (after_steps given.board) zero_taken)
-        ∙ no_reason a given.board 0 given_runs (λ above. absurd (omega arith)))) in
-        absurd (false≢true (sym (ap is_some none) ∙ some)))
-        (cases_lt 0 k)
+    some_taken some = search (rules, arith, no_reason, given_runs, false≢true, cases_lt)
 
     pub stopped : (most : ℕ) (stop : Stop) → reason ≡ Some stop → n + k ≤ most → HasStopped a most s new stop
     stopped most stop e within =
@@ -195,24 +175,8 @@ module _ (a : Addresses) (s : TimedState) (h : IsInTime s) (n : ℕ) (mid given 
     -- after them no input is due, and if there are none, those of the step were given
     due_next : given.taken + k < later → new ≡ with_due (after s (n + k))
     unfolding with_board
-    due_next less = ⊎_elim
-        (λ some.
-        is ∙ (none_is_due new.board given.inputs given.place (given.taken + k) later quiet less
-        ∙ ap with_due (sym is ∙ stands some)))
-        (λ all.
-        let zero_taken : k ≡ 0 = omega arith in
-        let same_taken : given.taken + k ≡ given.taken = omega arith in
-        let same_place : n ≡ n + k = omega arith in
-        is ∙ (ap (λ b. with_board b (given.taken + k)) (took.state ∙ ap (after_steps given.board) zero_taken)
-        ∙ (ap (with_board given.board) same_taken ∙ (given_is ∙ ap (λ i. with_due (after s i)) same_place))))
-        (cases_lt 0 k)
+    due_next less = search (rules, arith, none_is_due, stands, with_board, given_is, cases_lt)
 
     pub refused : (most : ℕ) → reason ≡ None → n + k < most → given.taken + k < later
         → writes new.board Step ≡ true → IsRefused a most s new
-    refused most none less next w = record {
-      count = n + k;
-      within = less;
-      going = λ i le. goes_further none i (omega arith);
-      state = due_next next;
-      next_writes = w;
-    }
+    refused most none less next w = search (rules, arith, goes_further, due_next)

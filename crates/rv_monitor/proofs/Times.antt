@@ -1,6 +1,6 @@
 -- Lists of inputs whose times never fall.
-use Rattle.std.proofs.Common.{◌≡◌, ◌∙◌, ℕ, suc, ◌+◌, ◌<◌, ◌≤◌, Bool, true, false, cond, List, [], ◌∷◌, length, get_or, take, drop, refl, ap, arith, zero-add, zero}
-use Rattle.std.specs.Prelude.{nat_le, nat_lt, nat_eq, ◌==◌, filter}
+use Rattle.std.proofs.Common.{rules, ◌≡◌, ◌∙◌, ℕ, suc, ◌+◌, ◌<◌, ◌≤◌, Bool, true, false, List, [], ◌∷◌, length, get_or, take, drop, refl, ap, arith, zero-add, zero}
+use Rattle.std.specs.Prelude.{nat_le, nat_lt, ◌==◌, filter}
 use Rattle.std.specs.List.{list_all}
 use Rattle.std.proofs.lemmas.List.Sums.{length-filter, count_by-le-length}
 use Rattle.std.proofs.lemmas.Bool.{and_parts, leb-true, ltb-true, ltb-false, le-leb, le-ltb, lt-ltb, ne_eqb}
@@ -39,9 +39,7 @@ head_least x y ys h = leb-true x.step y.step (and_parts (nat_le x.step y.step) (
 pub all_from : (t : ℕ) (x : TimedInput) (xs : List TimedInput) → never_falls (x ∷ xs) ≡ true → t ≤ x.step →
     from t (x ∷ xs) ≡ true
 all_from t x [] h k = rw (le-leb t x.step k) refl
-all_from t x (y ∷ ys) h k =
-    let m : x.step ≤ y.step = head_least x y ys h in
-    rw (le-leb t x.step k) (all_from t y ys (tail_rises x (y ∷ ys) h) (omega arith))
+all_from t x (y ∷ ys) h k = search (rules, arith, head_least, le-leb, tail_rises, all_from t y ys)
 
 pub drop_rises : (n : ℕ) (xs : List TimedInput) → never_falls xs ≡ true → never_falls (drop n xs) ≡ true
 drop_rises zero xs h = h
@@ -71,9 +69,7 @@ place_from (x ∷ xs) (suc n) d t k h = place_from xs n d t (omega arith) h
 -- and all of them have reached each earlier time
 pub from_earlier : (t u : ℕ) (xs : List TimedInput) → from u xs ≡ true → t ≤ u → from t xs ≡ true
 from_earlier t u [] h k = refl
-from_earlier t u (x ∷ xs) h k =
-    let m : u ≤ x.step = head_from u x xs h in
-    rw (le-leb t x.step (omega arith)) (from_earlier t u xs (tail_from u x xs h) k)
+from_earlier t u (x ∷ xs) h k = search (rules, arith, head_from, le-leb, tail_from, from_earlier t u xs)
 
 pub drop_from : (t n : ℕ) (xs : List TimedInput) → from t xs ≡ true → from t (drop n xs) ≡ true
 drop_from t zero xs h = h
@@ -83,17 +79,14 @@ drop_from t (suc n) (x ∷ xs) h = drop_from t n xs (tail_from t x xs h)
 -- no input is before a time that all have reached
 pub none_before : (t : ℕ) (xs : List TimedInput) → from t xs ≡ true → count_before t xs ≡ 0
 none_before t [] h = refl
-none_before t (x ∷ xs) h =
-    let m : t ≤ x.step = head_from t x xs h in
-    rw (le-ltb x.step t m, none_before t xs (tail_from t x xs h)) refl
+none_before t (x ∷ xs) h = search (rules, arith, head_from, le-ltb, tail_from, none_before t xs)
 
 pub from_first : (xs : List TimedInput) → from 0 xs ≡ true
 from_first [] = refl
 from_first (x ∷ xs) = rw (le-leb 0 x.step (omega arith)) (from_first xs)
 
 pub count_most : (t : ℕ) (xs : List TimedInput) → count_before t xs ≤ length xs
-count_most t xs =
-    omega (arith, length-filter (λ x. nat_lt x.step t) xs, count_by-le-length (λ x. nat_lt x.step t) xs)
+count_most t xs = search (rules, arith, length-filter, count_by-le-length)
 
 -- the inputs before a time are dropped, and the others stay
 module _ (t : ℕ) where
@@ -111,8 +104,7 @@ module _ (t : ℕ) where
   late_from_by : (x : TimedInput) (xs : List TimedInput) (b : Bool) → nat_lt x.step t ≡ b →
       never_falls (x ∷ xs) ≡ true → from t (late xs) ≡ true → from t (late (x ∷ xs)) ≡ true
   late_from_by x xs true e h more = ap (from t) (late_rest x xs e) ∙ more
-  late_from_by x xs false e h more =
-      ap (λ n. from t (drop n (x ∷ xs))) (late_all x xs h e) ∙ all_from t x xs h (ltb-false x.step t e)
+  late_from_by x xs false e h more = search (rules, arith, late_all, all_from, ltb-false)
 
   pub late_from : (xs : List TimedInput) → never_falls xs ≡ true → from t (late xs) ≡ true
   late_from [] h = refl
@@ -121,10 +113,7 @@ module _ (t : ℕ) where
   module _ (u : ℕ) (k : t ≤ u) where
     late_of_by : (x : TimedInput) (xs : List TimedInput) (b : Bool) → nat_lt x.step t ≡ b →
         never_falls (x ∷ xs) ≡ true → of u (late xs) ≡ of u xs → of u (late (x ∷ xs)) ≡ of u (x ∷ xs)
-    late_of_by x xs true e h more =
-        let m : nat_eq x.step u ≡ false =
-        let l : x.step < t = ltb-true x.step t e in ne_eqb x.step u (λ same. omega arith) in
-        ap (of u) (late_rest x xs e) ∙ (more ∙ rw m refl)
+    late_of_by x xs true e h more = search (rules, arith, ltb-true, ne_eqb, late_rest)
     late_of_by x xs false e h more = ap (λ n. of u (drop n (x ∷ xs))) (late_all x xs h e)
 
     pub late_of : (xs : List TimedInput) → never_falls xs ≡ true → of u (late xs) ≡ of u xs
@@ -134,12 +123,8 @@ module _ (t : ℕ) where
     late_count_by : (x : TimedInput) (xs : List TimedInput) (b : Bool) → nat_lt x.step t ≡ b →
         never_falls (x ∷ xs) ≡ true → count_before t xs + count_before u (late xs) ≡ count_before u xs
         → count_before t (x ∷ xs) + count_before u (late (x ∷ xs)) ≡ count_before u (x ∷ xs)
-    late_count_by x xs true e h more =
-        let m : nat_lt x.step u ≡ true = let l : x.step < t = ltb-true x.step t e in lt-ltb x.step u (omega arith) in
-        rw (e, m) (suc_sum (count_before t xs) (count_before u (late xs)) (count_before u xs) more)
-    late_count_by x xs false e h more =
-        let n : count_before t (x ∷ xs) ≡ 0 = late_all x xs h e in
-        ap (λ i. i + count_before u (drop i (x ∷ xs))) n ∙ zero-add (count_before u (x ∷ xs))
+    late_count_by x xs true e h more = search (rules, arith, ltb-true, lt-ltb, suc_sum)
+    late_count_by x xs false e h more = search (rules, arith, late_all, zero-add)
 
     pub late_count : (xs : List TimedInput) → never_falls xs ≡ true →
         count_before t xs + count_before u (late xs) ≡ count_before u xs
@@ -153,39 +138,27 @@ pub due_step : (t : ℕ) (xs : List TimedInput) (i : ℕ) (d : TimedInput) → f
     t ≤ (get_or xs i d).step
 due_step t [] i d h k = absurd (omega arith)
 due_step t (x ∷ xs) zero d h k = head_from t x xs h
-due_step t (x ∷ xs) (suc i) d h k =
-    due_step t xs i d (tail_from t x xs h) (omega arith)
+due_step t (x ∷ xs) (suc i) d h k = search (rules, arith, tail_from, due_step t xs i d)
 
 -- no input after one of a later time is of time t
 module _ (t : ℕ) where
   pub none_of : (xs : List TimedInput) → from (t + 1) xs ≡ true → of t xs ≡ []
   none_of [] h = refl
-  none_of (x ∷ xs) h =
-      let m : t + 1 ≤ x.step = head_from (t + 1) x xs h in
-      rw (ne_eqb x.step t (λ same. omega arith)) (none_of xs (tail_from (t + 1) x xs h))
+  none_of (x ∷ xs) h = search (rules, arith, head_from, ne_eqb, tail_from, none_of xs)
 
   pub later_of : (xs : List TimedInput) (i : ℕ) (d : TimedInput) → never_falls xs ≡ true → i < length xs →
       t < (get_or xs i d).step → of t xs ≡ of t (take i xs)
   later_of [] i d h k l = absurd (omega arith)
   later_of (x ∷ xs) zero d h k l = none_of (x ∷ xs) (all_from (t + 1) x xs h (omega arith))
-  later_of (x ∷ xs) (suc i) d h k l =
-      ap (λ ys. cond (nat_eq x.step t) (x ∷ ys) ys) (later_of xs i d (tail_rises x xs h) (omega arith) l)
+  later_of (x ∷ xs) (suc i) d h k l = search (rules, arith, tail_rises, later_of xs i d)
 
   more_count : (x : TimedInput) (xs ys : List TimedInput) →
       count_before (t + 1) xs ≡ count_before (t + 1) ys →
       count_before (t + 1) (x ∷ xs) ≡ count_before (t + 1) (x ∷ ys)
-  more_count x xs ys e = elim (nat_lt x.step (t + 1)) as
-      (λ b. length (cond b (x ∷ filter (λ y. nat_lt y.step (t + 1)) xs)
-      (filter (λ y. nat_lt y.step (t + 1)) xs)) ≡ length
-      (cond b (x ∷ filter (λ y. nat_lt y.step (t + 1)) ys) (filter (λ y. nat_lt y.step (t + 1)) ys))) [
-        | true ↦
-            ap suc e
-        | false ↦ e
-      ]
+  more_count x xs ys e = search (rules, arith)
 
   pub later_count : (xs : List TimedInput) (i : ℕ) (d : TimedInput) → never_falls xs ≡ true → i < length xs →
       t < (get_or xs i d).step → count_before (t + 1) xs ≡ count_before (t + 1) (take i xs)
   later_count [] i d h k l = absurd (omega arith)
   later_count (x ∷ xs) zero d h k l = none_before (t + 1) (x ∷ xs) (all_from (t + 1) x xs h (omega arith))
-  later_count (x ∷ xs) (suc i) d h k l =
-      more_count x xs (take i xs) (later_count xs i d (tail_rises x xs h) (omega arith) l)
+  later_count (x ∷ xs) (suc i) d h k l = search (rules, arith, more_count, tail_rises, later_count xs i d)

@@ -1,5 +1,5 @@
 -- The lines of traps, one after another.
-use Rattle.std.proofs.Common.{◌≡◌, ◌∙◌, ℕ, zero, suc, ◌+◌, ◌<◌, ◌≤◌, List, [], ◌∷◌, ◌++◌, length, take, refl, sym, ap, add-one, append-nil, append_assoc, rules, arith}
+use Rattle.std.proofs.Common.{◌≡◌, ◌∙◌, ℕ, zero, suc, ◌+◌, ◌<◌, ◌≤◌, List, [], ◌∷◌, ◌++◌, length, take, refl, ap, add-one, append-nil, append_assoc, rules, arith}
 use Rattle.std.specs.Prelude.{Option, Some, IsSome, slice_get}
 use Rattle.std.specs.List.{flat_map}
 use Rattle.std.proofs.lemmas.List.{take_all}
@@ -15,8 +15,7 @@ more : (ts : List TrapRecord) (i : ℕ) (t : TrapRecord) → Some t ≡ slice_ge
 more [] zero t e = absurd cc
 more [] (suc i) t e = absurd cc
 more (x ∷ xs) zero t e = let same : t ≡ x = cc in rw same (append-nil (trap_text x))
-more (x ∷ xs) (suc i) t e = ap (λ text. trap_text x ++ text) (more xs i t e)
-    ∙ sym (append_assoc (trap_text x) (flat_map trap_text (take i xs)) (trap_text t))
+more (x ∷ xs) (suc i) t e = search (rules, arith, append_assoc, more xs i t e)
 
 -- no line after a text
 pub no_trap : (text : List ℕ) (ts : List TrapRecord) → text ++ flat_map trap_text (take 0 ts) ≡ text
@@ -25,9 +24,7 @@ no_trap text ts = ap (λ lines. text ++ lines) (none ts) ∙ append-nil text
 -- one more line
 pub one_more_trap : (text : List ℕ) (ts : List TrapRecord) (i : ℕ) (t : TrapRecord) → Some t ≡ slice_get ts i
     → text ++ flat_map trap_text (take (i + 1) ts) ≡ text ++ flat_map trap_text (take i ts) ++ trap_text t
-one_more_trap text ts i t e =
-    ap (λ lines. text ++ lines) (ap (λ n. flat_map trap_text (take n ts)) (add-one i) ∙ more ts i t e)
-    ∙ sym (append_assoc text (flat_map trap_text (take i ts)) (trap_text t))
+one_more_trap text ts i t e = search (rules, arith, add-one, more, append_assoc)
 
 -- all lines
 pub all_traps : (text : List ℕ) (ts : List TrapRecord) (n : ℕ) → length ts ≤ n →
@@ -39,8 +36,7 @@ pub trap_appended : (text before after : List ℕ) (ts : List TrapRecord) (i : �
     Some t ≡ slice_get ts i
     → before ≡ text ++ flat_map trap_text (take i ts) → after ≡ before ++ trap_text t →
     after ≡ text ++ flat_map trap_text (take (i + 1) ts)
-trap_appended text before after ts i t here stands appended =
-    appended ∙ ap (λ head. head ++ trap_text t) stands ∙ sym (one_more_trap text ts i t here)
+trap_appended text before after ts i t here stands appended = search (rules, arith, one_more_trap)
 
 some_trap : (ts : List TrapRecord) (i : ℕ) → i < length ts → IsSome (slice_get ts i)
 some_trap [] i h = absurd (omega (arith, h))

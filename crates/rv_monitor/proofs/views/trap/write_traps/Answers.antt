@@ -1,17 +1,13 @@
-use Rattle.std.proofs.Common.{◌≡◌, ◌∙◌, ◌<◌, length, rules, arith}
+use Rattle.std.proofs.Common.{◌≡◌, rules, arith}
 use Rattle.std.specs.Prelude.{Some, slice_get}
 use Rattle.rv_monitor.proofs.Traps.{has_trap, trap_appended, all_traps}
 use Rattle.rv_monitor.proofs.views.trap.write_traps.Goals as goal
 
 pub unwrap-trap-requires : goal.unwrap-trap-requires
-unwrap-trap-requires g c =
-    has_trap c.args.board.now.traps _ _ c.trap.ensures (omega (arith, c.trap_count-index-end.ensures.count))
+unwrap-trap-requires g c = search (rules, arith, has_trap)
 
 pub append_trap-requires : goal.append_trap-requires
-append_trap-requires g c =
-    let before : c.loop-index.index < length c.args.board.now.traps =
-    omega (arith, c.loop-index-test.true, c.trap_count-index-end.ensures.count) in
-    omega (arith, c.loop-index.invariant.1, before)
+append_trap-requires g c = search (rules, arith)
 
 pub loop-index-preserved : goal.loop-index-preserved
 loop-index-preserved g c =
@@ -24,5 +20,4 @@ loop-index-preserved g c =
     )
 
 pub returns-clause-ok : goal.returns-clause-ok
-returns-clause-ok g c = c.loop-index.invariant.0 ∙ all_traps c.args.text.now.items c.args.board.now.traps
-    c.loop-index.index (omega arith)
+returns-clause-ok g c = search (rules, arith, all_traps)
