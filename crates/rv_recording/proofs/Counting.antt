@@ -1,5 +1,6 @@
 -- How many steps a run takes.
-use Rattle.std.proofs.Common.{◌≡◌, ◌∙◌, ℕ, zero, suc, ◌+◌, ◌-◌, ◌<◌, ◌≤◌, Bool, true, false, add-one, refl, sym, ap, subst, arith, inl, inr, ⊎_elim}
+use Rattle.std.proofs.Common.{rules}
+use Rattle.std.proofs.Common.{◌≡◌, ◌∙◌, ℕ, zero, suc, ◌+◌, ◌-◌, ◌<◌, ◌≤◌, Bool, true, false, add-one, refl, sym, arith, inl, inr, ⊎_elim}
 use native.Mathlib.Numerals.{unary_clauses}
 use Rattle.std.specs.Prelude.{if◌then◌else◌, is_some, Option, Some, None}
 use Rattle.std.proofs.lemmas.Bool.{cases_lt, false≢true}
@@ -29,36 +30,19 @@ module _ (ends : ℕ → Option End) where
   pub all_steps : (n : ℕ) → NoneEnds ends n → steps_of ends n ≡ n
   unfolding steps_of
   all_steps zero going = refl
-  all_steps (suc n) going =
-      let before : steps_of ends n ≡ n = all_steps n (λ i l. going i (omega (arith, l))) in
-      let now : is_some (ends n) ≡ false = ap is_some (going n (omega arith)) in
-      rw before (rw now refl)
+  all_steps (suc n) going = search (rules, arith, all_steps n)
 
   -- a run that is over after n steps, and not before, takes n steps
   pub over_at : (n m : ℕ) → n ≤ m → NoneEnds ends n → is_some (ends n) ≡ true → steps_of ends m ≡ n
   unfolding steps_of
   over_at n zero h going is = omega (arith, h)
-  over_at n (suc m) h going is = ⊎_elim
-      (λ less. rw (over_at n m (omega (arith, less)) going is) (rw is refl))
-      (λ last.
-      let same : n ≡ suc m = omega (arith, h, last) in
-      subst (λ (k : ℕ). steps_of ends k ≡ n) same (all_steps n going))
-      (cases_lt n (suc m))
+  over_at n (suc m) h going is = search (rules, arith, all_steps, cases_lt, over_at n m)
 
   -- a run that isn't over after n steps takes more
   pub takes_more : (n m : ℕ) → n < m → NoneEnds ends (suc n) → n < steps_of ends m
   unfolding steps_of
   takes_more n zero h going = absurd (omega (arith, h))
-  takes_more n (suc m) h going = ⊎_elim
-      (λ less.
-      let before : suc n ≤ steps_of ends m = omega (arith, takes_more n m less going) in
-      let now = at_least (is_some (ends (steps_of ends m))) (steps_of ends m) (suc n) before in omega (arith, now))
-      (λ last.
-      let same : suc n ≡ suc m = omega (arith, h, last) in
-      let now : steps_of ends (suc m) ≡ suc n =
-      subst (λ (k : ℕ). steps_of ends k ≡ suc n) same (all_steps (suc n) going) in
-      omega (arith, now))
-      (cases_lt n m)
+  takes_more n (suc m) h going = search (rules, arith, at_least, all_steps, cases_lt, takes_more n m)
 
   -- a run that takes fewer steps than it may is over after them
   pub over_or_all : (m : ℕ) → steps_of ends m < m → is_some (ends (steps_of ends m)) ≡ true
@@ -90,6 +74,4 @@ module _ (ends : ℕ → Option End) where
 pub same_steps : (e f : ℕ → Option End) → ((i : ℕ) → is_some (e i) ≡ is_some (f i)) → (n : ℕ) → steps_of e n ≡ steps_of f n
 unfolding steps_of
 same_steps e f same zero = refl
-same_steps e f same (suc n) =
-    let before : steps_of e n ≡ steps_of f n = same_steps e f same n in
-    rw before (rw (same (steps_of f n)) refl)
+same_steps e f same (suc n) = search (rules, arith, same_steps e f same n)

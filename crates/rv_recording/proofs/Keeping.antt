@@ -1,5 +1,6 @@
 -- The states that a recording keeps on the way.
-use Rattle.std.proofs.Common.{◌≡◌, ◌∙◌, ℕ, zero, suc, Bool, true, false, cond, List, [], ◌∷◌, refl, sym, ap, subst}
+use Rattle.std.proofs.Common.{rules, arith}
+use Rattle.std.proofs.Common.{◌≡◌, ◌∙◌, ℕ, zero, suc, Bool, true, false, cond, List, [], ◌∷◌, refl, sym, subst}
 use Rattle.std.specs.Option.{option_map}
 use Rattle.std.specs.Prelude.{find, nat_le, not, ◌&&◌, is_ok, remove, insert, None, Result, Ok, Err}
 use Rattle.rv_cache.specs.SlotCount.{is_slot_count}
@@ -22,17 +23,13 @@ use Rattle.rv_recording.specs.Support.Kept.{KeptBoard, AreKept, AreWithin}
 kept_more : (first : BoardState) (s : TimedState) (ks : List KeptBoard) (k : KeptBoard)
     → IsReached first s → s.place ≡ count_before s.taken s.inputs → k.board ≡ s.board → k.steps ≡ s.taken
     → AreKept first s.inputs ks → AreKept first s.inputs (k ∷ ks)
-kept_more first s ks k r none board steps h = (
-  board ∙ (left_by_steps first s r none ∙ ap (λ n. run first (events_of s.inputs 0 n)) (sym steps)),
-  h,
-)
+kept_more first s ks k r none board steps h = search (rules, arith, left_by_steps)
 
 pub kept_inserted : {E : Type 0} (r : Result Unit E) (first : BoardState) (s : TimedState)
     (ks new : List KeptBoard) (k : KeptBoard) → new ≡ cond (is_ok r) (insert ks 0 k) ks → IsReached first s
     → s.place ≡ count_before s.taken s.inputs → k.board ≡ s.board → k.steps ≡ s.taken
     → AreKept first s.inputs ks → AreKept first s.inputs new
-kept_inserted (Ok u) first s ks new k e r none board steps h =
-    subst (AreKept first s.inputs) (sym e) (kept_more first s ks k r none board steps h)
+kept_inserted (Ok u) first s ks new k e r none board steps h = search (rules, arith, kept_more)
 kept_inserted (Err x) first s ks new k e r none board steps h = subst (AreKept first s.inputs) (sym e) h
 
 pub kept_less : (first : BoardState) (inputs : List TimedInput) (ks : List KeptBoard) (i : ℕ)
@@ -47,10 +44,8 @@ pub kept_with : (first : BoardState) (inputs : List TimedInput) (t : ℕ) (input
     → never_falls inputs ≡ true → AreWithin t ks → AreKept first inputs ks
     → AreKept first (inserted inputs (record { step = t; input = input })) ks
 kept_with first inputs t input [] rising w h = tt
-kept_with first inputs t input (k ∷ ks) rising w h = (
-  h.0 ∙ ap (run first) (sym (events_before t input inputs rising k.steps w.0)),
-  kept_with first inputs t input ks rising w.1 h.1,
-)
+kept_with first inputs t input (k ∷ ks) rising w h =
+    search (rules, arith, events_before, kept_with first inputs t input ks rising w.1 h.1)
 
 -- a board that boots has a cache
 slots_by : (a b c : Bool) → option_map (λ (row : Bool × BootFault). row.1) (find (λ row. row.0)

@@ -1,5 +1,6 @@
 -- The first breakpoint from an address on.
-use Rattle.std.proofs.Common.{◌≡◌, ◌∙◌, ℕ, ◌<◌, ◌≤◌, Bool, true, false, List, [], ◌∷◌, fold, refl, sym, ap, subst, arith}
+use Rattle.std.proofs.Common.{rules}
+use Rattle.std.proofs.Common.{◌≡◌, ◌∙◌, ℕ, ◌<◌, ◌≤◌, Bool, true, false, List, [], ◌∷◌, fold, refl, sym, arith}
 use Rattle.std.proofs.lemmas.Bool.{false≢true}
 use Rattle.std.proofs.lemmas.Bool.Decides.{nat_tests}
 use Rattle.std.specs.Prelude.{◌||◌, if◌then◌else◌, min, nat_eq, nat_lt, Option, Some, None}
@@ -33,9 +34,7 @@ module _ (b x : ℕ) (t : ℕ → Bool) where
       → (d || (e || t n)) ≡ true
   passes n true e g h p = refl
   passes n false true g h p = refl
-  passes n false false g h p =
-      let none : nat_eq n (min b x) ≡ false = grind (arith, nat_tests) in
-      sym (ap (λ c. c || t n) none) ∙ p
+  passes n false false g h p = search (rules, arith)
 
   module _ (from : ℕ) (n : ℕ) (least : (a : ℕ) → from ≤ a → a < n → (nat_eq a (min b x) || t a) ≡ false)
       (l : from ≤ min b x) where
@@ -46,30 +45,19 @@ module _ (b x : ℕ) (t : ℕ → Bool) where
     within false e = grind (arith, nat_tests)
 
     fails : (a : ℕ) → from ≤ a → a < n → (nat_eq a b || (nat_eq a x || t a)) ≡ false
-    fails a f h =
-        let high : n ≤ min b x = within (nat_lt (min b x) n) refl in
-        let low : a < min b x = omega (arith, h, high) in
-        let not_b : nat_eq a b ≡ false = grind (arith, nat_tests) in
-        let not_x : nat_eq a x ≡ false = grind (arith, nat_tests) in
-        other (nat_eq a b) _ not_b (other (nat_eq a x) (t a) not_x (only (nat_eq a (min b x)) (t a) (least a f h)))
+    fails a f h = search (rules, arith, within, other, only)
 
   lesser_is : (from : ℕ) (r : Option ℕ) → from ≤ b → from ≤ x
       → IsFirst (λ a. nat_eq a (min b x) || t a) from r → IsFirst (λ a. nat_eq a b || (nat_eq a x || t a)) from r
   lesser_is from None f g h =
       absurd (false≢true (sym (h (min b x) (omega (arith, f, g))) ∙ itself (min b x) (t (min b x))))
-  lesser_is from (Some n) f g h = (
-    h.0,
-    passes n (nat_eq n b) (nat_eq n x) refl refl h.1,
-    fails from n h.2 (omega (arith, f, g)),
-  )
+  lesser_is from (Some n) f g h = search (rules, arith, passes, fails)
 
 -- ---- a number below was left
 
 module _ (x from : ℕ) (c t : ℕ → Bool) (below : x < from) where
   same : (a : ℕ) → from ≤ a → (c a || t a) ≡ (c a || (nat_eq a x || t a))
-  same a l =
-      let not_x : nat_eq a x ≡ false = grind (arith, nat_tests) in
-      ap (λ (u : Bool). c a || (u || t a)) (sym not_x)
+  same a l = search (rules, arith)
 
   left : (r : Option ℕ) → IsFirst (λ a. c a || t a) from r → IsFirst (λ a. c a || (nat_eq a x || t a)) from r
   left None h = λ a l. sym (same a l) ∙ h a l
@@ -88,11 +76,7 @@ IsHigh from (Some b) = from ≤ b
 
 none_left : (from : ℕ) (o : Option ℕ) → IsHigh from o → IsFirst (λ a. found o a || false) from o
 none_left from None h = λ a l. refl
-none_left from (Some b) h = (
-  h,
-  itself b false,
-  λ a l below. let not_b : nat_eq a b ≡ false = grind (arith, nat_tests) in rw not_b refl,
-)
+none_left from (Some b) h = search (rules, arith, itself)
 
 module _ (from x : ℕ) (xs : List ℕ)
     (rest : (o : Option ℕ) → IsHigh from o → IsFirst (λ a. found o a || list_any (nat_eq a) xs) from (fold (nearer from) o xs)) where
@@ -117,7 +101,4 @@ as_set s p from (Some n) same h = (h.0, same n ∙ h.1, λ a l b. same a ∙ h.2
 
 pub is_next : (from : ℕ) (xs : List ℕ) (s : Addresses) (r : Option ℕ) → set.from_list xs ≡ s
     → r ≡ fold (nearer from) None xs → IsNext s from r
-is_next from xs s r e f =
-    subst (λ (o : Option ℕ). IsNext s from o) (sym f)
-    (as_set s (λ a. list_any (nat_eq a) xs) from _
-    (λ a. ap (λ (u : Addresses). set.contains u a) (sym e) ∙ has xs a) (first from xs None tt))
+is_next from xs s r e f = search (rules, arith, as_set, has, first)

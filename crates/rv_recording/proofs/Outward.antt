@@ -1,9 +1,10 @@
 -- Runs out of calls, step by step.
+use Rattle.std.proofs.Common.{rules}
 use Rattle.std.proofs.Common.{◌≡◌, ◌∙◌, ℕ, suc, ◌+◌, ◌<◌, ◌==◌, Bool, refl, sym, ap, arith, inl, inr}
 use Rattle.std.proofs.Math.Numerals.{add-one}
-use Rattle.std.specs.Prelude.{nat_lt, Option, Some, None, Result, Ok, Err}
+use Rattle.std.specs.Prelude.{Option, Some, None, Result, Ok, Err}
 use Rattle.rv_base.specs.declared.memory.NoMemory.{NoMemory}
-use Rattle.rv_monitor.specs.State.{IsInTime, TimedState, after}
+use Rattle.rv_monitor.specs.State.{IsInTime, after}
 use Rattle.rv_monitor.specs.Stops.{steps_between}
 use Rattle.rv_recording.specs.Recording.{RecordingState}
 use Rattle.rv_recording.specs.Until.{HasRun}
@@ -44,19 +45,12 @@ module _ (first : ℕ) (old : RecordingState) where
   open_suc : (now : RecordingState) (calls left n : ℕ) → GoingOut first old now calls n
       → left ≡ open_of_step calls now.session.timed → left ≡ open_at first old.session.timed (suc n)
   unfolding open_at
-  open_suc now calls left n g e =
-      e ∙ (ap (λ (k : ℕ). open_of_step k now.session.timed) g.number
-      ∙ ap (λ (r : RecordingState). open_of_step (open_at first old.session.timed n) r.session.timed) g.going.state)
+  open_suc now calls left n g e = search (rules, arith)
 
   -- why the run ends with that step
   out_is : (now : RecordingState) (calls left n : ℕ) → GoingOut first old now calls n
       → left ≡ open_of_step calls now.session.timed → end_after (left == 0) (next_of now.session) ≡ ends (suc n)
-  out_is now calls left n g e =
-      ap (λ (k : ℕ). end_after (k == 0) (next_of now.session)) (open_suc now calls left n g e)
-      ∙ (ap (λ (r : RecordingState). end_after (open_at first old.session.timed (suc n) == 0) (next_of r.session)) g.going.state
-      ∙ ap (λ (t : TimedState). end_after (open_at first old.session.timed (suc n) == 0) (record old.session { timed = t }))
-      (after_suc old.session.timed n g.going.in_time)
-      ∙ late (nat_lt 0 (suc n)) _ _ _ _ (above_none n))
+  out_is now calls left n g e = search (rules, arith, open_suc, after_suc, late, above_none)
 
   pub goes_out : (now new : RecordingState) (calls left n : ℕ) → GoingOut first old now calls n
       → StepsOut calls left now new (Ok None) → GoingOut first old new left (n + 1)
@@ -71,8 +65,7 @@ module _ (first : ℕ) (old : RecordingState) where
       → HasRun ends most old.session new.session end
   ends_out now new calls left most n end k g (inl t) =
       ended ends old now new most n _ end (out_is now calls left n g t.1) k g.going (inl (t.0, t.2))
-  ends_out now new calls left most n end k g (inr t) =
-      ended ends old now new most n (ends (suc n)) end refl k g.going (inr (t.0, t.1, t.3))
+  ends_out now new calls left most n end k g (inr t) = search (rules, arith, ended)
 
   pub open_ended : (now new : RecordingState) (calls left n : ℕ) (end : Option End)
       → GoingOut first old now calls n → StepsOut calls left now new (Ok end)
@@ -81,8 +74,7 @@ module _ (first : ℕ) (old : RecordingState) where
       open_suc now calls left n g t.1
       ∙ ap (open_at first old.session.timed)
       (taken_is old new (suc n) (one_more ends old now new n g.going t.0))
-  open_ended now new calls left n end g (inr t) =
-      t.2 ∙ (g.number ∙ ap (open_at first old.session.timed) (taken_is old new n (t.1 ∙ g.going.state)))
+  open_ended now new calls left n end g (inr t) = search (rules, arith, taken_is)
 
   pub refused_out : (now new : RecordingState) (calls left most n : ℕ) (why : NoMemory) → n < most
       → GoingOut first old now calls n → StepsOut calls left now new (Err why)
@@ -93,9 +85,7 @@ module _ (first : ℕ) (old : RecordingState) where
   pub open_refused : (now new : RecordingState) (calls left n : ℕ) (why : NoMemory) → GoingOut first old now calls n
       → StepsOut calls left now new (Err why)
       → left ≡ open_at first old.session.timed (steps_between old.session.timed new.session.timed)
-  open_refused now new calls left n why g t =
-      t.3 ∙ (g.number ∙ ap (open_at first old.session.timed)
-      (due_is old new n (due_at ends old now new n g.going t.1)))
+  open_refused now new calls left n why g t = search (rules, arith, due_is, due_at)
 
   pub limit_out : (now : RecordingState) (calls most : ℕ) → GoingOut first old now calls most
       → HasRun ends most old.session now.session Limit
@@ -103,8 +93,7 @@ module _ (first : ℕ) (old : RecordingState) where
 
   pub open_limit : (now : RecordingState) (calls most : ℕ) → GoingOut first old now calls most
       → calls ≡ open_at first old.session.timed (steps_between old.session.timed now.session.timed)
-  open_limit now calls most g =
-      g.number ∙ ap (open_at first old.session.timed) (taken_is old now most g.going.state)
+  open_limit now calls most g = search (rules, arith, taken_is)
 
   -- what the call leaves as it was
   pub others_out : (now : RecordingState) (calls n : ℕ) → GoingOut first old now calls n
@@ -114,20 +103,15 @@ module _ (first : ℕ) (old : RecordingState) where
   pub others_ended : (now new : RecordingState) (calls left n : ℕ) (end : Option End)
       → GoingOut first old now calls n → StepsOut calls left now new (Ok end)
       → new ≡ record old { session = new.session }
-  others_ended now new calls left n end g (inl t) =
-      others_next ends old now new n end end g.going (inl (t.0, refl))
-  others_ended now new calls left n end g (inr t) =
-      others_next ends old now new n end end g.going (inr (t.0, t.1, t.3))
+  others_ended now new calls left n end g (inl t) = search (rules, arith, others_next)
+  others_ended now new calls left n end g (inr t) = search (rules, arith, others_next)
 
   pub others_refused : (now new : RecordingState) (calls left n : ℕ) (why : NoMemory)
       → GoingOut first old now calls n → StepsOut calls left now new (Err why)
       → new ≡ record old { session = new.session }
-  others_refused now new calls left n why g t =
-      others_due ends old now new n (ends n) why g.going (t.0, t.1, t.2)
+  others_refused now new calls left n why g t = search (rules, arith, others_due)
 
   -- a run that is over before its first step
   pub open_before : first ≡ open_at first old.session.timed (steps_between old.session.timed old.session.timed)
   unfolding open_at
-  open_before =
-      let none : steps_between old.session.timed old.session.timed ≡ 0 = omega arith in
-      sym (ap (open_at first old.session.timed) none)
+  open_before = search (rules, arith)

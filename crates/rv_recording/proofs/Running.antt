@@ -1,4 +1,5 @@
 -- Runs, step by step.
+use Rattle.std.proofs.Common.{rules}
 use Rattle.std.proofs.Common.{◌≡◌, ◌∙◌, ℕ, suc, ◌+◌, ◌-◌, ◌<◌, ◌≤◌, ◌==◌, Bool, true, false, refl, sym, ap, subst, arith, inl, inr, ⊎_elim}
 use Rattle.std.specs.Prelude.{◌&&◌, zero, nat_lt, if◌then◌else◌, is_none, is_some, unwrap_or, Option, Some, None, Ok, Err}
 use Rattle.std.proofs.Math.Numerals.{add-one}
@@ -48,8 +49,7 @@ due_is old now n e = omega (arith, ap (λ (r : RecordingState). r.session.timed.
 
 pub before_is : (reached : ℕ → Bool) (breaks : Addresses) (s : SessionState) → IsInTime s.timed
     → end_before s ≡ end_at reached breaks s 0
-before_is reached breaks s h =
-    ap (λ (t : TimedState). end_before (record s { timed = t })) (sym (after_none s.timed h))
+before_is reached breaks s h = search (rules, arith, after_none)
 
 may_before : (h : Option ℕ) (l : Bool)
     → (if is_some h then Some Halted else (if l then None else Some Stuck)) ≡ None → (is_none h && l) ≡ true
@@ -71,12 +71,7 @@ first_none ends e i l = let same : i ≡ 0 = omega (arith, l) in ap ends same �
 
 pub begins : (ends : ℕ → Option End) (old : RecordingState) (before : Option End) → IsInTime old.session.timed
     → before ≡ end_before old.session → before ≡ ends 0 → before ≡ None → Going ends old old 0
-begins ends old before in_time at is e = record {
-  in_time = in_time;
-  state = ap (with_timed old) (sym (after_none old.session.timed in_time));
-  going = first_none ends (sym is ∙ e);
-  may = may_before (halted_of old.session.timed.board) _ (sym at ∙ e);
-}
+begins ends old before in_time at is e = search (rules, arith, after_none, first_none, may_before)
 
 -- a run that is over before its first step
 pub over_before : (ends : ℕ → Option End) (old : RecordingState) (most : ℕ) (before : Option End) (end : End)
@@ -95,17 +90,10 @@ module _ (ends : ℕ → Option End) (old : RecordingState) where
   -- one step more of a recording
   pub one_more : (now new : RecordingState) (n : ℕ) → Going ends old now n
       → new ≡ with_timed now (after now.session.timed 1) → new ≡ stands old (suc n)
-  one_more now new n g f =
-      f ∙ (ap (λ (r : RecordingState). with_timed r (after r.session.timed 1)) g.state
-      ∙ (ap (with_timed old) (after_more old.session.timed n 1 g.in_time.rising) ∙ ap (stands old) (add-one n)))
+  one_more now new n g f = search (rules, arith, after_more, add-one)
 
   more_goes : (n : ℕ) → NoneEnds ends n → ends n ≡ None → NoneEnds ends (suc n)
-  more_goes n going now i l = ⊎_elim
-      (λ earlier. going i earlier)
-      (λ later.
-      let same : i ≡ n = omega (arith, l, later) in
-      ap ends same ∙ now)
-      (cases_lt i n)
+  more_goes n going now i l = search (rules, arith, cases_lt)
 
   pub goes_on : (reached : Bool) (now new : RecordingState) (n : ℕ) → end_after reached (next_of now.session) ≡ ends (suc n)
       → Going ends old now n → TakesOne (end_after reached (next_of now.session)) now new (Ok None)
@@ -123,16 +111,11 @@ module _ (ends : ℕ → Option End) (old : RecordingState) where
   pub due_at : (now new : RecordingState) (n : ℕ) → Going ends old now n
       → new ≡ with_timed now (with_due now.session.timed)
       → new ≡ with_timed old (with_due (after old.session.timed n))
-  due_at now new n g e =
-      e ∙ ap (λ (r : RecordingState). with_timed r (with_due r.session.timed)) g.state
+  due_at now new n g e = search (rules, arith)
 
   has_run : (new : RecordingState) (most n : ℕ) (end : End) → new ≡ stands old n → steps_of ends most ≡ n
       → end ≡ unwrap_or (ends n) Limit → HasRun ends most old.session new.session end
-  has_run new most n end state is told = record {
-    state = ap (λ (r : RecordingState). r.session) state
-        ∙ ap (λ (k : ℕ). record old.session { timed = after old.session.timed k }) (sym is);
-    ended = told ∙ ap (λ (k : ℕ). unwrap_or (ends k) Limit) (sym is);
-  }
+  has_run new most n end state is told = search (rules, arith)
 
   -- a run whose last step ends it
   pub ended : (now new : RecordingState) (most n : ℕ) (end : Option End) (told : End) → end ≡ ends (suc n) → n < most
@@ -146,9 +129,7 @@ module _ (ends : ℕ → Option End) (old : RecordingState) where
 
   pub limit : (now : RecordingState) (most : ℕ) → Going ends old now most
       → HasRun ends most old.session now.session Limit
-  limit now most g =
-      has_run now most most Limit g.state (all_steps ends most (λ i l. g.going i (omega (arith, l))))
-      (sym (ap (λ (o : Option End). unwrap_or o Limit) (g.going most (omega arith))))
+  limit now most g = search (rules, arith, has_run, all_steps)
 
   pub refused : (now new : RecordingState) (most n : ℕ) (end : Option End) (why : NoMemory) → n < most
       → Going ends old now n → TakesOne end now new (Err why)
@@ -185,20 +166,14 @@ pub end_is : (condition : Condition) (old now : RecordingState) (n : ℕ)
     → Going (until_ends condition old.session) old now n
     → end_of_step condition now.session ≡ until_ends condition old.session (suc n)
 unfolding comes
-end_is condition old now n g =
-    ap (λ (r : RecordingState). end_of_step condition r.session) g.state
-    ∙ ap (λ (t : TimedState). end_after
-    (holds condition (step (with_due (after old.session.timed n)).board.machine).1 t.board)
-    (record old.session { timed = t })) (after_suc old.session.timed n g.in_time)
-    ∙ late (nat_lt 0 (suc n)) _ _ _ _ (above_none n)
+end_is condition old now n g = search (rules, arith, after_suc, late, above_none)
 
 -- ---- what the call leaves as it was
 
 -- the steps of a run change nothing but the session
 others_stay : (old new : RecordingState) (t : TimedState) → new ≡ with_timed old t
     → new ≡ record old { session = new.session }
-others_stay old new t e =
-    e ∙ ap (λ (s : SessionState). record old { session = s }) (sym (ap (λ (r : RecordingState). r.session) e))
+others_stay old new t e = search (rules, arith)
 
 pub others_at : (ends : ℕ → Option End) (old now : RecordingState) (n : ℕ) → Going ends old now n
     → now ≡ record old { session = now.session }
@@ -206,13 +181,10 @@ others_at ends old now n g = others_stay old now (after old.session.timed n) g.s
 
 pub others_next : (ends : ℕ → Option End) (old now new : RecordingState) (n : ℕ) (end told : Option End)
     → Going ends old now n → TakesOne end now new (Ok told) → new ≡ record old { session = new.session }
-others_next ends old now new n end told g (inl t) =
-    others_stay old new (after old.session.timed (suc n)) (one_more ends old now new n g t.0)
-others_next ends old now new n end told g (inr t) =
-    others_stay old new (after old.session.timed n) (t.1 ∙ g.state)
+others_next ends old now new n end told g (inl t) = search (rules, arith, others_stay, one_more)
+others_next ends old now new n end told g (inr t) = search (rules, arith, others_stay)
 
 pub others_due : (ends : ℕ → Option End) (old now new : RecordingState) (n : ℕ) (end : Option End)
     (why : NoMemory) → Going ends old now n → TakesOne end now new (Err why)
     → new ≡ record old { session = new.session }
-others_due ends old now new n end why g t =
-    others_stay old new (with_due (after old.session.timed n)) (due_at ends old now new n g t.1)
+others_due ends old now new n end why g t = search (rules, arith, others_stay, due_at)

@@ -1,8 +1,8 @@
 -- What the calls of a session leave is a recording as well.
-use Rattle.std.proofs.Common.{◌≡◌, ◌∙◌, ℕ, ◌-◌, ◌*◌, ◌<◌, ◌≤◌, Bool, true, false, List, [], ◌∷◌, length, refl, sym, ap, subst, arith, inl, inr}
+use Rattle.std.proofs.Common.{rules}
+use Rattle.std.proofs.Common.{◌≡◌, ◌∙◌, ℕ, ◌-◌, ◌*◌, ◌<◌, ◌≤◌, Bool, true, false, List, [], ◌∷◌, length, refl, sym, ap, arith, inl, inr}
 use Rattle.std.proofs.lemmas.Bool.Decides.{nat_tests}
 use Rattle.std.specs.FinSet as set
-use Rattle.std.specs.List.{list_all}
 use Rattle.std.specs.Prelude.{◌⊎◌, ◌&&◌, nat_le, nat_lt, is_none, min, if◌then◌else◌, option_and_then, Option, Some, None, Result, Ok, Err, OnOk, OnErr, OnOk}
 use Rattle.rv_base.specs.declared.memory.NoMemory.{NoMemory}
 use Rattle.rv_hart.specs.declared.trap.Outcome.{Outcome}
@@ -80,17 +80,7 @@ rising text inputs read = read_rises (all_of timed_line (lines text)) inputs rea
 pub opened_is : (program : Assembly) (text : List ℕ) (pages slots : ℕ) (s : SessionState)
     → Opens program text pages slots 9999999999 (Ok s) → HasSteps s.timed.inputs
     → (ks : List KeptBoard) → ks ≡ [] → Stands s pages slots ks
-opened_is program text pages slots s opens small ks none =
-    let first = board_at_reset program.bytes (4096 * pages) in
-    subst (λ (u : SessionState). Stands u pages slots ks) (sym opens.2) (
-      record {
-        boots = opens.1;
-        reached = begun_stands first s.timed.inputs (rising text s.timed.inputs opens.0);
-        steps = small;
-        limit = refl;
-      },
-      subst (AreKept first s.timed.inputs) (sym none) tt,
-    )
+opened_is program text pages slots s opens small ks none = search (rules, arith, begun_stands, rising)
 
 -- ---- what calls leave
 
@@ -111,18 +101,13 @@ steps_by : (y : TimedInput) (ys : List TimedInput) (x : TimedInput) (b : Bool) �
     → HasSteps (inserted (y ∷ ys) x)
 unfolding inserted
 steps_by y ys x true e h k more = rw e (both (nat_le x.step 9999999999) _ k h)
-steps_by y ys x false e h k more =
-    rw e (both (nat_le y.step 9999999999) _
-    (and_left (nat_le y.step 9999999999) (list_all (λ z. nat_le z.step 9999999999) ys) h) more)
+steps_by y ys x false e h k more = search (rules, arith, both, and_left)
 
 steps_inserted : (xs : List TimedInput) (x : TimedInput) → HasSteps xs → nat_le x.step 9999999999 ≡ true
     → HasSteps (inserted xs x)
 unfolding inserted
 steps_inserted [] x h k = both (nat_le x.step 9999999999) true k refl
-steps_inserted (y ∷ ys) x h k =
-    steps_by y ys x (nat_lt x.step y.step) refl h k
-    (steps_inserted ys x
-    (and_right (nat_le y.step 9999999999) (list_all (λ z. nat_le z.step 9999999999) ys) h) k)
+steps_inserted (y ∷ ys) x h k = search (rules, arith, steps_by, and_right, steps_inserted ys x)
 
 given_kept : (first : BoardState) (t : TimedState) (input : Input) (ks : List KeptBoard)
     → never_falls t.inputs ≡ true → AreWithin t.taken ks → AreKept first t.inputs ks
@@ -133,8 +118,7 @@ given_kept first t input ks rising within h = kept_with first t.inputs t.taken i
 given_steps : (t : TimedState) (input : Input) → HasSteps t.inputs → t.taken ≤ 9999999999
     → HasSteps (given t input).inputs
 unfolding with_due
-given_steps t input h k =
-    steps_inserted t.inputs (record { step = t.taken; input = input }) h (le t.taken 9999999999 k)
+given_steps t input h k = search (rules, arith, steps_inserted, le)
 
 module _ (s new : SessionState) (p q : ℕ) (ks : List KeptBoard) (h : Stands s p q ks) where
   abbrev first : BoardState
@@ -145,27 +129,14 @@ module _ (s new : SessionState) (p q : ℕ) (ks : List KeptBoard) (h : Stands s 
 
   stands : new.program ≡ s.program → new.limit ≡ s.limit → IsReached first new.timed
       → HasSteps new.timed.inputs → AreKept first new.timed.inputs ks → Stands new p q ks
-  stands same limit r small kept = (
-    record {
-      boots = rw same h.0.boots;
-      reached = rw same r;
-      steps = small;
-      limit = limit ∙ h.0.limit;
-    },
-    rw same kept,
-  )
+  stands same limit r small kept = search (rules, arith)
 
   timed_stands : new ≡ record s { timed = new.timed } → IsReached first new.timed
       → new.timed.inputs ≡ s.timed.inputs → Stands new p q ks
-  timed_stands e r same =
-      stands (ap (λ u. u.program) e) (ap (λ u. u.limit) e) r (subst HasSteps (sym same) h.0.steps)
-      (subst (λ (xs : List TimedInput). AreKept first xs ks) (sym same) h.1)
+  timed_stands e r same = search (rules, arith, stands)
 
   same_timed : new.program ≡ s.program → new.limit ≡ s.limit → new.timed ≡ s.timed → Stands new p q ks
-  same_timed same limit e =
-      stands same limit (subst (IsReached first) (sym e) h.0.reached)
-      (subst (λ (t : TimedState). HasSteps t.inputs) (sym e) h.0.steps)
-      (subst (λ (t : TimedState). AreKept first t.inputs ks) (sym e) h.1)
+  same_timed same limit e = search (rules, arith, stands)
 
   unchanged : new ≡ s → Stands new p q ks
   unchanged e = same_timed (ap (λ u. u.program) e) (ap (λ u. u.limit) e) (ap (λ u. u.timed) e)
@@ -211,10 +182,8 @@ module _ (s new : SessionState) (p q : ℕ) (ks : List KeptBoard) (h : Stands s 
   left None e = unchanged e
   left (Some (Step n)) t = took set.empty n t
   left (Some (Go n)) t = took s.breakpoints.addresses (going_for s n) t
-  left (Some (SetBreak addr)) e =
-      same_timed (ap (λ u. u.program) e) (ap (λ u. u.limit) e) (ap (λ u. u.timed) e)
-  left (Some (ClearBreak addr)) e =
-      same_timed (ap (λ u. u.program) e) (ap (λ u. u.limit) e) (ap (λ u. u.timed) e)
+  left (Some (SetBreak addr)) e = search (rules, arith, same_timed)
+  left (Some (ClearBreak addr)) e = search (rules, arith, same_timed)
   left (Some Registers) e = unchanged e
   left (Some (ControlRegister name csr)) e = unchanged e
   left (Some (Memory addr count)) e = unchanged e
@@ -262,14 +231,7 @@ module _ (s new : SessionState) (p q : ℕ) (ks : List KeptBoard) (h : Stands s 
 
   pub gave : (r : Result Unit NoMemory) (input : Input) → s.timed.taken ≤ s.limit → AreWithin s.timed.taken ks
       → OnOk r (new ≡ record s { timed = given s.timed input }) → OnErr r (new ≡ s) → Stands new p q ks
-  gave (Ok u) input most within e err =
-      let timed : new.timed ≡ given s.timed input = ap (λ u. u.timed) e in
-      stands (ap (λ u. u.program) e) (ap (λ u. u.limit) e)
-      (subst (IsReached first) (sym timed) (given_stands first s.timed input h.0.reached))
-      (subst (λ (t : TimedState). HasSteps t.inputs) (sym timed)
-      (given_steps s.timed input h.0.steps (omega (arith, h.0.limit))))
-      (subst (λ (t : TimedState). AreKept first t.inputs ks) (sym timed)
-      (given_kept first s.timed input ks h.0.reached.rising within h.1))
+  gave (Ok u) input most within e err = search (rules, arith, stands, given_stands, given_steps, given_kept)
   gave (Err refusal) input most within ok e = unchanged e
 
   -- ---- going back
@@ -295,9 +257,7 @@ module _ (s new : SessionState) (p q : ℕ) (ks : List KeptBoard) (h : Stands s 
           (inputs_kept (begun first s.timed.inputs) new.timed n back_is)
 
       pub went_back : after_call ≡ gone_back (record { session = s; pages = p; slots = q }) n
-      went_back =
-          ap (λ (u : SessionState). record { session = u; pages = p; slots = q })
-          (alone ∙ ap (λ (t : TimedState). record s { timed = t }) back_is)
+      went_back = search (rules, arith, alone, back_is)
 
     pub back_any : (r : Result Stop NoMemory) → OnOk r (Took set.empty (n - k) (resumed_at s board k) new)
         → OnErr r (new ≡ s) → Stands new p q ks

@@ -1,13 +1,11 @@
 -- Calls of a session are runs.
-use Rattle.std.proofs.Common.{◌≡◌, ◌∙◌, ℕ, suc, ◌+◌, ◌-◌, ◌<◌, ◌≤◌, Bool, true, false, refl, sym, ap, subst, arith, inl, inr, ⊎_elim}
+use Rattle.std.proofs.Common.{rules}
+use Rattle.std.proofs.Common.{◌≡◌, ◌∙◌, ℕ, suc, ◌+◌, ◌-◌, ◌<◌, ◌≤◌, Bool, true, false, refl, ap, subst, arith, inl, inr, ⊎_elim}
 use Rattle.std.specs.Prelude.{◌&&◌, min, nat_lt, if◌then◌else◌, is_some, unwrap_or, Option, Some, None, Result, Ok, Err, OnErr}
 use Rattle.rv_base.specs.declared.memory.NoMemory.{NoMemory}
 use Rattle.std.specs.FinSet as set
 use Rattle.std.proofs.lemmas.Bool.{cases_lt, false≢true}
-use Rattle.std.proofs.lemmas.Bool.Decides.{nat_tests}
-use Rattle.rv_board.specs.Support.State.{halted_of, pc_of}
 use Rattle.rv_monitor.specs.State.{Addresses, SessionState, TimedState, after, with_due}
-use Rattle.rv_monitor.specs.Support.TimedCalls.{most_of}
 use Rattle.rv_monitor.specs.Stops.{Took, WasRefused, steps_between, stop_after, stop_of}
 use Rattle.rv_monitor.specs.declared.stop.Stop.{Stop}
 use Rattle.rv_monitor.specs.declared.stop.Stop.TheVariants as stopped
@@ -64,28 +62,19 @@ module _ (a : Addresses) (n : ℕ) (s t : SessionState) where
 
   none_at : (i : ℕ) → s.timed.taken + i < s.limit → stop_after a (after s.timed i).board i ≡ None → ends i ≡ None
   unfolding stop_after
-  none_at i room e =
-      let b = (after s.timed i).board in
-      let less : (after s.timed i).taken < s.limit = omega (arith, room, taken i) in
-      none_by (halted_of b) (nat_lt 0 i) (nat_lt 0 i && set.contains a (pc_of b)) _ e (grind (arith, nat_tests, less))
+  none_at i room e = search (rules, arith, taken, none_by)
 
   over_at_stop : (i : ℕ) → is_some (stop_after a (after s.timed i).board i) ≡ true → is_some (ends i) ≡ true
   unfolding stop_after
-  over_at_stop i e =
-      let b = (after s.timed i).board in
-      stops_by (halted_of b) (nat_lt 0 i) (nat_lt 0 i && set.contains a (pc_of b)) _ e
+  over_at_stop i e = search (rules, arith, stops_by)
 
   over_when_full : (i : ℕ) → s.limit ≤ s.timed.taken + i → is_some (ends i) ≡ true
-  over_when_full i full =
-      let b = (after s.timed i).board in
-      let most : s.limit ≤ (after s.timed i).taken = omega (arith, full, taken i) in
-      full_by (halted_of b) (nat_lt 0 i) (nat_lt 0 i && set.contains a (pc_of b)) _ (grind (arith, nat_tests, most))
+  over_when_full i full = search (rules, arith, taken, full_by)
 
   told : (i : ℕ) → end_by (unwrap_or (stop_after a (after s.timed i).board i) stopped.Limit)
       (nat_lt (after s.timed i).taken s.limit) ≡ unwrap_or (ends i) Limit
   unfolding stop_after
-  told i =
-      let b = (after s.timed i).board in told_by (halted_of b) (nat_lt 0 i) (nat_lt 0 i && set.contains a (pc_of b)) _
+  told i = search (rules, arith, told_by)
 
   due_between : (k : ℕ) → t.timed ≡ with_due (after s.timed k) → k ≡ steps_between s.timed t.timed
   unfolding after with_due
@@ -96,11 +85,7 @@ module _ (a : Addresses) (n : ℕ) (s t : SessionState) where
     going i l = none_at i (omega (arith, l, r.within)) (r.going i l)
 
     last_over : r.count < n → is_some (ends r.count) ≡ true
-    last_over l = ⊎_elim
-        (λ less. over_at_stop r.count (ap (λ (u : TimedState). is_some (stop_after a u.board r.count))
-        (sym (ap (λ (u : SessionState). u.timed) r.state)) ∙ r.least less))
-        (λ full. over_when_full r.count (omega (arith, l, full)))
-        (cases_lt r.count (most_of s n))
+    last_over l = search (rules, arith, over_at_stop, over_when_full, cases_lt)
 
     steps_are : steps_of ends n ≡ r.count
     steps_are = ⊎_elim
@@ -111,23 +96,15 @@ module _ (a : Addresses) (n : ℕ) (s t : SessionState) where
         (cases_lt r.count n)
 
     between : steps_between s.timed t.timed ≡ r.count
-    between =
-        let now = ap (λ (u : SessionState). u.timed.taken) r.state in omega (arith, now, taken r.count)
+    between = search (rules, arith, taken)
 
     end_told : (stop : Stop) → stop ≡ stop_of a s t
         → end_by stop (nat_lt t.timed.taken t.limit) ≡ unwrap_or (ends r.count) Limit
-    end_told stop e =
-        ap (λ (w : Stop). end_by w (nat_lt t.timed.taken t.limit)) e
-        ∙ (ap (λ (k : ℕ). end_by (unwrap_or (stop_after a t.timed.board k) stopped.Limit) (nat_lt t.timed.taken t.limit)) between
-        ∙ (ap (λ (u : SessionState). end_by (unwrap_or (stop_after a u.timed.board r.count) stopped.Limit)
-        (nat_lt u.timed.taken u.limit)) r.state ∙ told r.count))
+    end_told stop e = search (rules, arith, between, told)
 
     pub took_ran : (stop : Stop) (end : End) → stop ≡ stop_of a s t → end ≡ end_by stop (nat_lt t.timed.taken t.limit)
         → HasRun ends n s t end
-    took_ran stop end e is = record {
-      state = r.state ∙ ap (λ (k : ℕ). record s { timed = after s.timed k }) (sym steps_are);
-      ended = is ∙ (end_told stop e ∙ ap (λ (k : ℕ). unwrap_or (ends k) Limit) (sym steps_are));
-    }
+    took_ran stop end e is = search (rules, arith, steps_are, end_told)
 
   refused_ran : WasRefused a n s t → IsRefusedIn ends n s t
   refused_ran w =

@@ -53,19 +53,13 @@ returns-clause-ok c =
     c.loop-done.invariant)
 
 pub returns-clause-calls : goal.returns-clause-calls
-returns-clause-calls c =
-    open_limit c.args.calls.now c.args.self.now c.loop-done.self c.loop-done.calls c.loop-done.done
-    c.loop-done.invariant
+returns-clause-calls c = search (rules, arith, open_limit)
 
 pub returns-in-Ok-Some-clause-others : goal.returns-in-Ok-Some-clause-others
-returns-in-Ok-Some-clause-others c =
-    others_ended _ _ _ _ _ _ _ _ c.loop-done.invariant c.in-Ok-Some.ensures
+returns-in-Ok-Some-clause-others c = search (rules, arith, others_ended)
 
 pub returns-in-Err-clause-others : goal.returns-in-Err-clause-others
-returns-in-Err-clause-others c =
-    others_refused _ _ _ _ _ _ _ _ c.loop-done.invariant c.in-Err.ensures
+returns-in-Err-clause-others c = search (rules, arith, others_refused)
 
 pub returns-clause-others : goal.returns-clause-others
-returns-clause-others c =
-    others_out c.args.calls.now c.args.self.now c.loop-done.self c.loop-done.calls c.loop-done.done
-    c.loop-done.invariant
+returns-clause-others c = search (rules, arith, others_out)

@@ -35,9 +35,7 @@ returns-in-Ok-Some-clause-ok c =
     (omega arith) c.loop-done.invariant (rw c.in-Ok-Some.field-0-is at c.in-Ok-Some.ensures)
 
 pub returns-in-Ok-Some-clause-others : goal.returns-in-Ok-Some-clause-others
-returns-in-Ok-Some-clause-others c =
-    others_next _ c.args.self.now c.loop-done.self c.step_until.new.self c.loop-done.done _ _
-    c.loop-done.invariant c.in-Ok-Some.ensures
+returns-in-Ok-Some-clause-others c = search (rules, arith, others_next)
 
 pub returns-in-Err-clause-err : goal.returns-in-Err-clause-err
 returns-in-Err-clause-err c =
@@ -47,18 +45,10 @@ returns-in-Err-clause-err c =
     (omega arith) c.loop-done.invariant c.in-Err.ensures
 
 pub returns-in-Err-clause-others : goal.returns-in-Err-clause-others
-returns-in-Err-clause-others c =
-    others_due _ c.args.self.now c.loop-done.self c.step_until.new.self c.loop-done.done
-    (until_ends c.args.condition c.args.self.now.session c.loop-done.done) _
-    c.loop-done.invariant c.in-Err.ensures
+returns-in-Err-clause-others c = search (rules, arith, others_due)
 
 pub returns-clause-ok : goal.returns-clause-ok
-returns-clause-ok c =
-    let all : c.loop-done.done ≡ c.args.most = omega arith in
-    limit (until_ends c.args.condition c.args.self.now.session) c.args.self.now c.loop-done.self c.args.most
-    (subst (Going (until_ends c.args.condition c.args.self.now.session)
-    c.args.self.now c.loop-done.self) all c.loop-done.invariant)
+returns-clause-ok c = search (rules, arith, limit, Going)
 
 pub returns-clause-others : goal.returns-clause-others
-returns-clause-others c =
-    others_at _ c.args.self.now c.loop-done.self c.loop-done.done c.loop-done.invariant
+returns-clause-others c = search (rules, arith, others_at)
