@@ -11,6 +11,7 @@ mod texts;
 use crate::hostile::answers::{Text, is_answered};
 use crate::hostile::changes::{Dice, change};
 use crate::hostile::streams::are_answered;
+pub use crate::hostile::streams::{NONE, Texts, run};
 use crate::hostile::texts::{COMMANDS, INPUTS, SOURCE, TIMER};
 use rv_base::NoMemory;
 use std::alloc::Global;

@@ -1,10 +1,10 @@
 //! Rows: small sources with timed inputs and commands, and what boards and whole runs have to answer to them; and
 //! faulty sources, and what has to be said of them.
 //!
-//! Each argument names a file of rows; those in `data/` hold them by topic. Two arguments ask for checks that have
-//! no rows: `--hostile` and `--isolation`. The program answers each row anew
-//! and compares: it prints the first line of each row that gets another answer, and counts the rows. After
-//! the argument `--answers` it prints the rows with the answers that they get instead.
+//! Each argument names a file of rows; those in `data/` hold them by topic. Three arguments ask for checks that
+//! have no rows: `--hostile`, `--isolation` and `--refusals`. The program answers each row anew and compares: it
+//! prints the first line of each row that gets another answer, and counts the rows, unless `--refusals` is the
+//! only argument. After the argument `--answers` it prints the rows with the answers that they get instead.
 //!
 //! A blank line separates two rows. The first byte of a line says what it is:
 //!
@@ -36,6 +36,7 @@ mod devices;
 mod hostile;
 mod image;
 mod isolation;
+mod refusals;
 mod report;
 mod row;
 mod runs;
@@ -70,6 +71,10 @@ fn check_argument(rt: &HostRuntime, word: &str, report: &mut Report) -> io::Resu
         isolation::print_check(rt);
         return Ok(Count::NONE);
     }
+    if word == "--refusals" {
+        refusals::print_answers(rt);
+        return Ok(Count::NONE);
+    }
     check_file(rt, word, report)
 }
 
@@ -88,6 +93,11 @@ fn asks_for_answers(words: &[String]) -> bool {
     words.len() > 1 && words[1].as_str() == "--answers"
 }
 
+/// Whether the only argument asks for the runs with a refused allocation: then nothing else allocates after them.
+fn asks_for_refusals(words: &[String]) -> bool {
+    words.len() == 2 && words[1].as_str() == "--refusals"
+}
+
 /// Returns the arguments that ask for a check; the first is the program's own.
 fn asked(words: &[String]) -> &[String] {
     let first: usize = if asks_for_answers(words) { 2 } else { 1 };
@@ -97,6 +107,10 @@ fn asked(words: &[String]) -> &[String] {
 /// Does what the arguments say. Returns whether each row has the answers that it got.
 fn run(rt: &HostRuntime) -> io::Result<bool> {
     let words: Vec<String> = env::args(rt)?.collect(rt.alloc())?;
+    if asks_for_refusals(words.as_slice()) {
+        refusals::print_answers(rt);
+        return Ok(true);
+    }
     let mut report = Report::new(rt.alloc());
     let all = check_arguments(rt, asked(words.as_slice()), &mut report)?;
     let text = report.text(asks_for_answers(words.as_slice()));

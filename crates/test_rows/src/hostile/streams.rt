@@ -17,10 +17,26 @@ const COMMANDS: &[u8] = b"s\nm 0x10000004 1\nb 0x8000000c\nc\n";
 const WRITTEN: &[u8] =
     b"stop limit pc=80000004 mode=M steps=1\n10000004: --\nbreak 8000000c\nstop break pc=8000000c mode=M steps=3\nZ\nrunning at 8000000c after 3 steps\n";
 
+/// The options of all runs.
 const OPTIONS: Options = Options {
     steps: 10,
     pages: 1,
     slots: 64,
+};
+
+/// The texts of a run.
+#[derive(Clone, Copy)]
+pub struct Texts<'a> {
+    pub source: &'a [u8],
+    pub inputs: &'a [u8],
+    pub commands: &'a [u8],
+}
+
+/// These texts.
+const ECHOED: Texts<'static> = Texts {
+    source: ECHO,
+    inputs: INPUTS,
+    commands: COMMANDS,
 };
 
 /// Which readers and writers fail, and after how many good calls.
@@ -33,7 +49,7 @@ pub struct Failure {
 }
 
 /// No failure.
-const NONE: Failure = Failure {
+pub const NONE: Failure = Failure {
     source: None,
     inputs: None,
     commands: None,
@@ -63,18 +79,19 @@ fn writer(alloc: Global, most: usize, good: Option<u64>) -> MemoryOut
     }
 }
 
-/// Does a run whose readers and writer move up to `most` bytes a call, and returns how it ended, which of
+/// Does a run of texts whose readers and writer move up to `most` bytes a call, and returns how it ended, which of
 /// them failed, and what was written.
-fn run(
+pub fn run(
     alloc: Global,
+    texts: Texts<'_>,
     most: usize,
     fails: Failure,
 ) -> (Result<Ending, CliFault>, [bool; 4], MemoryOut)
     requires { 1 ≤ most }
 {
-    let mut source = reader(ECHO, most, fails.source);
-    let mut inputs = reader(INPUTS, most, fails.inputs);
-    let mut commands = Some(reader(COMMANDS, most, fails.commands));
+    let mut source = reader(texts.source, most, fails.source);
+    let mut inputs = reader(texts.inputs, most, fails.inputs);
+    let mut commands = Some(reader(texts.commands, most, fails.commands));
     let mut out = writer(alloc, most, fails.out);
     let outcome = run_text(
         alloc,
@@ -101,13 +118,13 @@ fn run(
 fn is_whole(alloc: Global, most: usize) -> bool
     requires { 1 ≤ most }
 {
-    let (outcome, failed, out) = run(alloc, most, NONE);
+    let (outcome, failed, out) = run(alloc, ECHOED, most, NONE);
     outcome == Ok(Ending::Running) && failed == [false; 4] && out.bytes() == WRITTEN
 }
 
 /// Whether a run ends with the fault of the one reader that failed, and writes nothing.
 fn stops_at_reader(alloc: Global, fails: Failure, fault: CliFault, failed: [bool; 4]) -> bool {
-    let (outcome, did, out) = run(alloc, 3, fails);
+    let (outcome, did, out) = run(alloc, ECHOED, 3, fails);
     outcome == Err(fault) && did == failed && out.bytes().is_empty()
 }
 
@@ -117,7 +134,7 @@ fn stops_at_writer(alloc: Global, good: u64) -> bool {
         out: Some(good),
         ..NONE
     };
-    let (outcome, did, out) = run(alloc, 3, fails);
+    let (outcome, did, out) = run(alloc, ECHOED, 3, fails);
     let Some(written) = WRITTEN.get(..(good as usize).saturating_mul(3)) else {
         return false;
     };

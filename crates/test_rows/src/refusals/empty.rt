@@ -1,5 +1,6 @@
 //! An empty source on the largest memory.
-use rv_asm::{FaultKind, Program, assemble};
+use crate::refusals::{Missing, program};
+use rv_asm::Program;
 use rv_board::{BootFault, BootedBoard};
 use std::alloc::Global;
 
@@ -13,8 +14,9 @@ fn boots_right(alloc: Global, program: &Program) -> bool {
 
 /// Whether the source is assembled and boots, or memory ran out.
 pub fn answers_right(alloc: Global) -> bool {
-    match assemble(alloc, b"") {
+    match program(alloc, b"") {
         Ok(program) => boots_right(alloc, &program),
-        Err(fault) => fault.line == 0 && fault.kind == FaultKind::OutOfMemory,
+        Err(Missing::Refused) => true,
+        Err(Missing::Wrong) => false,
     }
 }

@@ -1,5 +1,6 @@
 //! A user program that the protection of memory stops, assembled, booted and run.
-use rv_asm::{FaultKind, Program, assemble};
+use crate::refusals::{Missing, program};
+use rv_asm::Program;
 use rv_board::{BootFault, BootedBoard, Event, TrapRecord};
 use std::alloc::Global;
 use test_compare::same_everywhere;
@@ -55,8 +56,9 @@ fn runs_right(alloc: Global, program: &Program) -> bool {
 
 /// Whether the source is assembled and runs, or memory ran out.
 pub fn answers_right(alloc: Global) -> bool {
-    match assemble(alloc, GUARDED) {
+    match program(alloc, GUARDED) {
         Ok(program) => runs_right(alloc, &program),
-        Err(fault) => fault.line == 0 && fault.kind == FaultKind::OutOfMemory,
+        Err(Missing::Refused) => true,
+        Err(Missing::Wrong) => false,
     }
 }

@@ -1,7 +1,6 @@
 //! A whole run, from its texts to its output.
-use rv_cli::{
-    CliFault, Ending, MemoryIn, MemoryOut, Options, TextIn, TextOut, exit_status, run_text,
-};
+use crate::hostile::{NONE, Texts, run};
+use rv_cli::{CliFault, Ending, TextOut, exit_status};
 use std::alloc::Global;
 
 /// A source that sends `H` and halts.
@@ -18,27 +17,18 @@ const COMMANDS: &[u8] = b"b 0x8000000c\nc\nc\nq\n";
 const WRITTEN: &[u8] =
     b"break 8000000c\nstop break pc=8000000c mode=M steps=3\nstop halted pc=8000001c mode=M steps=7\nH\nhalted 0 after 7 steps\n";
 
+/// The texts of the run.
+const TEXTS: Texts<'static> = Texts {
+    source: HELLO,
+    inputs: INPUTS,
+    commands: COMMANDS,
+};
+
 /// Whether the run writes its output; or memory ran out, and it writes nothing; or memory ran out in its
 /// writer, which has then taken a beginning of the output.
 pub fn answers_right(alloc: Global) -> bool {
-    let options = Options {
-        steps: 10,
-        pages: 1,
-        slots: 64,
-    };
-    let mut source = MemoryIn::new(HELLO);
-    let mut inputs = MemoryIn::new(INPUTS);
-    let mut commands = Some(MemoryIn::new(COMMANDS));
-    let mut out = MemoryOut::new(alloc);
-    let outcome = run_text(
-        alloc,
-        &mut source,
-        &mut inputs,
-        &mut commands,
-        options,
-        &mut out,
-    );
-    if source.failed() || inputs.failed() {
+    let (outcome, [source_failed, inputs_failed, _, _], out) = run(alloc, TEXTS, usize::MAX, NONE);
+    if source_failed || inputs_failed {
         return false;
     }
     match outcome {

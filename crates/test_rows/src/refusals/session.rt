@@ -1,5 +1,5 @@
 //! Sessions: their lists, steps, breakpoints and commands.
-use rv_asm::{FaultKind, Program, assemble};
+use crate::refusals::{Missing, program};
 use rv_base::NoMemory;
 use rv_board::{BootFault, BootedBoard};
 use rv_cache::DecodeCache;
@@ -10,44 +10,25 @@ use std::alloc::Global;
 
 type BootedSession = Session<PagedRam, DecodeCache>;
 
-/// Why there is no session.
-pub enum NoSession {
-    /// Memory ran out.
-    Refused,
-    /// An answer is wrong.
-    Wrong,
-}
-
 /// Returns a session of up to `limit` steps over a source with a timed list.
 fn session(
     alloc: Global,
     source: &[u8],
     inputs: &[u8],
     limit: u64,
-) -> Result<BootedSession, NoSession> {
+) -> Result<BootedSession, Missing> {
     let program = program(alloc, source)?;
     let timeline = match Timeline::read(alloc, inputs) {
         Ok(timeline) => timeline,
-        Err(TimelineFault::OutOfMemory) => return Err(NoSession::Refused),
-        Err(_) => return Err(NoSession::Wrong),
+        Err(TimelineFault::OutOfMemory) => return Err(Missing::Refused),
+        Err(_) => return Err(Missing::Wrong),
     };
     let board = match BootedBoard::boot(alloc, &program, 2, 64) {
         Ok(board) => board,
-        Err(BootFault::OutOfMemory) => return Err(NoSession::Refused),
-        Err(_) => return Err(NoSession::Wrong),
+        Err(BootFault::OutOfMemory) => return Err(Missing::Refused),
+        Err(_) => return Err(Missing::Wrong),
     };
     Ok(Session::new(alloc, board, timeline, program, limit))
-}
-
-/// Assembles a source. Where memory runs out, the fault has to name no line.
-fn program(alloc: Global, source: &[u8]) -> Result<Program, NoSession> {
-    match assemble(alloc, source) {
-        Ok(program) => Ok(program),
-        Err(fault) if fault.line == 0 && fault.kind == FaultKind::OutOfMemory => {
-            Err(NoSession::Refused)
-        }
-        Err(_) => Err(NoSession::Wrong),
-    }
 }
 
 /// A source that sends a received byte.
@@ -153,8 +134,8 @@ fn stops_right(alloc: Global, session: &mut BootedSession) -> bool {
 fn echo_answers_right(alloc: Global) -> bool {
     match session(alloc, ECHO, b"0 rx 5a\n2 rx 41\n", 9) {
         Ok(mut session) => sends_right(&mut session),
-        Err(NoSession::Refused) => true,
-        Err(NoSession::Wrong) => false,
+        Err(Missing::Refused) => true,
+        Err(Missing::Wrong) => false,
     }
 }
 
@@ -162,8 +143,8 @@ fn echo_answers_right(alloc: Global) -> bool {
 fn timer_answers_right(alloc: Global) -> bool {
     match session(alloc, TIMER, b"0 rx 00\n1 line 3 1\n", 100) {
         Ok(mut session) => stops_right(alloc, &mut session),
-        Err(NoSession::Refused) => true,
-        Err(NoSession::Wrong) => false,
+        Err(Missing::Refused) => true,
+        Err(Missing::Wrong) => false,
     }
 }
 
