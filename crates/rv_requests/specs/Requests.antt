@@ -12,7 +12,7 @@ use Rattle.rv_requests.specs.declared.names.FileCall.{FileCall}
 use Rattle.rv_requests.specs.declared.names.FileCall.TheVariants.{Naming, Opening, Reading, Sizing, Closing}
 use Rattle.rv_requests.specs.declared.names.Packet.{Packet}
 use Rattle.rv_requests.specs.declared.names.Packet.TheVariants.{ToStepBack, ToContinueBack, ToTellSupport, ToStopAcks, ToTellActions, ToAct, ToTransfer, ToCallFile, ToCommand, ToTellThreads, ToTellMoreThreads, ToTellThread, ToDescribeThread, ToTellAttached, ToOffer, ToRun, ToKill}
-use Rattle.rv_requests.specs.declared.request.Window.{Window}
+use Rattle.rv_requests.specs.declared.request.Extent.{Extent}
 use Rattle.rv_requests.specs.declared.request.Part.{Part}
 use Rattle.rv_requests.specs.declared.request.Part.TheVariants.{Features, MemoryMap, ProgramPath}
 use Rattle.rv_requests.specs.declared.request.Point.{Point}
@@ -36,8 +36,8 @@ abbrev pub signal : List ℕ → Request → Request
 signal text request = or_malformed (hex_byte text) (λ s. request)
 
 -- a part of a text: its first byte, and the most bytes
-abbrev pub window : ℕ → ℕ → Window
-window from most = record { from = from; most = most }
+abbrev pub extent : ℕ → ℕ → Extent
+extent from most = record { from = from; most = most }
 
 -- the kind of a point
 abbrev pub point : ℕ → Option Point
@@ -66,7 +66,7 @@ abbrev pub register : List ℕ → Request
 register text = or_malformed (number text) (λ n. Register n)
 
 abbrev pub memory : List ℕ → Request
-memory text = or_malformed (pair text) (λ w. Memory (window w.0 w.1))
+memory text = or_malformed (pair text) (λ w. Memory (extent w.0 w.1))
 
 -- whether gdb asks to stop: the last part of its answer is `C`
 abbrev pub answered : List ℕ → Request
@@ -80,8 +80,8 @@ abbrev pub command : List ℕ → Request
 command digits = or_malformed (bytes_of digits) (λ line. Command line)
 
 -- `FILE,MOST,FROM`: the one file that can be open has any number
-abbrev pub file_window : List ℕ → Request
-file_window text = or_malformed (triple text) (λ t. ReadFile (window t.2 t.1))
+abbrev pub file_extent : List ℕ → Request
+file_extent text = or_malformed (triple text) (λ t. ReadFile (extent t.2 t.1))
 
 -- ---- rows
 
@@ -112,7 +112,7 @@ unfoldable pub transfer : List ℕ → Request
 transfer text =
     let operands = behind 0x3a (behind 0x3a (behind 0x3a text)) in
     if bytes_eq (before 0x3a (behind 0x3a text)) (codes "read")
-    then option_map_or (λ p. or_malformed (pair operands) (λ w. Read p (window w.0 w.1))) (part (before 0x3a text)) Unknown
+    then option_map_or (λ p. or_malformed (pair operands) (λ w. Read p (extent w.0 w.1))) (part (before 0x3a text)) Unknown
     else Unknown
 
 -- the calls of `vFile` by their names, and what they ask for
@@ -124,7 +124,7 @@ file_calls =
 unfoldable pub by_call : FileCall → List ℕ → Request
 by_call Naming operands = SetFiles
 by_call Opening operands = open_file (before 0x2c operands)
-by_call Reading operands = file_window operands
+by_call Reading operands = file_extent operands
 by_call Sizing operands = FileSize
 by_call Closing operands = Close
 

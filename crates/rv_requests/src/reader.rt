@@ -5,7 +5,7 @@ ghost use Rattle.rv_requests.specs.Requests as spec;
 
 use crate::names::{FileCall, Packet, file_call_named, packet_named};
 use crate::numbers::{before, behind, number, pair, triple};
-use crate::request::{Part, Point, Request, Window};
+use crate::request::{Extent, Part, Point, Request};
 use crate::text::read_text;
 use rv_base::{NoMemory, hex_byte};
 use std::alloc::Global;
@@ -70,7 +70,7 @@ fn read_memory(more: &[u8]) -> Request
     ensures { result ≡ spec.memory more.now }
 {
     match pair(more) {
-        Some((from, most)) => Request::Memory(Window { from, most }),
+        Some((from, most)) => Request::Memory(Extent { from, most }),
         None => Request::Malformed,
     }
 }
@@ -174,7 +174,7 @@ fn read_transfer(text: &[u8]) -> Request
         return Request::Unknown;
     };
     match pair(behind(behind(rest, b':'), b':')) {
-        Some((from, most)) => Request::Read(part, Window { from, most }),
+        Some((from, most)) => Request::Read(part, Extent { from, most }),
         None => Request::Malformed,
     }
 }
@@ -201,10 +201,10 @@ fn read_line(alloc: Global, digits: &[u8]) -> Result<Request, NoMemory>
 
 /// Reads the operands of `vFile:pread`.
 fn read_file(operands: &[u8]) -> Request
-    ensures { result ≡ spec.file_window operands.now }
+    ensures { result ≡ spec.file_extent operands.now }
 {
     match triple(operands) {
-        Some((_, most, from)) => Request::ReadFile(Window { from, most }),
+        Some((_, most, from)) => Request::ReadFile(Extent { from, most }),
         None => Request::Malformed,
     }
 }

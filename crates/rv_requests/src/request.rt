@@ -3,7 +3,7 @@ use std::marker::Model;
 
 /// A part of a text or of a file.
 #[derive(Clone, Copy)]
-pub struct Window {
+pub struct Extent {
     /// The number of its first byte, from 0.
     pub from: u32,
     /// The most bytes of it.
@@ -76,7 +76,7 @@ pub enum Request {
     /// `p`: the register of this number.
     Register(u32),
     /// `m`: bytes of memory.
-    Memory(Window),
+    Memory(Extent),
     /// `s`, `S`: a step.
     Step,
     /// `r` of `vCont`: steps until the pc is at none of some addresses: from the first one on, below the second.
@@ -100,13 +100,13 @@ pub enum Request {
     /// `vCont?`: the actions of `vCont`.
     Actions,
     /// `qXfer`: a part of a text.
-    Read(Part, Window),
+    Read(Part, Extent),
     /// `vFile:setfs`: to name files as the target does.
     SetFiles,
     /// `vFile:open`: to open the file of this path.
     Open(Text),
     /// `vFile:pread`: a part of the open file.
-    ReadFile(Window),
+    ReadFile(Extent),
     /// `vFile:fstat`: the open file's size.
     FileSize,
     /// `vFile:close`: to close it.
