@@ -1,6 +1,6 @@
 -- The sources above the threshold that the controller keeps, and the level of the external line by them.
 use Rattle.std.proofs.Common.{rules}
-use Rattle.std.proofs.Common.{◌≡◌, ◌≢◌, ℕ, ◌+◌, ◌<◌, ◌≤◌, Bool, true, false, List, replicate, refl, sym, ◌∙◌, ap, arith}
+use Rattle.std.proofs.Common.{◌≡◌, ◌≢◌, ℕ, ◌+◌, ◌<◌, ◌≤◌, Bool, true, false, List, replicate, sym, ◌∙◌, ap, arith}
 use Rattle.std.specs.Prelude.{◌&&◌, nat_lt, length, slice_index, slice_set}
 use Rattle.std.specs.FinSet.{contains, insert, remove, intersection, empty, contains-empty, contains-insert, contains-intersection}
 use Rattle.std.specs.Ordering.{nat_cmp}
@@ -46,14 +46,10 @@ set_here ps t s v long high = ap (nat_lt t) (get_or-set_same ps s v 0 (omega (ar
 module _ (ps : List ℕ) (t s v : ℕ) (above : Sources) (is : sources_above ps t ≡ above) (long : length ps ≡ 32)
     (low : 0 < s) (high : s < 32) where
   it : (b : Bool) → nat_lt t v ≡ b → contains (sources_above (slice_set ps s v) t) s ≡ b
-  it b over =
-      contains-above (slice_set ps s v) t s
-      ∙ this_above ps t s v s b low high refl (set_here ps t s v long high ∙ over)
+  it b over = search (rules, nat_tests, contains-above, this_above, set_here)
 
   others : (q : ℕ) → (q ≡ s → ⊥) → contains (sources_above (slice_set ps s v) t) q ≡ contains above q
-  others q other =
-      contains-above (slice_set ps s v) t q ∙ other_above ps t s v q other
-      ∙ sym (ap (λ u. contains u q) (sym is) ∙ contains-above ps t q)
+  others q other = search (rules, nat_tests, contains-above, other_above, contains)
 
   pub above_raised : t < v → sources_above (slice_set ps s v) t ≡ insert above s
   above_raised over = inserted above _ s (it true (lt-ltb t v over)) others

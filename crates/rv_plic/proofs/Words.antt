@@ -35,19 +35,11 @@ removed_it high s = search (rules, contains-remove, nat_cmp_total, eq-eqb)
 
 pub inserted : (s t : Sources) (n : ℕ) → contains t n ≡ true
     → ((q : ℕ) → (q ≡ n → ⊥) → contains t q ≡ contains s q) → t ≡ insert s n
-inserted s t n it others =
-    same_sources t (insert s n) (λ q. elim (cases_eq q n) [
-      | inl e ↦ ap (contains t) e ∙ it ∙ sym (ap (contains (insert s n)) e ∙ inserted_it s n)
-      | inr other ↦ others q other ∙ sym (inserted_other s n q other)
-    ])
+inserted s t n it others = search (rules, nat_tests, same_sources, insert, cases_eq, contains, inserted_it, inserted_other)
 
 pub removed : (s t : Sources) (n : ℕ) → contains t n ≡ false
     → ((q : ℕ) → (q ≡ n → ⊥) → contains t q ≡ contains s q) → t ≡ remove s n
-removed s t n it others =
-    same_sources t (remove s n) (λ q. elim (cases_eq q n) [
-      | inl e ↦ ap (contains t) e ∙ it ∙ sym (ap (contains (remove s n)) e ∙ removed_it s n)
-      | inr other ↦ others q other ∙ sym (removed_other s n q other)
-    ])
+removed s t n it others = search (rules, nat_tests, same_sources, remove, cases_eq, contains, removed_it, removed_other)
 
 -- ---- the operations of sets as those of words
 pub or_word : (a b : ℕ) → IsSourceWord a → IsSourceWord b → IsSourceWord (bit_or a b)

@@ -192,16 +192,12 @@ any_meets s a n w = search (rules, any_between, nat_tests)
 any_matched : (lower : ℕ) (e : Entry) (a n : ℕ)
     → list_any (matched e.matching lower e.address) (range_with_len a (suc n))
     ≡ meets (span_of lower e) a (a + suc n)
-any_matched lower e a n =
-    ap (λ (p : ℕ → Bool). list_any p (range_with_len a (suc n))) (λ i byte. entry-between lower e byte i)
-    ∙ any_meets (span_of lower e) a n (whole lower e)
+any_matched lower e a n = search (rules, nat_tests, entry-between, any_meets, whole)
 
 all_matched : (lower : ℕ) (e : Entry) (a n : ℕ)
     → list_all (matched e.matching lower e.address) (range_with_len a (suc n))
     ≡ holds (span_of lower e) a (a + suc n)
-all_matched lower e a n =
-    ap (λ (p : ℕ → Bool). list_all p (range_with_len a (suc n))) (λ i byte. entry-between lower e byte i)
-    ∙ all_between (span_of lower e).first (span_of lower e).«end» a n
+all_matched lower e a n = search (rules, nat_tests, entry-between, all_between)
 
 -- ---- the decision by spans is the one by number
 
@@ -246,11 +242,7 @@ matches-after lower e es (suc n) = refl
 decided-after : (mode : Mode) (access : Access) (bytes : List ℕ) (lower : ℕ) (e : Entry) (es : List Entry)
     → decided_from mode access bytes lower (e ∷ es) (range_with_len 1 (length es))
     ≡ decided_from mode access bytes e.address es (range_with_len 0 (length es))
-decided-after mode access bytes lower e es =
-    found_after _ _ _ _ (is_machine mode)
-    (λ n. ap (λ (m : ℕ → Bool). list_any m bytes) (matches-after lower e es n))
-    (λ n. ap (λ (m : ℕ → Bool). list_all m bytes && permits (get_or es n off_entry) mode access)
-    (matches-after lower e es n)) 0 1 (length es) refl
+decided-after mode access bytes lower e es = search (rules, nat_tests, found_after, matches-after)
 
 decision-spans : (mode : Mode) (access : Access) (a n lower : ℕ) (es : List Entry)
     → unwrap_or (decision mode access a (a + suc n) (actives_from lower es)) (is_machine mode)
@@ -376,8 +368,7 @@ decided_each pmp mode access first count i h (n ∷ ns) granted =
 pub grants_each : (pmp : PmpState) (mode : Mode) (access : Access) (first count i : ℕ) → i < count
     → grants pmp mode access first count ≡ true → grants pmp mode access (first + i) 1 ≡ true
 unfolding grants
-grants_each pmp mode access first count i h granted =
-    decided_each pmp mode access first count i h (range_with_len 0 (length pmp.entries)) granted
+grants_each pmp mode access first count i h granted = search (rules, nat_tests, decided_each)
 
 -- the answer of `allowed`: that of the entry that decides, or that of the mode
 pub grants-some : (pmp : PmpState) (mode : Mode) (access : Access) (first count : ℕ) (granted : Bool)
