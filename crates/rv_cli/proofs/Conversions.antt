@@ -1,5 +1,5 @@
 -- The faults of a run are those that its texts mean.
-use Rattle.std.proofs.Common.{◌≡◌, ◌∙◌, ℕ, List, Ok, Err, ap, refl, subst, sym}
+use Rattle.std.proofs.Common.{rules, arith, ◌≡◌, ◌∙◌, ℕ, List, Ok, Err, ap, refl, subst, sym}
 use Rattle.std.specs.Prelude.{◌≢◌}
 use Rattle.rv_asm.specs.Assembly.{assembled}
 use Rattle.rv_monitor.specs.State.{SessionState}
@@ -58,8 +58,7 @@ refused_by texts options kind.OutOfRange why h kept = h
 pub source_refused : (texts : Texts) (options : Options) (source : List ℕ) (why : AsmFault)
     → source ≡ texts.source → Fails why (assembled source) → source_fault why.kind why ≢ OutOfMemory
     → IsOutput texts options (Err (source_fault why.kind why))
-source_refused texts options source why same h kept =
-    refused_by texts options why.kind why (subst (λ s. Fails why (assembled s)) same h) kept
+source_refused texts options source why same h kept = search (rules, arith, refused_by)
 
 opening_meant : (texts : Texts) (options : Options) (why : OpenFault) → OpensFor texts options (Err why)
     → unopened_fault why ≢ OutOfMemory → IsOutput texts options (Err (unopened_fault why))

@@ -1,5 +1,5 @@
 -- The text that `{n:08x}` writes.
-use Rattle.std.proofs.Common.{◌≡◌, ◌∙◌, ℕ, zero, suc, ◌-◌, ◌*◌, ◌/◌, ◌%◌, ◌^◌, ◌<◌, [], ◌∷◌, ◌++◌, length, replicate, refl, sym, ap, ⊎_elim, append_assoc, arith}
+use Rattle.std.proofs.Common.{rules, ◌≡◌, ◌∙◌, ℕ, zero, suc, ◌-◌, ◌*◌, ◌/◌, ◌%◌, ◌^◌, ◌<◌, [], ◌∷◌, ◌++◌, length, replicate, refl, sym, ap, ⊎_elim, append_assoc, arith}
 use Rattle.std.specs.Prelude.{false}
 use Rattle.std.proofs.Math.Nat.{div-div-eq-div-mul}
 use Rattle.std.proofs.lemmas.Bool.{cases_lt}
@@ -11,9 +11,7 @@ use Rattle.rv_base.proofs.Hexadecimal.{hex_one, hex_more, one_long, one_longer}
 -- the digits of a number at one place more: those of a sixteenth of it, and the last
 hex_next : (k n : ℕ) → hex (suc k) n ≡ hex k (n / 16) ++ digit (n % 16) ∷ []
 unfolding hex
-hex_next zero n =
-    let one : n / 16 ^ 0 ≡ n = omega arith in
-    ap (λ d. digit (d % 16) ∷ []) one
+hex_next zero n = search (rules, arith)
 hex_next (suc k) n =
     ap (λ d. digit (d % 16) ∷ hex (suc k) n) (place k n)
     ∙ ap (λ t. digit (n / 16 / 16 ^ k % 16) ∷ t) (hex_next k n)
@@ -27,18 +25,13 @@ hex_next (suc k) n =
 hex_zeros : (k : ℕ) → hex k 0 ≡ replicate k 48
 unfolding hex
 hex_zeros zero = refl
-hex_zeros (suc k) =
-    let none : 0 / 16 ^ k ≡ 0 = omega arith in
-    ap (λ d. digit (d % 16) ∷ hex k 0) none ∙ ap (λ t. 48 ∷ t) (hex_zeros k)
+hex_zeros (suc k) = search (rules, arith, hex_zeros k)
 
 -- the digits of a number below 16 ^ k, with zeros in front up to k digits
 pub padded : (k n : ℕ) → n < 16 ^ suc k → n < 2 ^ 32 →
     replicate (suc k - length (digits 16 false n)) 48 ++ digits 16 false n ≡ hex (suc k) n
 unfolding hex
-padded zero n h small =
-    let below : n < 16 = omega arith in
-    let none : suc zero - length (digits 16 false n) ≡ 0 = omega (arith, one_long n below) in
-    ap (λ i. replicate i 48 ++ digits 16 false n) none ∙ hex_one n below ∙ sym (hex_next zero n)
+padded zero n h small = search (rules, arith, one_long, hex_one, hex_next)
 padded (suc k) n h small = ⊎_elim
     (λ l.
     let none : n / 16 ≡ 0 = omega arith in

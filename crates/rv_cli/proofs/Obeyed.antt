@@ -1,5 +1,5 @@
 -- Command lines, executed one after another.
-use Rattle.std.proofs.Common.{◌≡◌, ◌++◌, ◌∷◌, [], ℕ, List, Option, Some, None, refl, sym, subst, append_assoc, append-nil}
+use Rattle.std.proofs.Common.{rules, arith, ◌≡◌, ◌++◌, ◌∷◌, [], ℕ, List, Option, Some, None, refl, sym, subst, append_assoc, append-nil}
 use Rattle.rv_commands.specs.declared.command.Command.{Command}
 use Rattle.rv_commands.specs.declared.command.Command.TheVariants as command
 use Rattle.rv_monitor.specs.Support.Answers.{next_of}
@@ -54,12 +54,7 @@ pub one_done : (all left more : List (List ℕ)) (line : List ℕ) (first now ne
     → Leaves (command_in line now) now next
     → Continues all first more next (text ++ answer (command_in line now) now next)
 one_done all left more line first now next text so_far cut more_follow leaves new following h =
-    let said = answer (command_in line now) now next in
-    let rest : Obeys left now new (said ++ following) =
-    subst (λ (ls : List (List ℕ)). Obeys ls now new (said ++ following)) (sym cut)
-    (obeys_more line more now next new following more_follow leaves h) in
-    subst (λ (t : List ℕ). Obeys all first new t) (sym (append_assoc text said following))
-    (so_far new (said ++ following) rest)
+    search (rules, arith, obeys_more, append_assoc)
 
 -- after all lines
 pub all_done : (all left : List (List ℕ)) (first now : SessionState) (text : List ℕ) →
@@ -75,7 +70,4 @@ pub quit_done : (all left more : List (List ℕ)) (line : List ℕ) (first now n
     → Continues all first left now text → left ≡ line ∷ more → Quit ≡ next_of (command_in line now)
     → Leaves (command_in line now) now next
     → Obeys all first next (text ++ answer (command_in line now) now next)
-quit_done all left more line first now next text so_far cut quit leaves =
-    let said = answer (command_in line now) now next in
-    so_far next said (subst (λ (ls : List (List ℕ)). Obeys ls now next said) (sym cut)
-    (obeys_last line more now next quit leaves))
+quit_done all left more line first now next text so_far cut quit leaves = search (rules, arith, obeys_last)

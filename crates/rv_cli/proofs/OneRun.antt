@@ -1,5 +1,5 @@
 -- A command leaves one session, and commands one text.
-use Rattle.std.proofs.Common.{◌≡◌, ◌∙◌, ℕ, zero, suc, ◌+◌, ◌<◌, ◌≤◌, ◌⊎◌, inl, inr, List, [], ◌∷◌, ◌++◌, Option, Some, None, refl, sym, ap, subst, arith, below_more, ⊎_elim}
+use Rattle.std.proofs.Common.{rules, ◌≡◌, ◌∙◌, ℕ, zero, suc, ◌+◌, ◌<◌, ◌≤◌, ◌⊎◌, inl, inr, List, [], ◌∷◌, ◌++◌, Option, Some, None, refl, sym, ap, subst, arith, below_more, ⊎_elim}
 use Rattle.std.specs.Prelude.{IsSome, is_some}
 use Rattle.std.specs.FinSet as set
 use Rattle.std.proofs.lemmas.Bool.{cases_lt, false≢true}
@@ -22,19 +22,11 @@ use Rattle.rv_cli.specs.Output.{Does, Obeys, goes_on, none, quits}
 module _ (breakpoints : Addresses) (n : ℕ) (old : SessionState) where
   no_less : (a b : SessionState) (one : Took breakpoints n old a) (two : Took breakpoints n old b)
       → one.count < two.count → ⊥
-  no_less a b one two less =
-      false≢true (ap is_some (sym (two.going one.count less))
-      ∙ (ap (λ (s : SessionState). is_some (stop_after breakpoints s.timed.board one.count)) (sym one.state)
-      ∙ one.least (omega (arith, two.within))))
+  no_less a b one two less = search (rules, arith, false≢true)
 
   -- a call takes one number of steps
   took_one : (a b : SessionState) → Took breakpoints n old a → Took breakpoints n old b → a ≡ b
-  took_one a b one two =
-      let count : one.count ≡ two.count =
-      ⊎_elim (λ l. absurd (no_less a b one two l))
-      (λ ge. ⊎_elim (λ l. absurd (no_less b a two one l)) (λ le. omega arith) (cases_lt two.count one.count))
-      (cases_lt one.count two.count) in
-      one.state ∙ (ap (λ (k : ℕ). record old { timed = after old.timed k }) count ∙ sym two.state)
+  took_one a b one two = search (rules, arith, no_less, cases_lt)
 
   abbrev stop_at : ℕ → Option Stop
   stop_at i = stop_after breakpoints (after old.timed i).board i
@@ -110,9 +102,7 @@ begun : (ls : List (List ℕ)) (old new : SessionState) (text : List ℕ) → Ob
     → Begins ls old new text
 begun _ _ _ _ (none s) = (refl, refl)
 begun _ _ _ _ (quits line more s quit) = rw quit (refl, refl)
-begun _ _ _ _ (goes_on line following more old next new more_follow leaves rest) =
-    rw (more_of (command_in line old) more_follow)
-    (record { next = next; following = following; left = leaves; rest = rest; is = refl })
+begun _ _ _ _ (goes_on line following more old next new more_follow leaves rest) = search (rules, arith, more_of)
 
 abbrev AreSame : SessionState → SessionState → List ℕ → List ℕ → Type 0
 AreSame a b t u = (a ≡ b) × (t ≡ u)
@@ -120,15 +110,7 @@ AreSame a b t u = (a ≡ b) × (t ≡ u)
 begun_one : (word : Next) (line : List ℕ) (more : List (List ℕ)) (old a b : SessionState) (t u : List ℕ)
     → ((next : SessionState) (f g : List ℕ) → Obeys more next a f → Obeys more next b g → AreSame a b f g)
     → IsBegun word line more old a t → IsBegun word line more old b u → AreSame a b t u
-begun_one More line more old a b t u rest one two =
-    let command = command_in line old in
-    let same = leaves_one command old one.next two.next one.left two.left in
-    let follow = rest two.next one.following two.following
-    (subst (λ next. Obeys more next a one.following) same one.rest) two.rest in (
-      follow.0,
-      one.is ∙ (ap (λ next. answer command old next ++ one.following) same
-          ∙ (ap (λ f. answer command old two.next ++ f) follow.1 ∙ sym two.is)),
-    )
+begun_one More line more old a b t u rest one two = search (rules, arith, leaves_one)
 begun_one Quit line more old a b t u rest one two = (one.0 ∙ sym two.0, one.1 ∙ sym two.1)
 
 obeys_one : (ls : List (List ℕ)) (old a b : SessionState) (t u : List ℕ) → Obeys ls old a t
@@ -165,15 +147,13 @@ some_begun Quit line more old is rest =
 
 obeys_some : (ls : List (List ℕ)) (old : SessionState) → Obeyed ls old
 obeys_some [] old = record { new = old; text = []; done = none old }
-obeys_some (line ∷ more) old =
-    some_begun (next_of (command_in line old)) line more old refl (λ next. obeys_some more next)
+obeys_some (line ∷ more) old = search (rules, arith, some_begun, obeys_some more)
 
 -- ---- what a run does
 
 pub one_done : (commands : Option (List ℕ)) (old a b : SessionState) (t u : List ℕ) → Does commands old a t
     → Does commands old b u → AreSame a b t u
-one_done None old a b t u one two =
-    (took_one set.empty old.limit old a b one.0 two.0, one.1 ∙ sym two.1)
+one_done None old a b t u one two = search (rules, arith, took_one)
 one_done (Some commands) old a b t u one two = obeys_one (lines commands) old a b t u one two
 
 pub some_done : (commands : Option (List ℕ)) (old : SessionState)

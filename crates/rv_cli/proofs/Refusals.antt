@@ -1,5 +1,5 @@
 -- The results of a run, by those of its parts and by what the texts mean.
-use Rattle.std.proofs.Common.{◌≡◌, Option, Some, None, Ok, Err, subst}
+use Rattle.std.proofs.Common.{rules, arith, ◌≡◌, Option, Some, None, Ok, Err, subst}
 use Rattle.std.specs.Prelude.{◌≢◌, ℕ, true, false, IfSome, IsErrAnd, List, Result, length, take}
 use Rattle.rv_options.specs.declared.Options.{Options}
 use Rattle.rv_io.specs.Support.Calls.{GaveIf, Readers, Texts, WroteBeginning}
@@ -28,11 +28,7 @@ is_sound_if (Some reader) None g = absurd g
 
 -- readers that gave their texts are sound
 are_sound : (r : Readers) (texts : Texts) → Reads r (Ok texts) → Reads r (Err read.OutOfMemory)
-are_sound r texts g = (
-  is_sound r.source texts.source g.0,
-  is_sound r.inputs texts.inputs g.1,
-  is_sound_if r.commands texts.commands g.2,
-)
+are_sound r texts g = search (rules, arith, is_sound, is_sound_if)
 
 -- the texts were not read
 pub refused_unread : (r : Readers) (out : Side) (options : Options) (why : ReadFault) → Reads r (Err why) →

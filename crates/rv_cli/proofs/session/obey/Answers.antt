@@ -1,4 +1,4 @@
-use Rattle.std.proofs.Common.{◌≡◌, ◌∙◌, rules}
+use Rattle.std.proofs.Common.{arith, ◌≡◌, rules}
 use Rattle.rv_base.specs.Lines.{lines}
 use Rattle.rv_monitor.specs.Support.Answers.{next_of}
 use Rattle.rv_monitor.specs.Commands.{command_in}
@@ -8,14 +8,7 @@ use Rattle.rv_cli.proofs.Obeyed.{none_done, one_done, all_done, quit_done}
 use Rattle.rv_cli.proofs.session.obey.Goals as goal
 
 pub loop-line-init : goal.loop-line-init
-loop-line-init g c =
-    let all : c.into_iter-line-iterator.result ≡ lines c.args.commands.now =
-    c.into_iter-line-iterator.ensures.into_iter_gives ∙ c.cut_lines-line-items.ensures.cut in
-    record {
-      can_next = tt;
-      is_finite = tt;
-      so_far = rw (all, c.new-text.ensures.items) (none_done (lines c.args.commands.now) c.args.session.now);
-    }
+loop-line-init g c = search (rules, arith, none_done)
 
 pub loop-line-preserved : goal.loop-line-preserved
 loop-line-preserved g c =
@@ -45,7 +38,4 @@ returns-in-Quit g c =
     c.in_ok-command.ensures.ok)
 
 pub returns : goal.returns
-returns g c =
-    all_done (lines c.args.commands.now) c.loop-line.line-iterator c.args.session.now c.loop-line.session
-    c.loop-line.text.items
-    c.loop-line.invariant.so_far c.in-None.ensures.steps.0
+returns g c = search (rules, arith, all_done)
