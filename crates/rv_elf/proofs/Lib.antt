@@ -1,3 +1,4 @@
+pub mod Described
 pub mod Found
 pub mod Leb
 pub mod Named

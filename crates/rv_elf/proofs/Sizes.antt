@@ -4,11 +4,10 @@ use Rattle.std.proofs.lemmas.Bool.{cases_lt}
 use Rattle.std.proofs.lemmas.List.Concat.{length-flat_map}
 use Rattle.rv_elf.specs.Elf.{Section, sections}
 use Rattle.rv_elf.specs.Symbols.{Symbol}
-use Rattle.rv_elf.specs.Size.{step_size, rows_size, lines_size, symbols_size, file_size}
+use Rattle.rv_elf.specs.Size.{step_size, rows_size, lines_size, symbols_size, info_size, file_size}
 use Rattle.rv_elf.specs.declared.lines.PlacedLine.{PlacedLine}
 use Rattle.rv_elf.specs.Support.LineBytes.{leb_bytes, line_step, row_bytes, rows_bytes, end_bytes, program_bytes, header_bytes, table_bytes}
 use Rattle.rv_elf.specs.declared.object.Tables.{Tables}
-use Rattle.rv_elf.specs.declared.info.TheConstants.{ABBREVIATIONS, ATTRIBUTES}
 use Rattle.rv_elf.specs.Support.Sections.{Parts, parts, section_names, sections_of}
 use Rattle.rv_elf.specs.Support.Tables.{names, table_of, strings_of}
 use Rattle.rv_elf.specs.Support.Written.{AreSmall, section_header, section_headers, bodies, bodies_from, file_header, program_header, file_of}
@@ -96,9 +95,9 @@ pub tables_have : (strings table : List ℕ) (ss : List Symbol) → strings ≡ 
     length table + length strings ≡ 17 + symbols_size (map (λ (s : Symbol). s.name) ss)
 tables_have strings table ss e f = rw (e, f) (omega (arith, length_entries 1 ss, names_have ss))
 
-pub strings_exceed : (image : List ℕ) (ss : List Symbol) (lines : List PlacedLine) (name folder : List ℕ) →
-    2 ^ 32 ≤ 1 + length (names ss) → 2 ^ 32 ≤ file_size image (map (λ (s : Symbol). s.name) ss) lines name folder
-strings_exceed image ss lines name folder h = omega (arith, names_have ss)
+pub strings_exceed : (image : List ℕ) (ss : List Symbol) (lines : List PlacedLine) (name : List ℕ) →
+    2 ^ 32 ≤ 1 + length (names ss) → 2 ^ 32 ≤ file_size image (map (λ (s : Symbol). s.name) ss) lines name
+strings_exceed image ss lines name h = omega (arith, names_have ss)
 
 -- ---- a file
 
@@ -129,38 +128,40 @@ pub file_has : (k : ℕ) (ss : List Section) → AreSmall ss → length ss < 0xf
 file_has k ss small few low = rw (file_sections k ss small few low) (file_length k ss)
 
 parts_are : (p : Parts) (count : ℕ) → length (bodies (sections_of p count)) ≡ length p.table + length p.image
-    + length p.strings + length p.attributes + length p.abbreviations + length p.info + length p.lines + length p.ranges + 104
+    + length p.strings + length p.attributes + length p.abbreviations + length p.info + length p.lines + length p.ranges + length p.frames + length p.macros + 130
 parts_are p count =
-    let names : length section_names ≡ 104 = refl in
+    let names : length section_names ≡ 130 = refl in
     omega (arith, names, length-flat_map (λ (s : Section). s.contents) (sections_of p count))
 
-object_size : (n : ℕ) (image : List ℕ) (t : Tables) (count : ℕ) (names : List (List ℕ)) (lines : List PlacedLine)
-    (name folder : List ℕ) → n ≡ 84 + 40 * length (sections_of (parts image t) count) + length (bodies (sections_of (parts image t) count)) →
+object_size : (n : ℕ) (attributes abbreviations image : List ℕ) (t : Tables) (frames macros : List ℕ) (count : ℕ) (names : List (List ℕ))
+    (symbols : List Symbol) (lines : List PlacedLine) (name folder : List ℕ) →
+    n ≡ 84 + 40 * length (sections_of (parts attributes abbreviations image t frames macros) count) + length (bodies (sections_of (parts attributes abbreviations image t frames macros) count)) →
+    length attributes ≡ 52 → length abbreviations ≡ 34 →
     length t.symbols.table.items + length t.symbols.strings.items ≡ 17 + symbols_size names →
-    length t.info.items ≡ 44 + length name + length folder → length t.lines.items ≡ lines_size name lines →
-    length t.ranges.items ≡ 32 → n ≡ file_size image names lines name folder
-object_size n image t count names lines name folder h s i l r =
-    let a : length ATTRIBUTES.now ≡ 52 = refl in
-    let b : length ABBREVIATIONS.now ≡ 20 = refl in
-    omega (arith, h, a, b, s, i, l, r, parts_are (parts image t) count)
+    length t.info.items ≡ info_size name folder symbols → length t.lines.items ≡ lines_size name lines →
+    length t.ranges.items ≡ 32 → n ≡ file_size image names lines name + info_size name folder symbols + length frames + length macros
+object_size n attributes abbreviations image t frames macros count names symbols lines name folder h a b s i l r =
+    omega (arith, h, a, b, s, i, l, r, parts_are (parts attributes abbreviations image t frames macros) count)
 
-pub object_has : (file image : List ℕ) (t : Tables) (count : ℕ) (names : List (List ℕ)) (lines : List PlacedLine)
-    (name folder : List ℕ) → sections file ≡ sections_of (parts image t) count →
+pub object_has : (file attributes abbreviations image : List ℕ) (t : Tables) (frames macros : List ℕ) (count : ℕ) (names : List (List ℕ))
+    (symbols : List Symbol) (lines : List PlacedLine) (name folder : List ℕ) → sections file ≡ sections_of (parts attributes abbreviations image t frames macros) count →
     length file ≡ 84 + 40 * length (sections file) + length (bodies (sections file)) →
+    length attributes ≡ 52 → length abbreviations ≡ 34 →
     length t.symbols.table.items + length t.symbols.strings.items ≡ 17 + symbols_size names →
-    length t.info.items ≡ 44 + length name + length folder → length t.lines.items ≡ lines_size name lines →
-    length t.ranges.items ≡ 32 → length file ≡ file_size image names lines name folder
-object_has file image t count names lines name folder is h =
-    object_size (length file) image t count names lines name folder (h ∙ ap (λ (ss : List Section). 84 + 40 * length ss + length (bodies ss)) is)
+    length t.info.items ≡ info_size name folder symbols → length t.lines.items ≡ lines_size name lines →
+    length t.ranges.items ≡ 32 → length file ≡ file_size image names lines name + info_size name folder symbols + length frames + length macros
+object_has file attributes abbreviations image t frames macros count names symbols lines name folder is h a b =
+    object_size (length file) attributes abbreviations image t frames macros count names symbols lines name folder
+    (h ∙ ap (λ (ss : List Section). 84 + 40 * length ss + length (bodies ss)) is) a b
 
 -- each symbol has 17 bytes at least
 pub symbols_have : (ss : List Symbol) → 17 * length ss ≤ symbols_size (map (λ (s : Symbol). s.name) ss)
 symbols_have [] = omega arith
 symbols_have (s ∷ ss) = omega (arith, symbols_have ss)
 
-pub symbols_exceed : (image : List ℕ) (ss : List Symbol) (lines : List PlacedLine) (name folder : List ℕ) →
-    (1 + length ss < 2 ^ 32 → ⊥) → 2 ^ 32 ≤ file_size image (map (λ (s : Symbol). s.name) ss) lines name folder
-symbols_exceed image ss lines name folder h = ⊎_elim
+pub symbols_exceed : (image : List ℕ) (ss : List Symbol) (lines : List PlacedLine) (name : List ℕ) →
+    (1 + length ss < 2 ^ 32 → ⊥) → 2 ^ 32 ≤ file_size image (map (λ (s : Symbol). s.name) ss) lines name
+symbols_exceed image ss lines name h = ⊎_elim
     (λ l. absurd (h l))
     (λ l. omega (arith, symbols_have ss))
     (cases_lt (1 + length ss) (2 ^ 32))

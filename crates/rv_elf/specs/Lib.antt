@@ -1,4 +1,5 @@
 pub mod Elf
+pub mod Frames
 pub mod LineNumbers
 pub mod Object
 pub mod Size

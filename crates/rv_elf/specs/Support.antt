@@ -1,4 +1,5 @@
 -- Definitions that aren't to audit: each file says why.
+pub mod FrameBytes
 pub mod LineBytes
 pub mod Sections
 pub mod Tables

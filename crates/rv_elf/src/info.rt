@@ -1,18 +1,20 @@
 //! What debuggers ask of a file beside its lines: the compilation unit, its range of addresses, and the extensions that
 //! the machine has. No contract says what these bytes mean.
 ghost use Rattle.std.specs.Prelude.{◌≡◌, ◌≢◌, ◌+◌, ◌^◌, ◌≤◌, IfErr, IfOk, OnOk, length};
+ghost use Rattle.rv_elf.specs.Size.{function_size, functions_size, info_size};
 ghost use Rattle.rv_elf.specs.declared.fault.ElfFault.TheVariants.{TooLarge};
 
 use crate::bytes::{append_halves, append_words};
 use crate::fault::ElfFault;
+use crate::symbols::Symbol;
 use rv_base::{NoMemory, RAM_BASE};
 use std::alloc::Global;
 
-/// The compilation unit's attributes with their forms: DW_AT_stmt_list, low_pc, high_pc, name, comp_dir, producer and
-/// language (DWARF 4, section 7.5.4).
+/// The compilation unit's attributes with their forms: DW_AT_stmt_list, low_pc, high_pc, name, comp_dir, producer,
+/// language and GNU_macros; and those of a function: name, low_pc and high_pc (DWARF 4, section 7.5.4).
 pub const ABBREVIATIONS: &[u8] = &[
-    1, 0x11, 0, 0x10, 0x17, 0x11, 0x01, 0x12, 0x06, 0x03, 0x08, 0x1b, 0x08, 0x25, 0x08, 0x13, 0x05,
-    0, 0, 0,
+    1, 0x11, 1, 0x10, 0x17, 0x11, 0x01, 0x12, 0x06, 0x03, 0x08, 0x1b, 0x08, 0x25, 0x08, 0x13, 0x05,
+    0x99, 0x42, 0x17, 0, 0, 2, 0x2e, 0, 0x03, 0x08, 0x11, 0x01, 0x12, 0x06, 0, 0, 0,
 ];
 
 /// The extensions that the board has, for disassemblers (RISC-V ELF psABI, section 9.4).
@@ -45,10 +47,41 @@ fn append_text(out: &mut Vec<u8>, text: &[u8]) -> Result<(), NoMemory>
     Ok(())
 }
 
-/// Returns the compilation unit of a source of this name in a folder, with an image of this size (DWARF 4, section 3.1).
-pub fn write_info(alloc: Global, name: &[u8], folder: &[u8], size: u32) -> Result<Vec<u8>, ElfFault>
-    ensures size { IfOk result (λ v. length v.items ≡ 44 + length name.now + length folder.now) }
-    ensures large { IfErr result (λ e. e ≡ TooLarge → 2 ^ 32 ≤ 40 + length name.now + length folder.now) }
+/// Appends the entry of a symbol, if it has a size, as functions do (DWARF 4, section 3.3).
+fn append_function(out: &mut Vec<u8>, symbol: &Symbol<'_>) -> Result<(), NoMemory>
+    ensures { OnOk result (length out.new.items ≡ length out.old.items + function_size symbol.now) }
+{
+    if symbol.size > 0 {
+        out.extend_from_slice(&[2])?;
+        append_text(out, symbol.name)?;
+        let fields = [symbol.value, symbol.size];
+        append_words(out, &fields)?;
+    }
+    Ok(())
+}
+
+/// Appends the entries of those of some symbols that have a size, and their end.
+fn append_functions(out: &mut Vec<u8>, symbols: &[Symbol<'_>]) -> Result<(), NoMemory>
+    ensures { OnOk result (length out.new.items ≡ length out.old.items + functions_size symbols.now + 1) }
+{
+    for symbol in symbols {
+        append_function(out, symbol)?;
+    }
+    out.extend_from_slice(&[0])?;
+    Ok(())
+}
+
+/// Returns the compilation unit of a source of this name in a folder, with an image of this size, and its functions: the
+/// symbols that have a size (DWARF 4, sections 3.1 and 3.3).
+pub fn write_info(
+    alloc: Global,
+    name: &[u8],
+    folder: &[u8],
+    size: u32,
+    symbols: &[Symbol<'_>],
+) -> Result<Vec<u8>, ElfFault>
+    ensures size { IfOk result (λ v. length v.items ≡ info_size name.now folder.now symbols.now) }
+    ensures large { IfErr result (λ e. e ≡ TooLarge → 2 ^ 32 ≤ info_size name.now folder.now symbols.now) }
 {
     let mut out = Vec::new(alloc);
     append_halves(&mut out, &[4])?;
@@ -59,6 +92,8 @@ pub fn write_info(alloc: Global, name: &[u8], folder: &[u8], size: u32) -> Resul
     append_text(&mut out, folder)?;
     append_text(&mut out, b"Solartansy rvas")?;
     append_halves(&mut out, &[ASSEMBLER])?;
+    append_words(&mut out, &[0])?;
+    append_functions(&mut out, symbols)?;
     unit_of(alloc, &out)
 }
 

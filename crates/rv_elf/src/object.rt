@@ -1,12 +1,13 @@
 //! The file of an assembled source: its image, its symbols and its lines.
-ghost use Rattle.std.specs.Prelude.{◌≡◌, ◌+◌, ◌*◌, ◌^◌, ◌<◌, ◌≤◌, ◌∷◌, IfErr, IfOk, OnOk, Some, SomeIff, length, map};
+ghost use Rattle.std.specs.Prelude.{◌≡◌, ◌+◌, ◌*◌, ◌^◌, ◌<◌, ◌≤◌, ◌∷◌, IfErr, IfOk, OnOk, Some, SomeIff, codes, length, map};
 ghost use Rattle.rv_elf.specs.declared.fault.ElfFault.TheVariants.{TooLarge};
 ghost use Rattle.rv_base.specs.Limits.{ram_base};
-ghost use Rattle.rv_elf.specs.Elf.{half_at, image_at};
+ghost use Rattle.rv_elf.specs.Elf.{contents, half_at, image_at};
 ghost use Rattle.rv_elf.specs.Elf as elf;
 ghost use Rattle.rv_elf.specs.LineNumbers.{rows_after, Rises};
 ghost use Rattle.rv_elf.specs.Object.{lines_of, symbols_of};
-ghost use Rattle.rv_elf.specs.Size.{file_size};
+ghost use Rattle.rv_elf.specs.Size.{file_size, info_size};
+ghost use Rattle.std.specs.Option.{option_map};
 ghost use Rattle.rv_elf.specs.Symbols.{named, null_symbol};
 ghost use Rattle.rv_elf.specs.Support.Sections.{parts, sections_of};
 ghost use Rattle.rv_elf.specs.Support.Written.{bodies};
@@ -22,7 +23,7 @@ use std::alloc::Global;
 
 /// The names of the sections.
 const SECTION_NAMES: &[u8] =
-    b"\0.symtab\0.text\0.strtab\0.riscv.attributes\0.debug_abbrev\0.debug_info\0.debug_line\0.debug_aranges\0.shstrtab\0";
+    b"\0.symtab\0.text\0.strtab\0.riscv.attributes\0.debug_abbrev\0.debug_info\0.debug_line\0.debug_aranges\0.debug_frame\0.debug_macro\0.shstrtab\0";
 
 /// The index of the section with the image.
 pub const TEXT: u16 = 2;
@@ -42,6 +43,9 @@ pub struct Object<'a> {
     pub name: &'a [u8],
     /// The folder that the name is relative to.
     pub folder: &'a [u8],
+    /// The tables of its frames and of its macros.
+    pub frames: &'a [u8],
+    pub macros: &'a [u8],
 }
 
 /// Returns a section that isn't loaded, by the offset of its name, its kind and its bytes.
@@ -61,7 +65,7 @@ fn plain(name: u32, kind: u32, contents: &[u8]) -> Section<'_>
     }
 }
 
-/// What the sections of a file have beside its image.
+/// What the sections of a file have that is made of an assembled source.
 #[derive(Drop)]
 struct Tables {
     symbols: SymbolTable,
@@ -70,20 +74,20 @@ struct Tables {
     ranges: Vec<u8>,
 }
 
-/// Writes the file of an image and its tables, among them that many symbols.
+/// Writes the file of an object and its tables, among them that many symbols.
 fn write_sections(
     alloc: Global,
-    image: &[u8],
+    object: &Object<'_>,
     tables: &Tables,
     count: u32,
 ) -> Result<Vec<u8>, ElfFault>
-    ensures sections { IfOk result (λ f. elf.sections f.items ≡ sections_of (parts image.now tables.now) count) }
-    ensures names { IfOk result (λ f. half_at f.items 50 ≡ 9) }
-    ensures loaded { IfOk result (λ f. elf.loaded f.items ≡ Some (image_at image.now)) }
+    ensures sections { IfOk result (λ f. elf.sections f.items ≡ sections_of (parts ATTRIBUTES.now ABBREVIATIONS.now object.now.image.now tables.now object.now.frames.now object.now.macros.now) count) }
+    ensures names { IfOk result (λ f. half_at f.items 50 ≡ 11) }
+    ensures loaded { IfOk result (λ f. elf.loaded f.items ≡ Some (image_at object.now.image.now)) }
     ensures size { IfOk result (λ f. length f.items
         ≡ 84 + 40 * length (elf.sections f.items) + length (bodies (elf.sections f.items))) }
     ensures within { IfOk result (λ f. length f.items < 2 ^ 32) }
-    ensures large { IfErr result (λ e. e ≡ TooLarge → 2 ^ 32 ≤ 484 + length (bodies (sections_of (parts image.now tables.now) count))) }
+    ensures large { IfErr result (λ e. e ≡ TooLarge → 2 ^ 32 ≤ 564 + length (bodies (sections_of (parts ATTRIBUTES.now ABBREVIATIONS.now object.now.image.now tables.now object.now.frames.now object.now.macros.now) count))) }
 {
     let mut null = plain(0, 0, &[]);
     null.alignment = 0;
@@ -92,7 +96,7 @@ fn write_sections(
     symbols.info = count;
     symbols.alignment = 4;
     symbols.entry_size = 16;
-    let mut text = plain(9, 1, image);
+    let mut text = plain(9, 1, object.image);
     text.flags = 7;
     text.address = RAM_BASE;
     text.alignment = 4;
@@ -106,7 +110,9 @@ fn write_sections(
         plain(55, 1, &tables.info),
         plain(67, 1, &tables.lines),
         plain(79, 1, &tables.ranges),
-        plain(94, 3, SECTION_NAMES),
+        plain(94, 1, object.frames),
+        plain(107, 1, object.macros),
+        plain(120, 3, SECTION_NAMES),
     ];
     let bytes = write_file(alloc, &sections, 2)?;
     Ok(bytes)
@@ -141,13 +147,19 @@ pub fn write_object(alloc: Global, object: &Object<'_>) -> Result<Vec<u8>, ElfFa
     ensures symbols { IfOk result (λ f. symbols_of f.items ≡ Some (null_symbol ∷ map named object.now.symbols.now)) }
     ensures lines { IfOk result (λ f. lines_of f.items
         ≡ Some (rows_after 1 object.now.lines.now (ram_base + length object.now.image.now))) }
+    ensures info { IfOk result (λ f. option_map length (contents f.items (codes ".debug_info"))
+        ≡ Some (info_size object.now.name.now object.now.folder.now object.now.symbols.now)) }
+    ensures frames { IfOk result (λ f. contents f.items (codes ".debug_frame") ≡ Some object.now.frames.now) }
+    ensures macros { IfOk result (λ f. contents f.items (codes ".debug_macro") ≡ Some object.now.macros.now) }
     ensures size { IfOk result (λ f. length f.items ≡ file_size object.now.image.now
-        (map (λ s. s.name) object.now.symbols.now) object.now.lines.now object.now.name.now object.now.folder.now) }
+        (map (λ s. s.name) object.now.symbols.now) object.now.lines.now object.now.name.now
+        + info_size object.now.name.now object.now.folder.now object.now.symbols.now + length object.now.frames.now + length object.now.macros.now) }
     ensures end { OnOk result (ram_base + length object.now.image.now < 2 ^ 32) }
     ensures within { IfOk result (λ f. length f.items < 2 ^ 32) }
     ensures large { IfErr result (λ e. e ≡ TooLarge → ram_base + length object.now.image.now < 2 ^ 32 →
         2 ^ 32 ≤ file_size object.now.image.now (map (λ s. s.name) object.now.symbols.now) object.now.lines.now
-        object.now.name.now object.now.folder.now) }
+        object.now.name.now + info_size object.now.name.now object.now.folder.now object.now.symbols.now
+        + length object.now.frames.now + length object.now.macros.now) }
 {
     let Some(end) = end_of(object.image) else {
         return Err(ElfFault::TooLarge);
@@ -157,7 +169,7 @@ pub fn write_object(alloc: Global, object: &Object<'_>) -> Result<Vec<u8>, ElfFa
     };
     let size = end - RAM_BASE;
     let symbols = write_symbols(alloc, object.symbols)?;
-    let info = write_info(alloc, object.name, object.folder, size)?;
+    let info = write_info(alloc, object.name, object.folder, size, object.symbols)?;
     let lines = write_lines(alloc, object.name, object.lines, end)?;
     let ranges = write_ranges(alloc, size)?;
     let tables = Tables {
@@ -166,6 +178,6 @@ pub fn write_object(alloc: Global, object: &Object<'_>) -> Result<Vec<u8>, ElfFa
         lines,
         ranges,
     };
-    let file = write_sections(alloc, object.image, &tables, count)?;
+    let file = write_sections(alloc, object, &tables, count)?;
     Ok(file)
 }

@@ -1,60 +1,146 @@
 -- The labels among the symbols of a file, and how many bytes it has.
-use Rattle.std.proofs.Common.{◌≡◌, ◌∙◌, ℕ, ◌+◌, ◌-◌, ◌^◌, ◌<◌, ◌≤◌, List, [], ◌∷◌, map, take, length, Some, refl, ap, arith}
-use Rattle.std.specs.Prelude.{Option}
-use Rattle.std.specs.Option.{option_map}
-use Rattle.rv_elf.specs.Elf.{text}
+use Rattle.std.proofs.Common.{◌≡◌, ◌∙◌, ℕ, Bool, true, false, ◌+◌, ◌-◌, ◌*◌, ◌^◌, ◌<◌, ◌≤◌, List, [], ◌∷◌, ◌++◌, map, drop, length, Some, None, refl, ap, arith}
+use Rattle.std.specs.Prelude.{Option, codes, nat_lt, if◌then◌else◌}
+use Rattle.std.specs.Option.{option_map, unwrap_or}
+use Rattle.rv_elf.specs.Elf.{contents}
+use Rattle.rv_elf.specs.Frames.{description_of, descriptions}
 use Rattle.rv_elf.specs.Symbols.{Symbol, named, null_symbol}
 use Rattle.rv_elf.specs.Object.{symbols_of}
 use Rattle.rv_asm.specs.Lines.{Listed}
 use Rattle.rv_base.specs.Limits.{ram_base}
-use Rattle.rv_elf.specs.Size.{file_size}
+use Rattle.rv_elf.specs.Size.{file_size, frames_size, functions_size, info_size, symbols_size}
+use Rattle.rv_elf.specs.declared.frames.Function.{Function}
 use Rattle.rv_elf.specs.declared.lines.PlacedLine.{PlacedLine}
-use Rattle.rv_object.specs.Placed.{names_and_values, placed_from, size_of, texts}
-use Rattle.rv_object.specs.Support.Symbols.{label_symbol, source_symbol}
+use Rattle.rv_object.specs.Placed.{all_labels, most_of, name_and_value, names_and_values, placed_from, section_size, size_of, tables_size, texts, AreFrames}
 
-each : (ls : List (List ℕ × ℕ)) →
-    map (λ (s : Symbol). (s.name, s.value)) (take (length ls) (map named (map label_symbol ls))) ≡ texts ls
+-- ---- labels
+
+-- one more symbol
+pub put : (old new : List Symbol) (s : Symbol) → new ≡ old ++ s ∷ [] →
+    map name_and_value new ≡ map name_and_value old ++ name_and_value s ∷ []
+put old new s is = ap (λ (x : List Symbol). map name_and_value x) is ∙ after old s where
+  after : (xs : List Symbol) (s : Symbol) → map name_and_value (xs ++ s ∷ []) ≡ map name_and_value xs ++ name_and_value s ∷ []
+  after [] s = refl
+  after (x ∷ xs) s = ap (λ (r : List (List ℕ × ℕ)). name_and_value x ∷ r) (after xs s)
+
+each : (ss : List Symbol) → map name_and_value (map named ss) ≡ texts (map name_and_value ss)
 each [] = refl
-each (l ∷ ls) = ap (λ (x : List (List ℕ × ℕ)). (text l.0, l.1) ∷ x) (each ls)
+each (s ∷ ss) = ap (λ (x : List (List ℕ × ℕ)). name_and_value (named s) ∷ x) (each ss)
+
+after_first : (ss : List Symbol) (p : List ℕ × ℕ) (ls : List (List ℕ × ℕ)) → map name_and_value ss ≡ p ∷ ls →
+    map name_and_value (drop 1 (map named ss)) ≡ texts ls
+after_first [] p ls e = cc
+after_first (s ∷ ss) p ls e = let rest : map name_and_value ss ≡ ls = cc in each ss ∙ ap texts rest
 
 pub labelled : (file : List ℕ) (symbols : List Symbol) (name : List ℕ) (ls : List (List ℕ × ℕ)) →
-    symbols_of file ≡ Some (null_symbol ∷ map named symbols) →
-    symbols ≡ source_symbol name ∷ map label_symbol ls →
-    option_map (names_and_values (length ls)) (symbols_of file) ≡ Some (texts ls)
+    symbols_of file ≡ Some (null_symbol ∷ map named symbols) → map name_and_value symbols ≡ (name, 0) ∷ ls →
+    option_map names_and_values (symbols_of file) ≡ Some (texts ls)
 labelled file symbols name ls is e =
-    ap (λ (o : Option (List Symbol)). option_map (names_and_values (length ls)) o)
-    (is ∙ ap (λ (x : List Symbol). Some (null_symbol ∷ map named x)) e)
-    ∙ ap (λ (x : List (List ℕ × ℕ)). Some x) (each ls)
+    ap (λ (o : Option (List Symbol)). option_map names_and_values o) is
+    ∙ ap (λ (x : List (List ℕ × ℕ)). Some x) (after_first symbols (name, 0) ls e)
 
-labels_have : (ls : List (List ℕ × ℕ)) →
-    map (λ (s : Symbol). s.name) (map label_symbol ls) ≡ map (λ (l : List ℕ × ℕ). l.0) ls
-labels_have [] = refl
-labels_have (l ∷ ls) = ap (λ (x : List (List ℕ)). l.0 ∷ x) (labels_have ls)
+-- ---- sizes
+
+firsts : (ss : List Symbol) → map (λ (s : Symbol). s.name) ss ≡ map (λ (p : List ℕ × ℕ). p.0) (map name_and_value ss)
+firsts [] = refl
+firsts (s ∷ ss) = ap (λ (x : List (List ℕ)). s.name ∷ x) (firsts ss)
 
 -- the names of the symbols
 names_are : (symbols : List Symbol) (name : List ℕ) (ls : List (List ℕ × ℕ)) →
-    symbols ≡ source_symbol name ∷ map label_symbol ls →
-    map (λ (s : Symbol). s.name) symbols ≡ name ∷ map (λ (l : List ℕ × ℕ). l.0) ls
+    map name_and_value symbols ≡ (name, 0) ∷ ls →
+    map (λ (s : Symbol). s.name) symbols ≡ name ∷ map (λ (p : List ℕ × ℕ). p.0) ls
 names_are symbols name ls is =
-    ap (λ (x : List Symbol). map (λ (s : Symbol). s.name) x) is
-    ∙ ap (λ (x : List (List ℕ)). name ∷ x) (labels_have ls)
+    firsts symbols ∙ ap (λ (x : List (List ℕ × ℕ)). map (λ (p : List ℕ × ℕ). p.0) x) is
 
-pub sizes_are : (image : List ℕ) (symbols : List Symbol) (lines : List PlacedLine) (name folder : List ℕ) (l : Listed) →
-    image ≡ l.assembly.bytes → symbols ≡ source_symbol name ∷ map label_symbol l.labels →
+sizes_are : (image : List ℕ) (symbols : List Symbol) (lines : List PlacedLine) (name : List ℕ) (l : Listed) →
+    image ≡ l.assembly.bytes → map name_and_value symbols ≡ (name, 0) ∷ all_labels l →
     lines ≡ placed_from l 1 (length l.addresses - 1) →
-    file_size image (map (λ (s : Symbol). s.name) symbols) lines name folder ≡ size_of l name folder
-sizes_are image symbols lines name folder l i s p =
-    ap (λ (x : List ℕ). file_size x (map (λ (s : Symbol). s.name) symbols) lines name folder) i
-    ∙ ap (λ (x : List (List ℕ)). file_size l.assembly.bytes x lines name folder) (names_are symbols name l.labels s)
-    ∙ ap (λ (x : List PlacedLine). file_size l.assembly.bytes (name ∷ map (λ (p : List ℕ × ℕ). p.0) l.labels) x name folder) p
+    file_size image (map (λ (s : Symbol). s.name) symbols) lines name ≡ size_of l name
+sizes_are image symbols lines name l i s p =
+    ap (λ (x : List ℕ). file_size x (map (λ (s : Symbol). s.name) symbols) lines name) i
+    ∙ ap (λ (x : List (List ℕ)). file_size l.assembly.bytes x lines name) (names_are symbols name (all_labels l) s)
+    ∙ ap (λ (x : List PlacedLine). file_size l.assembly.bytes (name ∷ map (λ (p : List ℕ × ℕ). p.0) (all_labels l)) x name) p
 
-pub exceeds : (image : List ℕ) (symbols : List Symbol) (lines : List PlacedLine) (name folder : List ℕ) (l : Listed) →
-    image ≡ l.assembly.bytes → symbols ≡ source_symbol name ∷ map label_symbol l.labels →
+-- the compilation unit has no more for its functions than the table of symbols
+one_function : (b : Bool) (n : ℕ) → (if b then 10 + n else 0) ≤ 17 + n
+one_function true n = omega arith
+one_function false n = omega arith
+
+functions_few : (ss : List Symbol) → functions_size ss ≤ symbols_size (map (λ (s : Symbol). s.name) ss)
+functions_few [] = omega arith
+functions_few (s ∷ ss) = omega (arith, one_function (nat_lt 0 s.size) (length s.name), functions_few ss)
+
+info_few : (symbols : List Symbol) (name folder : List ℕ) (l : Listed) →
+    map name_and_value symbols ≡ (name, 0) ∷ all_labels l → info_size name folder symbols
+    ≤ 49 + length name + length folder + symbols_size (name ∷ map (λ (p : List ℕ × ℕ). p.0) (all_labels l))
+info_few symbols name folder l s =
+    let names : symbols_size (map (λ (s : Symbol). s.name) symbols)
+    ≡ symbols_size (name ∷ map (λ (p : List ℕ × ℕ). p.0) (all_labels l)) = ap symbols_size (names_are symbols name (all_labels l) s) in
+    omega (arith, functions_few symbols, names)
+
+length_of : (o : Option (List ℕ)) (n : ℕ) → option_map length o ≡ Some n → length (unwrap_or o []) ≡ n
+length_of None n e = cc
+length_of (Some x) n e = cc
+
+has : (file section name : List ℕ) → contents file name ≡ Some section → section_size file name ≡ length section
+has file section name is = ap (λ (o : Option (List ℕ)). length (unwrap_or o [])) is
+
+-- the three tables of a file
+tables_have : (file frames macros : List ℕ) (info : ℕ) →
+    option_map length (contents file (codes ".debug_info")) ≡ Some info →
+    contents file (codes ".debug_frame") ≡ Some frames → contents file (codes ".debug_macro") ≡ Some macros →
+    tables_size file ≡ info + length frames + length macros
+tables_have file frames macros info i f m =
+    let one : section_size file (codes ".debug_info") ≡ info = length_of (contents file (codes ".debug_info")) info i in
+    let two = has file frames (codes ".debug_frame") f in
+    let three = has file macros (codes ".debug_macro") m in
+    omega (arith, one, two, three)
+
+pub size_is : (file image : List ℕ) (symbols : List Symbol) (lines : List PlacedLine) (name folder frames macros : List ℕ)
+    (l : Listed) → image ≡ l.assembly.bytes → map name_and_value symbols ≡ (name, 0) ∷ all_labels l →
     lines ≡ placed_from l 1 (length l.addresses - 1) →
-    (ram_base + length image < 2 ^ 32 → 2 ^ 32 ≤ file_size image (map (λ (s : Symbol). s.name) symbols) lines name folder) →
-    ram_base + length l.assembly.bytes < 2 ^ 32 → 2 ^ 32 ≤ size_of l name folder
-exceeds image symbols lines name folder l i s p h end =
-    let size = sizes_are image symbols lines name folder l i s p in
+    option_map length (contents file (codes ".debug_info")) ≡ Some (info_size name folder symbols) →
+    contents file (codes ".debug_frame") ≡ Some frames → contents file (codes ".debug_macro") ≡ Some macros →
+    length file ≡ file_size image (map (λ (s : Symbol). s.name) symbols) lines name + info_size name folder symbols
+    + length frames + length macros → length file ≡ size_of l name + tables_size file
+size_is file image symbols lines name folder frames macros l i s p d f m h =
+    let size = sizes_are image symbols lines name l i s p in
+    let tables = tables_have file frames macros (info_size name folder symbols) d f m in
+    omega (arith, size, tables, h)
+
+pub most_is : (file : List ℕ) (symbols : List Symbol) (name folder frames macros : List ℕ) (l : Listed) →
+    map name_and_value symbols ≡ (name, 0) ∷ all_labels l →
+    option_map length (contents file (codes ".debug_info")) ≡ Some (info_size name folder symbols) →
+    contents file (codes ".debug_frame") ≡ Some frames → contents file (codes ".debug_macro") ≡ Some macros →
+    length frames ≤ 40 + 48 * length l.assembly.bytes → length macros ≤ 12 + 2 ^ 28 →
+    tables_size file ≤ most_of l name folder
+most_is file symbols name folder frames macros l s d f m a b =
+    let tables = tables_have file frames macros (info_size name folder symbols) d f m in
+    let few = info_few symbols name folder l s in
+    omega (arith, tables, few, a, b)
+
+pub exceeds : (image : List ℕ) (symbols : List Symbol) (lines : List PlacedLine) (name folder frames macros : List ℕ)
+    (l : Listed) → image ≡ l.assembly.bytes → map name_and_value symbols ≡ (name, 0) ∷ all_labels l →
+    lines ≡ placed_from l 1 (length l.addresses - 1) → length frames ≤ 40 + 48 * length l.assembly.bytes →
+    length macros ≤ 12 + 2 ^ 28 →
+    (ram_base + length image < 2 ^ 32 → 2 ^ 32 ≤ file_size image (map (λ (s : Symbol). s.name) symbols) lines name
+    + info_size name folder symbols + length frames + length macros) →
+    ram_base + length l.assembly.bytes < 2 ^ 32 → 2 ^ 32 ≤ size_of l name + most_of l name folder
+exceeds image symbols lines name folder frames macros l i s p a b h end =
+    let size = sizes_are image symbols lines name l i s p in
+    let few = info_few symbols name folder l s in
     let within : ram_base + length image < 2 ^ 32 = rw i end in
     let above = h within in
-    omega (arith, size, above)
+    omega (arith, size, few, above, a, b)
+
+-- ---- frames
+
+pub framed : (contents : Option (List ℕ)) (section : List ℕ) (fs : List Function) → contents ≡ Some section →
+    descriptions section ≡ map description_of fs → length section ≡ frames_size fs → AreFrames contents
+framed contents section fs is d s = rw is (fs, d, s)
+
+pub few : (n m : ℕ) (slice items : List Function) → slice ≡ items → n ≡ frames_size slice → frames_size items ≤ m → n ≤ m
+few n m slice items is size h = rw (size, is) h
+
+pub many : (n m : ℕ) (slice items : List Function) → slice ≡ items → n ≤ frames_size slice → frames_size items ≤ m → n ≤ m
+many n m slice items is size h = let s = rw is at size in omega (arith, s, h)

@@ -1,2 +1,3 @@
 pub mod Labelled
 pub mod Rising
+pub mod Texts

@@ -1,6 +1,7 @@
-//! The ELF file of an accepted source: its image, its labels and its lines.
+//! The ELF file of an accepted source: its image, its labels and lines, its functions with their frames, and its constants.
 #![tactic(auto)]
 
+mod constants;
 mod elf;
 mod labels;
 mod listing;

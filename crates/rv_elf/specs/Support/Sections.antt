@@ -3,14 +3,14 @@
 use Rattle.std.specs.Prelude.{ℕ, List, [], ◌∷◌, ◌++◌, codes}
 use Rattle.rv_base.specs.Limits.{ram_base}
 use Rattle.rv_elf.specs.Elf.{Section, no_section}
-use Rattle.rv_elf.specs.declared.info.TheConstants.{ABBREVIATIONS, ATTRIBUTES}
 use Rattle.rv_elf.specs.declared.object.Tables.{Tables}
 
 -- the names of the sections
 abbrev pub section_names : List ℕ
 section_names = 0 ∷ (codes ".symtab" ++ 0 ∷ (codes ".text" ++ 0 ∷ (codes ".strtab" ++ 0 ∷ (codes ".riscv.attributes"
     ++ 0 ∷ (codes ".debug_abbrev" ++ 0 ∷ (codes ".debug_info" ++ 0 ∷ (codes ".debug_line" ++ 0
-    ∷ (codes ".debug_aranges" ++ 0 ∷ (codes ".shstrtab" ++ 0 ∷ [])))))))))
+    ∷ (codes ".debug_aranges" ++ 0 ∷ (codes ".debug_frame" ++ 0 ∷ (codes ".debug_macro" ++ 0
+    ∷ (codes ".shstrtab" ++ 0 ∷ [])))))))))))
 
 -- a section that isn't loaded, by the offset of its name, its kind and its bytes
 abbrev pub plain : ℕ → ℕ → List ℕ → Section
@@ -36,18 +36,22 @@ pub record Parts : Type 0 where
   pub info : List ℕ
   pub lines : List ℕ
   pub ranges : List ℕ
+  pub frames : List ℕ
+  pub macros : List ℕ
 
--- the parts of an image and its tables,
-abbrev pub parts : List ℕ → Tables → Parts
-parts image t = record {
+-- the parts of attributes, abbreviations, an image, its tables, its frames and its macros
+abbrev pub parts : List ℕ → List ℕ → List ℕ → Tables → List ℕ → List ℕ → Parts
+parts attributes abbreviations image t frames macros = record {
   table = t.symbols.table.items;
   image = image;
   strings = t.symbols.strings.items;
-  attributes = ATTRIBUTES.now;
-  abbreviations = ABBREVIATIONS.now;
+  attributes = attributes;
+  abbreviations = abbreviations;
   info = t.info.items;
   lines = t.lines.items;
   ranges = t.ranges.items;
+  frames = frames;
+  macros = macros;
 }
 
 -- the sections, with the number of symbols
@@ -61,5 +65,7 @@ sections_of p count = no_section
     ∷ plain 55 1 p.info
     ∷ plain 67 1 p.lines
     ∷ plain 79 1 p.ranges
-    ∷ plain 94 3 section_names
+    ∷ plain 94 1 p.frames
+    ∷ plain 107 1 p.macros
+    ∷ plain 120 3 section_names
     ∷ []

@@ -1,24 +1,54 @@
-use Rattle.std.proofs.Common.{◌∙◌}
+use Rattle.std.proofs.Common.{◌≡◌, ◌∙◌, ◌∷◌, ℕ, List, ◌+◌, ◌*◌, ◌^◌, ◌≤◌, length, map, refl, ap, arith}
 use Rattle.std.proofs.lemmas.Result.{err_from_is_err_and}
 use Rattle.rv_asm.specs.Seen.{seen}
-use Rattle.rv_object.proofs.Labelled.{exceeds, labelled, sizes_are}
+use Rattle.rv_elf.specs.Symbols.{Symbol}
+use Rattle.rv_object.specs.Placed.{all_labels, most_of, name_and_value, size_of}
+use Rattle.rv_object.proofs.Labelled.{exceeds, few, framed, labelled, many, most_is, size_is}
 use Rattle.rv_object.proofs.elf.elf_file.Goals as goal
 
 pub returns-clause-labels : goal.returns-clause-labels
-returns-clause-labels c = labelled c.in_ok-file.file.items c.as_slice.result.now c.args.name.now
-    (seen c.args.listing).labels c.in_ok-file.ensures.symbols (c.as_slice.ensures.value ∙ c.in_ok-symbols.ensures)
+returns-clause-labels c = labelled c.in_ok-file.file.items c.as_slice-3.result.now c.args.name.now
+    (all_labels (seen c.args.listing)) c.in_ok-file.ensures.symbols
+    (ap (λ (x : List Symbol). map name_and_value x) c.as_slice-3.ensures.value ∙ c.in_ok-symbols.ensures)
+
+pub returns-clause-frames : goal.returns-clause-frames
+returns-clause-frames c = framed _ c.in_ok-tables.tables.frames.items c.as_slice.result.now
+    c.in_ok-file.ensures.frames c.in_ok-tables.ensures.frames c.in_ok-tables.ensures.size
 
 pub returns-clause-size : goal.returns-clause-size
-returns-clause-size c = c.in_ok-file.ensures.size
-    ∙ sizes_are c.bytes.result.now c.as_slice.result.now c.as_slice-2.result.now c.args.name.now c.args.folder.now
-    (seen c.args.listing) c.bytes.ensures.value (c.as_slice.ensures.value ∙ c.in_ok-symbols.ensures)
-    (c.as_slice-2.ensures.value ∙ c.in_ok-lines.ensures.value)
+returns-clause-size c = size_is c.in_ok-file.file.items _ c.as_slice-3.result.now c.as_slice-4.result.now
+    c.args.name.now c.args.folder.now c.in_ok-tables.tables.frames.items c.in_ok-tables.tables.macros.items
+    (seen c.args.listing) refl
+    (ap (λ (x : List Symbol). map name_and_value x) c.as_slice-3.ensures.value ∙ c.in_ok-symbols.ensures)
+    (c.as_slice-4.ensures.value ∙ c.in_ok-lines.ensures.value) c.in_ok-file.ensures.info c.in_ok-file.ensures.frames
+    c.in_ok-file.ensures.macros c.in_ok-file.ensures.size
+
+pub returns-clause-most : goal.returns-clause-most
+returns-clause-most c = most_is c.in_ok-file.file.items c.as_slice-3.result.now c.args.name.now c.args.folder.now
+    c.in_ok-tables.tables.frames.items c.in_ok-tables.tables.macros.items (seen c.args.listing)
+    (ap (λ (x : List Symbol). map name_and_value x) c.as_slice-3.ensures.value ∙ c.in_ok-symbols.ensures)
+    c.in_ok-file.ensures.info c.in_ok-file.ensures.frames c.in_ok-file.ensures.macros
+    (few _ _ c.as_slice.result.now c.in_ok-functions.functions.items c.as_slice.ensures.value
+    c.in_ok-tables.ensures.size c.in_ok-functions.ensures) c.in_ok-tables.ensures.macros
+
+pub returns-in_err-tables-clause-large : goal.returns-in_err-tables-clause-large
+returns-in_err-tables-clause-large c =
+    let e = err_from_is_err_and c.from_residual-in_err-tables.result c.from_residual-in_err-tables.ensures.1 in
+    rw (e.1, e.2)
+    (λ is _ _.
+    let low : 2 ^ 32 ≤ 40 + 48 * length (seen c.args.listing).assembly.bytes =
+    many _ _ c.as_slice.result.now c.in_ok-functions.functions.items c.as_slice.ensures.value
+    (c.in_err-tables.ensures.large is) c.in_ok-functions.ensures in
+    omega arith)
 
 pub returns-in_err-file-clause-large : goal.returns-in_err-file-clause-large
 returns-in_err-file-clause-large c =
     let e = err_from_is_err_and c.from_residual-in_err-file.result c.from_residual-in_err-file.ensures.1 in
     rw (e.1, e.2)
     (λ is _.
-    exceeds c.bytes.result.now c.as_slice.result.now c.as_slice-2.result.now c.args.name.now c.args.folder.now
-    (seen c.args.listing) c.bytes.ensures.value (c.as_slice.ensures.value ∙ c.in_ok-symbols.ensures)
-    (c.as_slice-2.ensures.value ∙ c.in_ok-lines.ensures.value) (c.in_err-file.ensures.large is))
+    exceeds _ c.as_slice-3.result.now c.as_slice-4.result.now c.args.name.now c.args.folder.now
+    c.in_ok-tables.tables.frames.items c.in_ok-tables.tables.macros.items (seen c.args.listing) refl
+    (ap (λ (x : List Symbol). map name_and_value x) c.as_slice-3.ensures.value ∙ c.in_ok-symbols.ensures)
+    (c.as_slice-4.ensures.value ∙ c.in_ok-lines.ensures.value)
+    (few _ _ c.as_slice.result.now c.in_ok-functions.functions.items c.as_slice.ensures.value
+    c.in_ok-tables.ensures.size c.in_ok-functions.ensures) c.in_ok-tables.ensures.macros (c.in_err-file.ensures.large is))

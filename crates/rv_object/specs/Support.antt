@@ -1,2 +1,0 @@
--- Definitions that aren't to audit: each file says why.
-pub mod Symbols
