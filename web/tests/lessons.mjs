@@ -74,7 +74,8 @@ async function breakpoint() {
     await idle();
     await page.until(`${mark(line)} === "◉"`);
     check("the run stops at the breakpoint's line", true);
-    same("and has the colour of that", await page.text(".CodeMirror-code .here .CodeMirror-line"), sourceOf("session").split("\n")[line - 1]);
+    const here = (await page.text(".CodeMirror-code .here .CodeMirror-line")).replaceAll("\u00a0", " ");
+    same("and has the colour of that", here, sourceOf("session").split("\n")[line - 1]);
     await page.alt("S");
     await answers("step 5");
     await page.until(`/step 5$/.test(document.getElementById("where").textContent)`);

@@ -146,10 +146,11 @@ async function wrapped() {
     const [first, second] = await page.run(`${lines}.map((it) => it.getBoundingClientRect().height)`);
     check("a wide line goes on below", first > 1.9 * second, `${first} and ${second}`);
     same("so that nothing of it is cut", await page.run(`${lines}[0].scrollWidth <= ${lines}[0].clientWidth`), true);
-    const lefts = `[...${lines}[0].querySelector(".cm-comment").getClientRects()].map((it) => Math.round(it.left))`;
-    const [at, ...others] = await page.run(lefts), letter = first && (await page.run(`${editor}.defaultCharWidth()`));
+    const letter = await page.run(`${editor}.defaultCharWidth()`), pieces = `[...${lines}[0].querySelector(".cm-comment").getClientRects()]`;
+    const words = `${pieces}.filter(({ width }) => width > ${1.5 * letter})`; // and not the blanks at the ends of lines
+    const [at, ...others] = await page.run(`${words}.map(({ left }) => Math.round(left))`);
     check("under its comment", others.every((it) => Math.abs(it - at - 2 * letter) < 3), [at, ...others].join());
-    await page.run(`${editor}.setCursor(0, ${wide.length})`);
+    await page.run(`${editor}.focus(), ${editor}.setCursor(0, ${wide.length})`);
     await page.type("x".repeat(3000));
     await page.until(`!document.querySelector(".CodeMirror-wrap")`);
     check("but where one is very long, none is wrapped", true);

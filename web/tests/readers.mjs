@@ -23,7 +23,7 @@ async function readOf(role, name) {
 
 async function lines() {
     await choose("hello");
-    const read = (await readOf("textbox", "Source")).replaceAll("\u200b", "");
+    const read = (await readOf("textbox", "Source")).replaceAll("\u200b", "").replaceAll("\u00a0", " ");
     same("the source is read as its lines, without their numbers", read, sourceOf("hello").replaceAll("\n", ""));
 }
 
