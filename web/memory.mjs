@@ -37,8 +37,11 @@ function rowsInSight() {
     return { height, count: Math.max(LEAST_ROWS, Math.floor(room / height)) };
 }
 
-/** What the tab of the memory asks: as many rows as are in sight, from what stands in its field. */
-export const askMemory = () => lookMemory(field("memory-where").value.trim() || "sp", rowsInSight().count * rowSize());
+/** What the tab of the memory asks: as many rows as are in sight, from what stands in its field, which is one place. */
+export function askMemory() {
+    const where = field("memory-where").value.trim().replace(/\s*([+-])\s*/g, "$1");
+    return lookMemory(where || "sp", rowsInSight().count * rowSize());
+}
 
 /**
  * What points at one of some bytes.

@@ -178,6 +178,12 @@ async function views() {
     await answers(`breakpoint at line ${line}`);
     await idle();
     same("a click in the listing sets a breakpoint", await mark(line), "●");
+    await showMemory("table +12");
+    await page.until(`${inPanel("memory", "tbody td")}.textContent === "80000048"`);
+    check("a place with blanks in it is behind its name", true);
+    await showMemory("table 12 12");
+    await panelHas("memory", "help m");
+    check("and what is no place is told", true);
     await showMemory("table");
     await panelHas("memory", "8000003c");
     const row = () => page.run(`${inPanel("memory", "tbody tr")}.innerText`);

@@ -14,7 +14,7 @@ async function example() {
     await page.visit(`${url}#example=hello`);
     await page.click("#run");
     await page.until(`document.getElementById("answer").textContent.includes("halted with code 0")`);
-    same("hello sends its line", await page.text("#console"), "H\n");
+    same("hello sends its letter", await page.text("#console"), "H");
     contains("in its steps", await page.text("#where"), /step 7$/);
 }
 
