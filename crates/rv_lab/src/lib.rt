@@ -18,6 +18,7 @@ mod operands;
 mod order;
 mod places;
 mod plan;
+mod recorded;
 mod registers;
 mod render;
 mod run;
