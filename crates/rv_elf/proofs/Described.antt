@@ -1,5 +1,5 @@
 -- The frames that are read back from their table, and its size.
-use Rattle.std.proofs.Common.{◌≡◌, ◌∙◌, ℕ, zero, suc, ◌+◌, ◌-◌, ◌*◌, ◌%◌, ◌^◌, ◌<◌, ◌≤◌, ◌==◌, Bool, true, false, List, [], ◌∷◌, ◌++◌, drop, take, length, map, replicate, refl, sym, ap, ap₂, arith, append_assoc, length-append}
+use Rattle.std.proofs.Common.{◌≡◌, ◌∙◌, ℕ, zero, suc, ◌+◌, ◌-◌, ◌%◌, ◌^◌, ◌<◌, ◌≤◌, ◌==◌, Bool, true, false, List, [], ◌∷◌, ◌++◌, drop, length, map, refl, sym, ap, ap₂, arith, length-append}
 use Rattle.std.specs.Prelude.{filter, not, if◌then◌else◌}
 use Rattle.std.specs.List.{flat_map}
 use Rattle.std.proofs.lemmas.Nat.{from_le_bytes-to_le_bytes_4}
@@ -7,7 +7,7 @@ use Rattle.std.proofs.lemmas.List.{drop-drop, length-replicate}
 use Rattle.std.proofs.Math.Seq.{drop-append_seam, take-append_seam}
 use Rattle.rv_elf.specs.Elf.{word_at}
 use Rattle.rv_elf.specs.Frames.{Description, column_at, description, description_of, descriptions, entries_from}
-use Rattle.rv_elf.specs.LineNumbers.{leb, after_numbers}
+use Rattle.rv_elf.specs.LineNumbers.{leb}
 use Rattle.rv_elf.specs.Size.{frames_size}
 use Rattle.rv_elf.specs.declared.frames.Function.{Function}
 use Rattle.rv_elf.specs.Support.FrameBytes.{fields_bytes, common_bytes, padding, body_bytes, entry_bytes, frames_bytes, IsShort, AreShort}

@@ -87,7 +87,8 @@ fn write(
 }
 
 /// Returns the ELF file of a source of this name, which is relative to a folder: its image is loaded at 0x80000000 and
-/// begins there, each label is a symbol of its address, and each line that has bytes has its address.
+/// begins there, each label is a symbol of its address, and each line that has bytes has its address. It also has the
+/// frames of functions, as `rv_frames` finds them, and the constants as macros; what these say isn't promised.
 ///
 /// # Errors
 ///

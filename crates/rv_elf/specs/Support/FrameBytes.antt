@@ -1,6 +1,6 @@
 -- The bytes that the code writes for frames.
 -- Private contracts cite this; public ones say what is read of those bytes.
-use Rattle.std.specs.Prelude.{ℕ, ◌+◌, ◌-◌, ◌%◌, ◌^◌, ◌<◌, List, [], ◌∷◌, ◌++◌, length, replicate, if◌then◌else◌}
+use Rattle.std.specs.Prelude.{ℕ, ◌-◌, ◌%◌, ◌^◌, ◌<◌, List, [], ◌∷◌, ◌++◌, length, replicate, if◌then◌else◌}
 use Rattle.std.specs.List.{flat_map}
 use Rattle.rv_elf.specs.declared.frames.Function.{Function}
 use Rattle.rv_elf.specs.Support.Written.{word}

@@ -1,8 +1,8 @@
-use Rattle.std.proofs.Common.{◌≡◌, ◌∙◌, ◌∷◌, ℕ, List, ◌+◌, ◌*◌, ◌^◌, ◌≤◌, length, map, refl, ap, arith}
+use Rattle.std.proofs.Common.{◌∙◌, List, ◌+◌, ◌*◌, ◌^◌, ◌≤◌, length, map, refl, ap, arith}
 use Rattle.std.proofs.lemmas.Result.{err_from_is_err_and}
 use Rattle.rv_asm.specs.Seen.{seen}
 use Rattle.rv_elf.specs.Symbols.{Symbol}
-use Rattle.rv_object.specs.Placed.{all_labels, most_of, name_and_value, size_of}
+use Rattle.rv_object.specs.Placed.{all_labels, name_and_value}
 use Rattle.rv_object.proofs.Labelled.{exceeds, few, framed, labelled, many, most_is, size_is}
 use Rattle.rv_object.proofs.elf.elf_file.Goals as goal
 
