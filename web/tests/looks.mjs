@@ -60,6 +60,9 @@ async function controls() {
     const wrong = await page.run(`[...document.querySelectorAll("#controls button")]
         .filter((it) => !it.querySelector("svg[aria-hidden]") || !it.title.includes("Alt+")).map((it) => it.id).join()`);
     same("each control has an icon, and words with its key", wrong, "");
+    const header = await page.run(`[...document.querySelectorAll("header button")]
+        .filter((it) => !it.querySelector("svg[aria-hidden]") || !it.title).map((it) => it.id).join()`);
+    same("so has what stands above them", header, "");
     check("they stand in groups", (await page.run(`document.querySelectorAll("#controls .group").length`)) >= 4);
 }
 
@@ -178,7 +181,7 @@ async function narrow() {
     check(`what a register means stands ${Math.round(distance)} pixels beside it`, 0 <= distance && distance < 16);
     await page.click("#tab-memory");
     await showFrom("sp");
-    await page.until(`document.querySelectorAll("#panel-memory tbody tr").length > 0`);
+    await page.until(`document.querySelector("#panel-memory tbody tr")?.innerText.includes("◀ sp")`);
     const bytes = async () => (await rows())[0].match(/\b[0-9a-f]{2}\b/g).length;
     same("a row of memory has 16 bytes", await bytes(), 16);
     await page.run(`document.documentElement.style.setProperty("--source-width", "66%")`);

@@ -64,11 +64,15 @@ async function labelled() {
     same("and the bytes that they name are marked", await page.run(marked), "01◀ pc, first, second,02end");
 }
 
-// Opens a link with these breakpoints, and returns how many are set.
+const OPENED = 5000; // milliseconds at most in which a link is opened
+
+// Opens a link with these breakpoints, and returns how many are set, and what is said.
 async function setBy(breakpoints) {
     const source = "        nop\n".repeat(3000), fragment = await writeFragment({ source, inputs: "", breakpoints });
+    const began = performance.now();
     await page.visit(`${url}#${fragment}`);
-    const said = await answer();
+    const time = performance.now() - began, said = await answer();
+    check(`a link with ${breakpoints.length} breakpoints is opened in ${Math.round(time)} ms`, time < OPENED);
     await lab("b", "");
     await page.until(`/^\\w{8}/m.test(document.getElementById("answer").textContent)`);
     return { said, count: (await answer()).match(/^[0-9a-f]{8} /gm).length };
