@@ -3,6 +3,7 @@ use crate::command::Command;
 use crate::explained::Explanation;
 use crate::many::Many;
 use crate::moves::{Cleared, Given, Run, Saved, Stepped, Trace};
+use crate::origin::Origin;
 use crate::rows::Row;
 use crate::values::{
     ControlValue, Devices, Dump, Edges, Place, RegisterFile, RegisterValue, Standing, Trap,
@@ -31,6 +32,8 @@ pub enum Why {
     NoSteps,
     /// The text is no condition.
     NoCondition,
+    /// The condition held after no earlier step.
+    NeverMet,
     /// There is no word, or more than one.
     NotOne,
     /// No line with an instruction or data has this number or a larger one.
@@ -111,6 +114,8 @@ pub enum Answer {
     Saved(Saved),
     /// `why`
     Explained(Explanation),
+    /// `why` of a register or a word
+    Origin(Origin),
     /// `help`, of a command or of all
     Help(Option<Command>),
     /// The first word of the line is no command.

@@ -116,8 +116,8 @@ static COMMANDS: [(&str, CommandRow); 25] = [
         "until",
         CommandRow {
             command: Command::Moves(Move::Until),
-            form: "until WHAT",
-            does: "goes on until `trap`, `console`, a line or an address, `REG` or `[ADDR]` changes, or `REG = V` (also != < <= > >=) holds",
+            form: "until WHAT [N]",
+            does: "goes on until `trap`, `console`, a line or an address, `REG` or `[ADDR]` changes, or `REG = V` (also != < <= > >=) holds, for N steps at most (1000000 without N)",
             example: "until [0x80001000] != 0",
         },
     ),
@@ -134,8 +134,8 @@ static COMMANDS: [(&str, CommandRow); 25] = [
         "u undo back",
         CommandRow {
             command: Command::Moves(Move::Back),
-            form: "u [N]",
-            does: "goes N steps back, or back to before the last command",
+            form: "u [N|until WHAT]",
+            does: "goes N steps back, or back to before the last command, or to the last step before now after which WHAT held",
             example: "u 3",
         },
     ),
@@ -233,9 +233,9 @@ static COMMANDS: [(&str, CommandRow); 25] = [
         "why",
         CommandRow {
             command: Command::Why,
-            form: "why",
-            does: "explains the first trap that met no handler, or else the last trap",
-            example: "why",
+            form: "why [REG|WHERE [N]]",
+            does: "explains the first trap that met no handler, or else the last trap; of a register or a word, tells the last step that wrote it (before step N), and alone after that the one before",
+            example: "why a0",
         },
     ),
     (

@@ -1,4 +1,5 @@
 //! Why a trap came, and where it went.
+use crate::origin::Write;
 use crate::values::Region;
 use rv_isa::Reg;
 use rv_pmp::Mode;
@@ -109,6 +110,8 @@ pub struct Explained {
     pub word: Option<u32>,
     /// The word that was there at reset, if that was another one.
     pub overwritten: Option<u32>,
+    /// The last step before that wrote the word there, if it was another one at reset.
+    pub writer: Option<Write>,
     pub reason: Reason,
     /// The instruction before, if the word at pc couldn't be fetched.
     pub before: Option<Before>,

@@ -2,7 +2,7 @@
 use crate::Printer;
 use crate::command::{Command, CommandRow, command_row, command_word, commands};
 use crate::nearest::Nearest;
-use rv_base::first_word;
+use rv_base::{first_word, look_up};
 
 /// The width of a command's form in the list.
 const FORM_WIDTH: usize = 20;
@@ -61,11 +61,76 @@ fn offer_commands(nearest: &mut Nearest<'_>) {
     }
 }
 
-/// Appends that a word is no command, and which is the nearest.
+/// Words of gdb, with what to type here.
+static OTHERS: [(&str, &str); 24] = [
+    (
+        "info",
+        "`r` shows the registers, `b` the breakpoints, `t` the traps, `dev` the devices",
+    ),
+    (
+        "print",
+        "`r REG` shows a register, `p CSR` a control register, `m WHERE` memory",
+    ),
+    ("display", "`r REG` shows a register, `m WHERE` memory"),
+    ("examine", "`m WHERE N w` shows N words of memory"),
+    (
+        "disassemble",
+        "`i WHERE` shows an instruction, `l WHERE` lines of the source",
+    ),
+    (
+        "disas",
+        "`i WHERE` shows an instruction, `l WHERE` lines of the source",
+    ),
+    ("layout", "`l` lists the source, `r` shows the registers"),
+    ("stepi", "`s` takes a step"),
+    ("nexti", "`next` takes a call as one step"),
+    ("advance", "`until WHERE` goes on up to a place"),
+    ("tbreak", "`until WHERE` goes on up to a place"),
+    (
+        "watch",
+        "`until REG` or `until [WHERE]` goes on until it changes",
+    ),
+    ("rwatch", "`until [WHERE]` goes on until a word changes"),
+    ("awatch", "`until [WHERE]` goes on until a word changes"),
+    ("condition", "`until REG = V` goes on until it holds"),
+    ("rs", "`u` goes back"),
+    ("rsi", "`u` goes back"),
+    ("reverse-step", "`u` goes back"),
+    ("reverse-stepi", "`u` goes back"),
+    (
+        "start",
+        "the program stands at its first instruction; `u 9999999999` goes back to it",
+    ),
+    ("bt", "`r ra` shows where the present function returns to"),
+    (
+        "backtrace",
+        "`r ra` shows where the present function returns to",
+    ),
+    (
+        "set",
+        "no command sets a register or memory: only steps and inputs (`rx`, `line`) change the board",
+    ),
+    ("kill", "`q` ends the lab"),
+];
+
+/// Returns what to type here in place of a word of gdb: `x/4x` and the like show memory.
+fn meant(word: &[u8]) -> Option<&'static str> {
+    if word.starts_with(b"x/") {
+        return Some("`m WHERE N w` shows N words of memory");
+    }
+    look_up(&OTHERS, word)
+}
+
+/// Appends that a word is no command, and what is meant or which is the nearest.
 pub(crate) fn append_unknown(word: &[u8], text: &mut Printer) {
     text.say("`");
     text.put(word);
     text.say("` is no command");
+    if let Some(meant) = meant(word) {
+        text.say(": ");
+        text.say(meant);
+        return text.end();
+    }
     let mut nearest = Nearest::new(text.alloc(), word);
     offer_commands(&mut nearest);
     nearest.append(text);

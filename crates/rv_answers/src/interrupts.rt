@@ -18,6 +18,9 @@ fn append_clock(clock: Clock, text: &mut Printer) {
         text.say("never");
     } else {
         text.number(clock.compare);
+        if clock.compare >= 0xffff_ffff_0000_0000 {
+            text.say(" (its high half is as at reset: write both halves)");
+        }
     }
     let values = [clock.is_due as u64, clock.software as u64];
     text.fill(", its line is %{low|high}; msip %d\n", &values);
@@ -72,7 +75,7 @@ fn append_interrupts(interrupts: Interrupts, text: &mut Printer) {
 }
 
 /// Appends a source of the interrupt controller, unless it is as at reset.
-fn append_source(state: SourceState, text: &mut Printer) {
+fn append_source(state: SourceState, threshold: u32, text: &mut Printer) {
     let request = if state.is_pending {
         2
     } else {
@@ -89,6 +92,9 @@ fn append_source(state: SourceState, text: &mut Printer) {
         form,
         &[u64::from(state.source), line, request, enabled, priority],
     );
+    if state.is_enabled && state.priority <= threshold {
+        text.say(", not above the threshold");
+    }
     if edges > 0 {
         text.fill(", %d pending edge%{s||s}", &[edges, edges]);
     }
@@ -104,7 +110,7 @@ pub(crate) fn append_devices(devices: &Devices, text: &mut Printer) {
     let form = "interrupt controller: threshold %d, its line is %{low|high}\n";
     text.fill(form, &values);
     for state in devices.sources.items() {
-        append_source(*state, text);
+        append_source(*state, devices.threshold, text);
     }
     append_regions(devices.regions.items(), text);
 }

@@ -1,7 +1,7 @@
 //! The text of refusals: why the operands of a command have no meaning.
 use crate::Printer;
 use crate::answer::{Refusal, Why};
-use crate::command::{Command, command_word};
+use crate::command::{Command, Move, command_word};
 use crate::lines::Lines;
 use crate::looks::append_count;
 use crate::nearest::Nearest;
@@ -77,6 +77,16 @@ fn want_one(command: Command, text: &mut Printer) {
     }
 }
 
+/// Returns why an operand is no number of steps of a command.
+fn no_steps(command: Command) -> &'static str {
+    match command {
+        Command::Moves(Move::Trace) => "is no number of up to 1000 steps",
+        Command::Moves(Move::Back) => "is no number of up to 9999999999 steps",
+        Command::Why => "isn't followed by the number of a step",
+        _ => "is no number of up to 1000000000 steps",
+    }
+}
+
 /// Appends that no line is at an address.
 fn refuse_line(command: &str, address: u32, text: &mut Printer) {
     say_of(command, "no line of the source is at ", text);
@@ -131,8 +141,9 @@ impl Lines<'_> {
                 let sentence = "a source from 24 to 31 is wanted; `dev` shows the others\n";
                 say_of(word, sentence, text);
             }
-            Why::NoSteps => refuse_operand(word, operand, "is no number of steps", text),
+            Why::NoSteps => refuse_operand(word, operand, no_steps(refusal.command), text),
             Why::NoCondition => refuse_operand(word, operand, NO_CONDITION, text),
+            Why::NeverMet => say_of(word, "it held after no earlier step\n", text),
             Why::NotOne => want_one(refusal.command, text),
             Why::NoBytesThere => self.refuse_lines(text),
             Why::NoBytes => want(word, BYTES, text),

@@ -78,6 +78,7 @@ impl Lines<'_> {
             Answer::Given(given) => append_given(*given, text),
             Answer::Saved(saved) => append_saved(saved, text),
             Answer::Explained(told) => self.append_explanation(told, text),
+            Answer::Origin(origin) => self.append_origin(origin, text),
             Answer::Help(command) => append_help(*command, text),
             Answer::NoCommand(word) => append_unknown(word.items(), text),
             Answer::TooLong => text.say("a line has at most 1024 bytes\n"),

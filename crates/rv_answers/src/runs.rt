@@ -8,21 +8,18 @@ use crate::standing::{append_halt, append_stuck};
 use crate::traps::append_trap;
 use crate::values::{RegisterValue, Standing, Trap};
 
-/// The most changed registers that are told in a line.
-const MOST_TOLD: usize = 8;
+/// How many changed registers are told in a line.
+const IN_LINE: usize = 8;
 
 /// Appends the registers that a command changed, each after two blanks or a comma.
 fn append_changed(changed: &Many<RegisterValue>, text: &mut Printer) {
-    let all = changed.items();
-    let (told, more) = all.split_at(all.len().min(MOST_TOLD));
     let mut before = "  ";
-    for one in told {
+    let mut told: usize = 0;
+    for one in changed.items() {
         text.say(before);
         append_register(one.register, one.value, text);
-        before = ", ";
-    }
-    if !more.is_empty() {
-        text.fill(", and %d more", &[more.len() as u64]);
+        told = told.saturating_add(1);
+        before = if told % IN_LINE == 0 { ",\n  " } else { ", " };
     }
 }
 
@@ -49,7 +46,7 @@ fn append_target(target: Target, text: &mut Printer) {
 }
 
 /// Appends what is watched, with its value.
-fn append_watched(watch: Watch, text: &mut Printer) {
+pub(crate) fn append_watched(watch: Watch, text: &mut Printer) {
     append_target(watch.target, text);
     text.say(" = ");
     match watch.value {

@@ -2,6 +2,8 @@
 use crate::explained::{
     Area, Barrier, Before, Explained, Explanation, Handler, Reason, Sum, Unfetched,
 };
+use crate::origin::Write;
+use crate::origin_text::append_writer;
 use crate::places::append_instruction;
 use crate::protection::append_region;
 use crate::registers::register_name;
@@ -162,7 +164,7 @@ fn append_missing(handler: Handler, missing: Unfetched, text: &mut Printer) {
 
 impl Lines<'_> {
     /// Returns an address with a word that was there as a place.
-    fn place_at(self, address: u32, word: Option<u32>) -> Place {
+    pub(crate) fn place_at(self, address: u32, word: Option<u32>) -> Place {
         let line = self.listing.line_at(address);
         let distance = match line {
             Some(_) => self.listing.label_before(address).map(|near| near.distance),
@@ -187,6 +189,15 @@ impl Lines<'_> {
             append_instruction(trap.word, text);
             text.end();
         }
+    }
+
+    /// Appends the step that wrote a word of the program last.
+    fn append_changer(self, write: Write, text: &mut Printer) {
+        let is_stack = write.second.is_some_and(|one| one.register.number() == 2) as u64;
+        let form = "  step %d wrote it%{|: the stack ran into it}: ";
+        text.fill(form, &[write.step, is_stack]);
+        self.append_here(self.place_at(write.address, write.word), text);
+        append_writer(write, text);
     }
 
     /// Appends the instruction from which pc came.
@@ -217,6 +228,9 @@ impl Lines<'_> {
         self.append_trap_place(trap, text);
         append_reason(trap, text);
         append_overwritten(trap.overwritten, text);
+        if let Some(write) = trap.writer {
+            self.append_changer(write, text);
+        }
         if let Some(before) = trap.before {
             self.append_before(before, trap.address, text);
         }

@@ -47,6 +47,8 @@ use Rattle.rv_answers.specs.declared.moves.Target.{Target}
 use Rattle.rv_answers.specs.declared.moves.Target.TheVariants as targets
 use Rattle.rv_answers.specs.declared.moves.Trace.{Trace}
 use Rattle.rv_answers.specs.declared.moves.Watch.{Watch}
+use Rattle.rv_answers.specs.declared.origin.Origin.{Origin}
+use Rattle.rv_answers.specs.declared.origin.Write.{Write}
 use Rattle.rv_answers.specs.declared.rows.Row.{Row}
 use Rattle.rv_answers.specs.declared.values.Bits.{Bits}
 use Rattle.rv_answers.specs.declared.values.Bits.TheVariants as bits
@@ -307,14 +309,24 @@ unfoldable pub handler_data : Handler → Data
 handler_data h = object (members (("address", natural h.address) ∷ ("mtvec", natural h.mtvec)
     ∷ ("missing", option_data unfetched_data h.missing) ∷ []))
 
+unfoldable pub write_data : Write → Data
+write_data w = object (members (("step", natural w.step) ∷ ("address", natural w.address)
+    ∷ ("word", option_data natural w.word) ∷ ("before", option_data natural w.before)
+    ∷ ("first", option_data register_data w.first) ∷ ("second", option_data register_data w.second)
+    ∷ ("accessed", option_data natural w.accessed) ∷ []))
+
 unfoldable pub explained_data : Explained → Data
 explained_data e = object (members (("step", natural e.step) ∷ ("cause", natural e.cause) ∷ ("value", natural e.value)
     ∷ ("address", natural e.address) ∷ ("mode", mode_data e.mode) ∷ ("word", option_data natural e.word)
-    ∷ ("overwritten", option_data natural e.overwritten) ∷ ("reason", reason_data e.reason)
-    ∷ ("before", option_data before_data e.before) ∷ ("handler", handler_data e.handler) ∷ []))
+    ∷ ("overwritten", option_data natural e.overwritten) ∷ ("writer", option_data write_data e.writer)
+    ∷ ("reason", reason_data e.reason) ∷ ("before", option_data before_data e.before) ∷ ("handler", handler_data e.handler) ∷ []))
 
 unfoldable pub explanation_data : Explanation → Data
 explanation_data e = kind "why" (("trap", option_data explained_data e.trap) ∷ ("unseen", natural e.unseen) ∷ [])
+
+unfoldable pub origin_data : Origin → Data
+origin_data o = kind "origin" (("target", target_data o.target) ∷ ("steps", natural o.steps)
+    ∷ ("value", option_data natural o.value) ∷ ("write", option_data write_data o.write) ∷ [])
 
 -- ---- refusals
 
@@ -332,6 +344,7 @@ why_data why.NoControlRegister = string (codes "no_control_register")
 why_data why.NoEdgeSource = string (codes "no_edge_source")
 why_data why.NoSteps = string (codes "no_steps")
 why_data why.NoCondition = string (codes "no_condition")
+why_data why.NeverMet = string (codes "never_met")
 why_data why.NotOne = string (codes "not_one")
 why_data why.NoBytesThere = string (codes "no_bytes_there")
 why_data why.NoBytes = string (codes "no_bytes")
@@ -377,6 +390,7 @@ answer_data ls (answers.Cleared cleared) = cleared_data ls cleared
 answer_data ls (answers.Given given) = given_data given
 answer_data ls (answers.Saved saved) = saved_data saved
 answer_data ls (answers.Explained explanation) = explanation_data explanation
+answer_data ls (answers.Origin origin) = origin_data origin
 answer_data ls (answers.Help command) = kind "help" (("command", option_data command_data command) ∷ [])
 answer_data ls (answers.NoCommand word) = kind "no_command" (("word", text_data word) ∷ [])
 answer_data ls answers.TooLong = kind "too_long" []

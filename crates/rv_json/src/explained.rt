@@ -1,11 +1,13 @@
 //! What `why` finds.
 ghost use Rattle.serde_json.specs.Data.{string};
-ghost use Rattle.rv_json.specs.Json.{area_data, barrier_data, before_data, explained_data, explanation_data, handler_data, reason_data, sum_data, unfetched_data};
+ghost use Rattle.rv_json.specs.Json.{area_data, barrier_data, before_data, explained_data, explanation_data, handler_data, origin_data, reason_data, sum_data, unfetched_data, write_data};
 
 use crate::names::Names;
 use crate::object::send_members;
 use crate::sent::{ToJson, send_word};
-use rv_answers::{Area, Barrier, Before, Explained, Explanation, Handler, Reason, Sum, Unfetched};
+use rv_answers::{
+    Area, Barrier, Before, Explained, Explanation, Handler, Origin, Reason, Sum, Unfetched, Write,
+};
 use serde::Serializer;
 
 impl ToJson for Area {
@@ -121,6 +123,7 @@ impl ToJson for Explained {
             mode,
             word,
             overwritten,
+            writer,
             reason,
             before,
             handler
@@ -134,5 +137,34 @@ impl ToJson for Explanation {
     #[tactic(auto, unfolding(crate::specs::Json::explanation_data))]
     fn send<S: Serializer>(&self, names: &Names<'_>, out: &mut S) -> Result<(), S::Error> {
         send_members!(self, names, out, kind = "why", trap, unseen)
+    }
+}
+
+impl ToJson for Write {
+    ghost json = { λ _ w. write_data w };
+
+    #[tactic(auto, unfolding(crate::specs::Json::write_data))]
+    fn send<S: Serializer>(&self, names: &Names<'_>, out: &mut S) -> Result<(), S::Error> {
+        send_members!(
+            self, names, out, step, address, word, before, first, second, accessed
+        )
+    }
+}
+
+impl ToJson for Origin {
+    ghost json = { λ _ o. origin_data o };
+
+    #[tactic(auto, unfolding(crate::specs::Json::origin_data))]
+    fn send<S: Serializer>(&self, names: &Names<'_>, out: &mut S) -> Result<(), S::Error> {
+        send_members!(
+            self,
+            names,
+            out,
+            kind = "origin",
+            target,
+            steps,
+            value,
+            write
+        )
     }
 }

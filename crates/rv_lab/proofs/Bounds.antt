@@ -137,6 +137,7 @@ within (orders.Trace n) old new w =
 within (orders.Back n) old new w =
     let is = ap (λ (l : LabState). (timed l).taken) w ∙ taken_after _ ((timed old).taken - n) in omega (arith, is)
 within (orders.List e follows) old new w = same_taken _ old new (ap (λ (l : LabState). (timed l).taken) w)
+within (orders.Origin t) old new w = same_taken _ old new (ap (λ (l : LabState). (timed l).taken) w)
 within (orders.Break a) old new w = same_taken _ old new (ap (λ (l : LabState). (timed l).taken) w)
 within (orders.Clear a) old new w = same_taken _ old new (ap (λ (l : LabState). (timed l).taken) w)
 within (orders.Give inputs) old new w =

@@ -15,9 +15,11 @@ use Rattle.rv_lab.specs.State.{LabState, board, registers_of, sent, timed}
 use Rattle.rv_lab.specs.declared.lab.Next.{Next}
 use Rattle.rv_lab.specs.declared.lab.Next.TheVariants as next
 use Rattle.rv_lab.specs.declared.plan.Plan.{Plan}
+use Rattle.rv_lab.specs.declared.plan.Trail.{Trail}
 use Rattle.rv_lab.specs.declared.plan.Goal.{Goal}
 use Rattle.rv_lab.specs.declared.plan.Goal.TheVariants as goal
 use Rattle.rv_answers.specs.declared.command.Command.{Command}
+use Rattle.rv_answers.specs.declared.command.Command.TheVariants.{Why}
 use Rattle.rv_lab.specs.declared.order.Order.{Order}
 use Rattle.rv_lab.specs.declared.order.Order.TheVariants as orders
 use Rattle.rv_lab.specs.Words.{repeated}
@@ -116,9 +118,14 @@ abbrev pub stepped_by : ℕ → RecordingState → RecordingState
 stepped_by zero r = r
 stepped_by (suc n) r = stepped_by n (stepped r)
 
--- the lab before a command: it ends the run that isn't over
+-- the lab before a command: it ends the run that isn't over, and what `why` follows, unless it is `why`
+abbrev pub trail_before : Command → Option Trail → Option Trail
+trail_before Why trail = trail
+trail_before command trail = None
+
 abbrev pub ready : Command → LabState → LabState
-ready command l = record l { plan = None; again = repeated command l.again }
+ready command l =
+    record l { plan = None; trail = trail_before command l.trail; again = repeated command l.again }
 
 -- ---- what follows
 

@@ -1,12 +1,17 @@
 -- To audit: public contracts cite this.
 -- What a command line asks for, by its words and the lab as it stands (this project's own: docs/LAB.md).
-use Rattle.std.specs.Prelude.{ℕ, ◌-◌, ◌/◌, ◌==◌, false, true, List, [], ◌∷◌, if◌then◌else◌, length, nat_lt, slice_get, Option, Some, None, option_and_then, unwrap_or}
+use Rattle.std.specs.Prelude.{ℕ, ◌+◌, ◌-◌, ◌/◌, ◌==◌, false, true, List, [], ◌∷◌, if◌then◌else◌, length, nat_lt, slice_get, codes, Option, Some, None, option_and_then, unwrap_or}
 use Rattle.std.specs.Option.{option_map_or}
+use Rattle.std.specs.Str.{bytes_eq}
 use Rattle.rv_base.specs.Words.{words}
 use Rattle.rv_timeline.specs.Timed.{driven}
 use Rattle.rv_timeline.specs.declared.input.Input.{Input}
 use Rattle.rv_recording.specs.Recording.{last_step}
-use Rattle.rv_operands.specs.Operands.{address, break_address, bytes_inputs, condition, line_number, operand_text}
+use Rattle.rv_recording.specs.declared.until.Condition.{Condition}
+use Rattle.rv_why.specs.Origins.{last_sought}
+use Rattle.rv_why.specs.Taken.{first_state}
+use Rattle.rv_why.specs.declared.writes.Sought.TheVariants as sought
+use Rattle.rv_operands.specs.Operands.{address, break_address, bytes_inputs, followed, leading, line_number, operand_text}
 use Rattle.rv_answers.specs.Commands.{command_named}
 use Rattle.rv_answers.specs.declared.answer.Answer.{Answer}
 use Rattle.rv_answers.specs.declared.answer.Answer.TheVariants as answers
@@ -73,6 +78,38 @@ again_order Over l = orders.Run (planned (goal.Out 0) usual_steps)
 again_order command.List l = orders.List (record { after = l.listed; count = 11 }) true
 again_order _ l = orders.Answered answers.Nothing
 
+-- `until`: a condition, and for how many steps at most
+unfoldable pub until_order : List ℕ → LabState → Order
+until_order text l = let led = leading (listing l) (board l) (words text) in or_refused led.0
+    (λ c. or_refused (count_of usual_steps most_steps led.1) (λ n. orders.Run (planned (goal.Until c) n))
+    (refused (Moves Until) text why.NoSteps)) (refused (Moves Until) text why.NoCondition)
+
+-- `u`: some steps back, or back to the last step before now after which a condition held
+unfoldable pub back_until : List ℕ → LabState → Option Condition × List (List ℕ) → Order
+back_until text l (Some c, []) =
+    or_refused (last_sought (sought.Met c) (first_state l.recording) ((timed l).taken - 1))
+    (λ n. orders.Back ((timed l).taken - (n + 1))) (refused (Moves Back) text why.NeverMet)
+back_until text l _ = orders.Answered (refused (Moves Back) text why.NoCondition)
+
+abbrev pub back_by : List ℕ → List (List ℕ) → LabState → Order
+back_by text ws l = or_refused (count_of ((timed l).taken - l.before) last_step ws) (λ n. orders.Back n)
+    (refused (Moves Back) text why.NoSteps)
+
+unfoldable pub back_order : List ℕ → List (List ℕ) → LabState → Order
+back_order text [] l = back_by text [] l
+back_order text (word ∷ more) l =
+    if bytes_eq word (codes "until") then back_until text l (leading (listing l) (board l) more)
+    else back_by text (word ∷ more) l
+
+-- `why`: a trap, or what `why` follows; or the last write of what a word names, among all steps, of which there are
+-- `last_step` at most, or before one
+unfoldable pub why_order : List (List ℕ) → LabState → Order
+why_order [] l = option_map_or orders.Origin l.trail orders.Explain
+why_order (word ∷ more) l = or_refused (followed (listing l) (board l) word)
+    (λ w. or_refused (count_of (last_step + 1) last_step more)
+    (λ n. orders.Origin (record { watched = w; steps = n - 1 })) (refused Why word why.NoSteps))
+    (refused Why word why.NoAddress)
+
 -- what a command asks for, by its word and the text of its operands
 unfoldable pub command_order : Command → (word text : List ℕ) → LabState → Order
 command_order Step word text l =
@@ -81,12 +118,10 @@ command_order (Moves Go) word text l = or_refused (count_of usual_steps most_ste
     (λ n. orders.Run (planned goal.Break n)) (refused (Moves Go) text why.NoSteps)
 command_order Over word text l = orders.Run (planned (goal.Out 0) usual_steps)
 command_order (Moves Finish) word text l = orders.Run (planned (goal.Out 1) usual_steps)
-command_order (Moves Until) word text l = or_refused (condition (listing l) (board l) (words text))
-    (λ c. orders.Run (planned (goal.Until c) usual_steps)) (refused (Moves Until) text why.NoCondition)
+command_order (Moves Until) word text l = until_order text l
 command_order (Moves Trace) word text l = or_refused (count_of 10 1000 (words text))
     (λ n. orders.Trace n) (refused (Moves Trace) text why.NoSteps)
-command_order (Moves Back) word text l = or_refused (count_of ((timed l).taken - l.before) last_step (words text))
-    (λ n. orders.Back n) (refused (Moves Back) text why.NoSteps)
+command_order (Moves Back) word text l = back_order text (words text) l
 command_order command.List word text l = list_order (words text) l
 command_order Break word text l =
     if nat_lt 0 (length (words text)) then or_refused (break_address (listing l) (board l) (words text))
@@ -97,7 +132,7 @@ command_order Receive word text l = give_order (unwrap_or (bytes_inputs text) []
 command_order Line word text l = give_order (unwrap_or (driven (words text)) []) (refused Line text why.NoLevel)
 command_order Save word text l = save_order text (words text)
 command_order Monitor word text l = orders.Monitor text
-command_order Why word text l = orders.Explain
+command_order Why word text l = why_order (words text) l
 command_order Help word text l = help_order text (words text)
 command_order Quit word text l = orders.Quit
 command_order Again word text l = again_order l.again l

@@ -22,7 +22,6 @@ use Rattle.rv_recording.specs.declared.until.Condition.TheVariants as condition
 use Rattle.rv_recording.specs.declared.until.End.{End}
 use Rattle.rv_recording.specs.declared.until.End.TheVariants as ends
 use Rattle.rv_recording.specs.declared.until.Watched.{Watched}
-use Rattle.rv_recording.specs.declared.until.Watched.TheVariants as watched
 use Rattle.rv_answers.specs.declared.answer.Answer.{Answer}
 use Rattle.rv_answers.specs.declared.answer.Answer.TheVariants as answers
 use Rattle.rv_answers.specs.declared.moves.Aim.{Aim}
@@ -30,12 +29,12 @@ use Rattle.rv_answers.specs.declared.moves.Aim.TheVariants as aim
 use Rattle.rv_answers.specs.declared.moves.Ending.{Ending}
 use Rattle.rv_answers.specs.declared.moves.Ending.TheVariants as ending
 use Rattle.rv_answers.specs.declared.moves.Step.{Step}
-use Rattle.rv_answers.specs.declared.moves.Target.{Target}
-use Rattle.rv_answers.specs.declared.moves.Target.TheVariants as target
 use Rattle.rv_answers.specs.declared.moves.Watch.{Watch}
+use Rattle.rv_answers.specs.declared.origin.Origin.{Origin}
 use Rattle.rv_answers.specs.declared.values.RegisterValue.{RegisterValue}
 use Rattle.rv_answers.specs.declared.values.Trap.{Trap}
 use Rattle.rv_why.specs.Why.{explanation}
+use Rattle.rv_why.specs.Origins.{origin, target_of}
 use Rattle.rv_lab.specs.Answers.{place_of, rows_answer, standing}
 use Rattle.rv_lab.specs.Commands.{begun, gone_on, monitor_next, monitored_run, next_of, piece_steps, planned, ready, run_ends, stepped, stepped_by, with_console, with_inputs, with_session, with_steps}
 use Rattle.rv_lab.specs.Orders.{ordered}
@@ -51,6 +50,7 @@ use Rattle.rv_lab.specs.declared.order.Order.TheVariants as orders
 use Rattle.rv_lab.specs.declared.plan.Goal.{Goal}
 use Rattle.rv_lab.specs.declared.plan.Goal.TheVariants as goal
 use Rattle.rv_lab.specs.declared.plan.Plan.{Plan}
+use Rattle.rv_lab.specs.declared.plan.Trail.{Trail}
 
 -- ---- steps
 
@@ -101,10 +101,6 @@ ending_of ends.Limit = ending.Limit
 ending_of ends.Stuck = ending.Stuck
 
 -- what is watched, with its value
-abbrev pub target_of : Watched → Target
-target_of (watched.Register r) = target.Register r
-target_of (watched.Word a) = target.Word a
-
 abbrev pub watch_of : LabState → Watched → Watch
 watch_of l w = record { target = target_of w; value = watched_value (board l) w }
 
@@ -198,6 +194,13 @@ monitor_answer line old new = option_map_or (λ p. run_answer p (begun old) new)
     (monitored_run line old.recording.session)
     (answers.Monitor (monitor.answer (command_in line old.recording.session) old.recording.session new.recording.session))
 
+-- `why` of a register or a word: its last write, and what `why` alone goes on with, which is the one before
+abbrev pub origin_of : LabState → Trail → Origin
+origin_of l t = origin l.recording t.watched t.steps
+
+abbrev pub trail_after : Trail → Origin → Trail
+trail_after t o = record t { steps = option_map_or (λ w. w.step - 1) o.write 0 }
+
 -- ---- orders
 
 -- what an order leaves, as a statement of the labs before and after it; what follows it; and what it answers
@@ -239,6 +242,8 @@ does (orders.Monitor line) old new = let c = command_in line old.recording.sessi
 does (orders.Save name) old new =
     record { leaves = new ≡ old; next = if is_some name then next.Save else next.More; answer = saved_answer name old }
 does orders.Explain old new = more (new ≡ old) (answers.Explained (explanation old.recording))
+does (orders.Origin t) old new =
+    more (new ≡ record old { trail = Some (trail_after t (origin_of old t)) }) (answers.Origin (origin_of old t))
 does orders.Quit old new = record { leaves = new ≡ old; next = next.Quit; answer = answers.Nothing }
 does (orders.Answered a) old new = more (new ≡ old) a
 
@@ -271,5 +276,6 @@ reply_on old new = record {
 -- what a line answers that only looks, by the lab alone
 abbrev pub look_by : Order → LabState → Option Answer
 look_by (orders.List e follows) l = Some (rows_answer e follows l)
+look_by (orders.Origin t) l = Some (answers.Origin (origin_of l t))
 look_by (orders.Answered a) l = Some a
 look_by _ l = None

@@ -9,6 +9,7 @@ use Rattle.rv_monitor.specs.State.{TimedState}
 use Rattle.rv_recording.specs.Recording.{RecordingState}
 use Rattle.rv_answers.specs.declared.command.Command.{Command}
 use Rattle.rv_lab.specs.declared.plan.Plan.{Plan}
+use Rattle.rv_lab.specs.declared.plan.Trail.{Trail}
 
 -- the values of x0 to x31
 abbrev pub registers_of : BoardState → List ℕ
@@ -16,8 +17,8 @@ registers_of b = map (slice_index b.machine.registers) (range_with_len 0 32)
 
 -- a source with the places of its lines and the recording of its program; the registers and the number of steps
 -- before the last command that moved the board, and the bytes of the console that were told; what an empty line
--- repeats, the steps of the last `s`, and the last line of the last `l`; the run that isn't over; and the most
--- steps of a call
+-- repeats, the steps of the last `s`, and the last line of the last `l`; the run that isn't over; what `why` alone goes
+-- on with; and the most steps of a call
 pub record LabState : Type 0 where
   pub source : List ℕ
   pub places : Located
@@ -29,6 +30,7 @@ pub record LabState : Type 0 where
   pub count : ℕ
   pub listed : ℕ
   pub plan : Option Plan
+  pub trail : Option Trail
   pub piece : ℕ
 
 -- the listing of the source

@@ -2,8 +2,10 @@
 ghost use Rattle.std.specs.Prelude.{◌≡◌, [], slice_get, unwrap_or};
 ghost use Rattle.rv_base.specs.Words.{words};
 ghost use Rattle.rv_operands.specs.Operands.{operand_text};
+ghost use Rattle.rv_lab.specs.Commands.{trail_before};
 ghost use Rattle.rv_lab.specs.Words.{line_command, repeated, word_command};
 
+use crate::plan::Trail;
 use rv_answers::{Command, command_named};
 use rv_base::{LINE_LIMIT, begins_comment, first_word};
 use rv_operands::operands_of;
@@ -17,6 +19,16 @@ pub(crate) fn repeated(command: Command, before: Command) -> Command
         Command::Step | Command::Over | Command::List => command,
         Command::Moves(_) => Command::StepOnce,
         _ => before,
+    }
+}
+
+/// Returns what `why` alone goes on with after a command begins: `why` keeps it.
+pub(crate) fn trail_before(command: Command, trail: Option<Trail>) -> Option<Trail>
+    ensures { result ≡ trail_before command trail }
+{
+    match command {
+        Command::Why => trail,
+        _ => None,
     }
 }
 

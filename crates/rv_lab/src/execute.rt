@@ -56,6 +56,7 @@ impl Lab {
             Order::Monitor(line) => self.monitor_command(line.items()),
             Order::Save(name) => self.save(name),
             Order::Explain => self.explained(),
+            Order::Origin(trail) => self.origin(trail),
             Order::Quit => Ok(Done {
                 next: Next::Quit,
                 answer: Answer::Nothing,

@@ -14,10 +14,10 @@ ghost use Rattle.rv_lab.specs.Words.{line_command};
 ghost use Rattle.rv_lab.specs.Orders.{order_of, ordered};
 ghost use Rattle.rv_lab.specs.Runs.{Leaves, Obeys, look_by, reply_to};
 
-use crate::command::{read_command, repeated};
+use crate::command::{read_command, repeated, trail_before};
 use crate::fault::LabFault;
 use crate::order::Order;
-use crate::plan::Plan;
+use crate::plan::{Plan, Trail};
 use crate::registers::registers_of;
 use rv_answers::{Answer, Command, Printer, Registers};
 use rv_asm::{Listing, Places, Program, list};
@@ -87,6 +87,8 @@ pub(crate) struct Last {
     pub(crate) listed: usize,
     /// The run that isn't over, if there is one.
     pub(crate) plan: Option<Plan>,
+    /// What `why` alone goes on with, if it does.
+    pub(crate) trail: Option<Trail>,
 }
 
 /// A board with its source, whose state is asked for and moved by command lines.
@@ -128,7 +130,7 @@ impl Model for Lab {
 
     ghost coded = { Prim.hlevel (codes, plic_code, set.code {R = nat_cmp} coded_ℕ) };
 
-    ghost view = { λ l. record { source = l.source.items; places = l.places; recording = l.recording; registers = l.last.registers; before = l.last.steps; told = l.last.told; again = l.last.command; count = l.last.count; listed = l.last.listed; plan = l.last.plan; piece = l.piece } };
+    ghost view = { λ l. record { source = l.source.items; places = l.places; recording = l.recording; registers = l.last.registers; before = l.last.steps; told = l.last.told; again = l.last.command; count = l.last.count; listed = l.last.listed; plan = l.last.plan; trail = l.last.trail; piece = l.piece } };
 }
 
 impl Lab {
@@ -147,7 +149,7 @@ impl Lab {
         ensures listing { IfOk result (λ l. listed source.now ≡ Ok (listing l)) }
         ensures begins { IfOk result (λ l. (l.source ≡ source.now) × (l.before ≡ 0) × (l.told ≡ 0)
             × (l.registers ≡ registers_of l.recording.session.timed.board) × (l.again ≡ StepOnce) × (l.count ≡ 1)
-            × (l.listed ≡ 0) × (l.plan ≡ None) × (l.piece ≡ 1000000)) }
+            × (l.listed ≡ 0) × (l.plan ≡ None) × (l.trail ≡ None) × (l.piece ≡ 1000000)) }
     {
         let (program, places) = list(alloc, source)?;
         let (pages, slots) = (u32::from(sizes.pages), u32::from(sizes.slots));
@@ -163,6 +165,7 @@ impl Lab {
             count: 1,
             listed: 0,
             plan: None,
+            trail: None,
         };
         Ok(Lab {
             alloc,
@@ -229,11 +232,14 @@ impl Lab {
         answer.fill("running: step %d\n", &[self.steps()]);
     }
 
-    /// Makes the lab ready for a command: ends the run that isn't over, and keeps what an empty line repeats.
+    /// Makes the lab ready for a command: ends the run that isn't over and what `why` follows, unless it is `why`, and
+    /// keeps what an empty line repeats.
     fn make_ready(&mut self, command: Command)
         ensures { self.new ≡ ready command self.old }
     {
         self.last.plan = None;
+        let trail = self.last.trail;
+        self.last.trail = trail_before(command, trail);
         let again = self.last.command;
         self.last.command = repeated(command, again);
     }
@@ -250,6 +256,7 @@ impl Lab {
         match self.read_order(read_command(line))? {
             Order::Answered(answer) => Ok(Some(answer)),
             Order::List(excerpt, follows) => Ok(Some(self.rows_answer(excerpt, follows)?)),
+            Order::Origin(trail) => Ok(Some(Answer::Origin(self.origin_of(trail)?))),
             _ => Ok(None),
         }
     }

@@ -4,22 +4,25 @@ ghost use Rattle.rv_base.specs.Words.{words};
 ghost use Rattle.rv_answers.specs.declared.command.Command.TheVariants as command;
 ghost use Rattle.rv_answers.specs.declared.command.Move.TheVariants as moves;
 ghost use Rattle.rv_lab.specs.Answers.{refused};
-ghost use Rattle.rv_lab.specs.Orders.{again_order, command_order, help_order, list_order, list_round, no_break, save_order, steps_order};
+ghost use Rattle.rv_lab.specs.Orders.{again_order, back_by, back_order, back_until, command_order, help_order, list_order, list_round, no_break, save_order, steps_order, until_order, why_order};
+ghost use Rattle.rv_operands.specs.Operands.{leading};
 ghost use Rattle.rv_lab.specs.Commands.{planned};
+ghost use Rattle.rv_lab.specs.State.{board, listing};
 ghost use Rattle.rv_lab.specs.declared.order.Order.TheVariants as orders;
 
 use crate::command::CommandLine;
 use crate::lab::Lab;
 use crate::operands::count_or;
 use crate::places::line_at;
-use crate::plan::{Goal, Plan};
+use crate::plan::{Goal, Plan, Trail};
 use crate::run::{MOST_STEPS, MOST_TRACED, USUAL_STEPS, USUAL_TRACED};
 use crate::source::{Excerpt, MOST_LINES, USUAL_LINES};
 use rv_answers::{Answer, Command, Many, Move, Why, command_named, push};
 use rv_base::{NoMemory, first_word, has_word};
-use rv_operands::{line_number, only_word, read_bytes_inputs};
+use rv_operands::{Leading, line_number, only_word, read_bytes_inputs};
 use rv_recording::LAST_STEP;
 use rv_timeline::{Input, line_input};
+use rv_why::last_met;
 
 /// What a command line asks for.
 #[derive(Drop)]
@@ -48,6 +51,8 @@ pub(crate) enum Order {
     Save(Option<Many<u8>>),
     /// To explain a trap.
     Explain,
+    /// To tell the last write of what is followed.
+    Origin(Trail),
     /// To end the lab.
     Quit,
     /// Nothing but this answer.
@@ -113,13 +118,17 @@ impl Lab {
     }
 
     /// Reads the operands of `until`.
-    #[tactic(auto, unfolding(crate::specs::Orders::command_order))]
+    #[tactic(auto, unfolding(crate::specs::Orders::until_order))]
     fn until_order(&self, operands: &[u8]) -> Result<Order, NoMemory>
-        ensures { IfOk result (λ o. o ≡ command_order (command.Moves moves.Until) [] operands.now self.now) }
+        ensures { IfOk result (λ o. o ≡ until_order operands.now self.now) }
     {
-        match self.scope().condition(operands) {
-            Some(condition) => Ok(run_order(Goal::Until(condition), USUAL_STEPS)),
-            None => self.refuse(Command::Moves(Move::Until), operands, Why::NoCondition),
+        let Leading { condition, rest } = self.scope().leading(operands);
+        let Some(condition) = condition else {
+            return self.refuse(Command::Moves(Move::Until), operands, Why::NoCondition);
+        };
+        match count_or(rest, USUAL_STEPS, MOST_STEPS) {
+            Some(most) => Ok(run_order(Goal::Until(condition), most)),
+            None => self.refuse(Command::Moves(Move::Until), operands, Why::NoSteps),
         }
     }
 
@@ -134,10 +143,41 @@ impl Lab {
         }
     }
 
+    /// Reads the condition of `u until`, which stands in `text`.
+    #[tactic(auto, unfolding(crate::specs::Orders::back_until))]
+    fn back_until(&self, operands: &[u8], text: &[u8]) -> Result<Order, NoMemory>
+        ensures { IfOk result (λ o. o ≡ back_until operands.now self.now (leading (listing self.now) (board self.now) (words text.now))) }
+    {
+        let Leading { condition, rest } = self.scope().leading(text);
+        let Some(condition) = condition else {
+            return self.refuse(Command::Moves(Move::Back), operands, Why::NoCondition);
+        };
+        if has_word(rest) {
+            return self.refuse(Command::Moves(Move::Back), operands, Why::NoCondition);
+        }
+        let now = self.recording.steps();
+        match last_met(&self.recording, condition, now.saturating_sub(1))? {
+            Some(before) => Ok(Order::Back(now.saturating_sub(before.saturating_add(1)))),
+            None => self.refuse(Command::Moves(Move::Back), operands, Why::NeverMet),
+        }
+    }
+
     /// Reads the operands of `u`.
-    #[tactic(auto, unfolding(crate::specs::Orders::command_order))]
+    #[tactic(auto, unfolding(crate::specs::Orders::back_order))]
     fn back_order(&self, operands: &[u8]) -> Result<Order, NoMemory>
-        ensures { IfOk result (λ o. o ≡ command_order (command.Moves moves.Back) [] operands.now self.now) }
+        ensures { IfOk result (λ o. o ≡ back_order operands.now (words operands.now) self.now) }
+    {
+        if let Some((word, rest)) = first_word(operands)
+            && word == b"until".as_slice()
+        {
+            return self.back_until(operands, rest);
+        }
+        self.back_by(operands)
+    }
+
+    /// Reads the number of steps of `u`.
+    fn back_by(&self, operands: &[u8]) -> Result<Order, NoMemory>
+        ensures { IfOk result (λ o. o ≡ back_by operands.now (words operands.now) self.now) }
     {
         let usual = self.recording.steps().saturating_sub(self.last.steps);
         match count_or(operands, usual, LAST_STEP) {
@@ -285,6 +325,29 @@ impl Lab {
         }
     }
 
+    /// Reads the operands of `why`.
+    #[tactic(auto, unfolding(crate::specs::Orders::why_order))]
+    fn why_order(&self, operands: &[u8]) -> Result<Order, NoMemory>
+        ensures { IfOk result (λ o. o ≡ why_order (words operands.now) self.now) }
+    {
+        let Some((word, rest)) = first_word(operands) else {
+            return Ok(match self.last.trail {
+                Some(trail) => Order::Origin(trail),
+                None => Order::Explain,
+            });
+        };
+        let Some(watched) = self.scope().followed(word) else {
+            return self.refuse(Command::Why, word, Why::NoAddress);
+        };
+        match count_or(rest, LAST_STEP + 1, LAST_STEP) {
+            Some(count) => {
+                let steps = count.saturating_sub(1);
+                Ok(Order::Origin(Trail { watched, steps }))
+            }
+            None => self.refuse(Command::Why, word, Why::NoSteps),
+        }
+    }
+
     /// Reads a line of the monitor.
     #[tactic(auto, unfolding(crate::specs::Orders::command_order))]
     fn monitor_order(&self, line: &[u8]) -> Result<Order, NoMemory>
@@ -330,7 +393,7 @@ impl Lab {
             Command::Line => self.line_order(line.operands),
             Command::Save => self.save_order(line.operands),
             Command::Monitor => self.monitor_order(line.operands),
-            Command::Why => Ok(Order::Explain),
+            Command::Why => self.why_order(line.operands),
             Command::Help => self.help_order(line.operands),
             Command::Quit => Ok(Order::Quit),
             Command::Again => Ok(self.again_order()),

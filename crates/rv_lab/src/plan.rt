@@ -1,5 +1,5 @@
-//! What a run goes on for.
-use rv_recording::Condition;
+//! What goes on in later commands: a run that isn't over, and what `why` follows.
+use rv_recording::{Condition, Watched};
 
 /// What a run goes on for.
 #[derive(Clone, Copy)]
@@ -23,4 +23,13 @@ pub(crate) struct Plan {
     pub(crate) left: u64,
     /// Whether a command of the monitor asked for it, which then tells its end.
     pub(crate) is_monitored: bool,
+}
+
+/// What `why` follows, and among how many of the first steps.
+#[derive(Clone, Copy)]
+pub(crate) struct Trail {
+    /// A register or a word.
+    pub(crate) watched: Watched,
+    /// The number of steps that are looked at.
+    pub(crate) steps: u64,
 }

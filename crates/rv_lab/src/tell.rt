@@ -10,11 +10,12 @@ use crate::lab::Lab;
 use crate::plan::Goal;
 use crate::registers::registers_of;
 use crate::steps::changes;
-use rv_answers::{Aim, Answer, Ending, Many, Run, Target, Trap, Watch};
+use rv_answers::{Aim, Answer, Ending, Many, Run, Trap, Watch};
 use rv_base::NoMemory;
 use rv_board::TrapRecord;
-use rv_monitor::{word_at, write_stop};
+use rv_monitor::write_stop;
 use rv_recording::{Condition, End, Watched};
+use rv_why::target_of;
 
 /// Returns the monitor's word for why a run is over.
 fn stop_word(end: End) -> &'static str
@@ -80,16 +81,11 @@ impl Lab {
     fn watch_of(&self, watched: Watched) -> Watch
         ensures { result ≡ watch_of self.now watched }
     {
-        let board = self.board();
-        match watched {
-            Watched::Register(register) => Watch {
-                target: Target::Register(register),
-                value: Some(board.reg(register)),
-            },
-            Watched::Word(address) => Watch {
-                target: Target::Word(address),
-                value: word_at(board, address),
-            },
+        // A copy: for the borrow checker the call moves its argument.
+        let asked = watched;
+        Watch {
+            target: target_of(asked),
+            value: watched.value(self.board()),
         }
     }
 

@@ -1,13 +1,30 @@
-//! Why a trap came.
-ghost use Rattle.std.specs.Prelude.{◌≡◌, IfOk};
+//! Why a trap came, and where a value came from.
+ghost use Rattle.std.specs.Prelude.{◌≡◌, IfOk, OnErr, OnOk, Some};
 ghost use Rattle.rv_answers.specs.declared.answer.Answer.TheVariants as answers;
 ghost use Rattle.rv_why.specs.Why.{explanation};
+ghost use Rattle.rv_lab.specs.Runs.{Leaves, origin_of, trail_after};
 ghost use Rattle.rv_lab.specs.declared.lab.Next.TheVariants as after;
+ghost use Rattle.rv_lab.specs.declared.order.Order.TheVariants as orders;
 
 use crate::lab::{Done, Lab};
-use rv_answers::Answer;
+use crate::plan::Trail;
+use rv_answers::{Answer, Origin};
 use rv_base::NoMemory;
-use rv_why::explain;
+use rv_why::{explain, origin};
+
+/// Returns what is followed after a write was told: the write before it.
+fn trail_after(trail: Trail, origin: &Origin) -> Trail
+    ensures { result ≡ trail_after trail origin.now }
+{
+    let steps = match origin.write {
+        Some(write) => write.step.saturating_sub(1),
+        None => 0,
+    };
+    Trail {
+        watched: trail.watched,
+        steps,
+    }
+}
 
 impl Lab {
     /// Answers `why`.
@@ -16,5 +33,33 @@ impl Lab {
         ensures answers { IfOk result (λ d. d.answer ≡ answers.Explained (explanation self.now.recording)) }
     {
         Ok(Done::more(Answer::Explained(explain(&self.recording)?)))
+    }
+
+    /// Returns the last write of what is followed.
+    pub(crate) fn origin_of(&self, trail: Trail) -> Result<Origin, NoMemory>
+        ensures { IfOk result (λ o. o ≡ origin_of self.now trail) }
+    {
+        origin(&self.recording, trail.watched, trail.steps)
+    }
+
+    /// Keeps what `why` alone goes on with.
+    fn keep_trail(&mut self, trail: Trail)
+        ensures { self.new ≡ record self.old { trail = Some trail } }
+    {
+        self.last.trail = Some(trail);
+    }
+
+    /// Tells the last write of what is followed, and keeps that the one before it is told next.
+    pub(crate) fn origin(&mut self, trail: Trail) -> Result<Done, NoMemory>
+        ensures leaves { OnOk result (Leaves (orders.Origin trail) self.old self.new) }
+        ensures next { IfOk result (λ d. d.next ≡ after.More) }
+        ensures answers { IfOk result (λ d. d.answer ≡ answers.Origin (origin_of self.old trail)) }
+        ensures err { OnErr result (self.new ≡ self.old) }
+    {
+        // A copy: for the borrow checker the call moves its argument.
+        let asked = trail;
+        let origin = self.origin_of(asked)?;
+        self.keep_trail(trail_after(trail, &origin));
+        Ok(Done::more(Answer::Origin(origin)))
     }
 }

@@ -93,6 +93,10 @@ watched l b word =
     option_or (option_map (λ r. Register r) (lookup word register_names))
     (option_map (λ a. Word a) (option_and_then (address l b) (between 91 93 word)))
 
+-- what `why` follows: what is watched, or the word of memory at WHERE
+unfoldable pub followed : Listed → BoardState → List ℕ → Option Watched
+followed l b word = option_or (watched l b word) (option_map (λ a. Word a) (address l b word))
+
 -- the signs of relations: how a branch compares the two, and whether it does so exchanged
 unfoldable pub relations : List (List ℕ × (Cond × Bool))
 relations =
@@ -108,13 +112,19 @@ word_condition l b word =
     ((codes "trap", Trap) ∷ (codes "console", Console (length b.machine.bus.serial.sent)) ∷ []))
     (option_map (λ a. At a (option_map_or (λ k. length (bytes_of l k)) line 1)) (address l b word)))
 
--- `until`: one word, or a comparison of what is watched
-unfoldable pub condition : Listed → BoardState → List (List ℕ) → Option Condition
-condition l b (word ∷ []) = word_condition l b word
-condition l b (word ∷ sign ∷ v ∷ []) =
-    option_and_then (λ w. option_and_then (λ r. option_map (λ n. Compares w r.0 r.1 n) (word_value l b v))
-    (lookup sign relations)) (watched l b word)
-condition l b _ = None
+-- what is watched, in a relation with the first of some words
+abbrev pub compared : Listed → BoardState → List ℕ → Cond × Bool → List (List ℕ) → Option Condition
+compared l b word r [] = None
+compared l b word r (v ∷ more) =
+    option_and_then (λ w. option_map (λ n. Compares w r.0 r.1 n) (word_value l b v)) (watched l b word)
+
+-- the condition at the front of some words, if one is there, and the words that follow it: it has one word, or three
+-- where the second one is the sign of a relation
+unfoldable pub leading : Listed → BoardState → List (List ℕ) → Option Condition × List (List ℕ)
+leading l b [] = (None, [])
+leading l b (word ∷ []) = (word_condition l b word, [])
+leading l b (word ∷ second ∷ more) = option_map_or (λ r. (compared l b word r more, drop 1 more))
+    (lookup second relations) (word_condition l b word, second ∷ more)
 
 -- ---- inputs
 

@@ -1,14 +1,16 @@
 //! What a run goes on for.
-ghost use Rattle.std.specs.Prelude.{◌≡◌};
+ghost use Rattle.std.specs.Prelude.{◌≡◌, drop, option_and_then};
+ghost use Rattle.std.specs.Option.{option_map};
 ghost use Rattle.rv_base.specs.Tables.{lookup};
 ghost use Rattle.rv_base.specs.Words.{words};
 ghost use Rattle.rv_asm.specs.Seen.{seen};
-ghost use Rattle.rv_operands.specs.Operands.{condition, word_condition, relations, watched};
+ghost use Rattle.rv_operands.specs.Operands.{compared, followed, leading, relations, watched, word_condition, word_value};
+ghost use Rattle.rv_recording.specs.declared.until.Condition.TheVariants.{Compares};
 ghost use Rattle.rv_operands.specs.Support.Words.{at_place, named_event, size_from};
 
 use crate::place::{Scope, line_with_bytes};
-use crate::word::{line_number, only_word};
-use rv_base::{first_word, has_word, look_up};
+use crate::word::line_number;
+use rv_base::{first_word, look_up};
 use rv_isa::{Cond, reg_named};
 use rv_recording::{Condition, Watched};
 use rv_tokens::between;
@@ -23,6 +25,15 @@ static RELATIONS: [(&str, (Cond, bool)); 7] = [
     ("<", (Cond::Lt, false)),
     ("<=", (Cond::Ge, true)),
 ];
+
+/// The condition at the front of a text, if one is there, and what follows it.
+#[derive(Clone, Copy)]
+pub struct Leading<'a> {
+    /// The condition.
+    pub condition: Option<Condition>,
+    /// The text after it.
+    pub rest: &'a [u8],
+}
 
 /// Returns the relation of a sign.
 #[tactic(auto, unfolding(crate::specs::Operands::relations))]
@@ -42,6 +53,18 @@ impl<'a> Scope<'a> {
             return Some(Watched::Register(register));
         }
         let address = self.address(between(b'[', b']', word)?)?;
+        Some(Watched::Word(address))
+    }
+
+    /// Returns what a word follows: what it watches, or else the word of memory at its address.
+    #[tactic(auto, unfolding(crate::specs::Operands::followed))]
+    pub fn followed(&self, word: &[u8]) -> Option<Watched>
+        ensures { result ≡ followed (seen self.now.listing) self.now.board.now word.now }
+    {
+        if let Some(watched) = self.watched(word) {
+            return Some(watched);
+        }
+        let address = self.address(word)?;
         Some(Watched::Word(address))
     }
 
@@ -99,24 +122,67 @@ impl<'a> Scope<'a> {
         }
     }
 
-    /// Reads the operands of `until`.
-    #[tactic(auto, unfolding(crate::specs::Operands::condition))]
-    pub fn condition(&self, operands: &[u8]) -> Option<Condition>
-        ensures { result ≡ condition (seen self.now.listing) self.now.board.now (words operands.now) }
+    /// Returns the condition that what a word watches is in a relation with the value of another word.
+    fn comparison(&self, word: &[u8], relation: (Cond, bool), value: &[u8]) -> Option<Condition>
+        ensures { result ≡ option_and_then (λ w. option_map (λ n. Compares w relation.0 relation.1 n)
+            (word_value (seen self.now.listing) self.now.board.now value.now))
+            (watched (seen self.now.listing) self.now.board.now word.now) }
     {
-        let (word, rest) = first_word(operands)?;
-        let Some((sign, rest)) = first_word(rest) else {
-            return self.word_condition(word);
-        };
-        let value = only_word(rest)?;
         let watched = self.watched(word)?;
-        let (cond, exchanged) = relation(sign)?;
         let value = self.value(value)?;
+        let (cond, exchanged) = relation;
         Some(Condition::Compares {
             watched,
             cond,
             exchanged,
             value,
         })
+    }
+
+    /// Reads the value with which what a word watches is in a relation, at the front of a text.
+    fn compared<'b>(&self, word: &[u8], relation: (Cond, bool), text: &'b [u8]) -> Leading<'b>
+        ensures condition { result.condition
+            ≡ compared (seen self.now.listing) self.now.board.now word.now relation (words text.now) }
+        ensures rest { words result.rest.now ≡ drop 1 (words text.now) }
+    {
+        match first_word(text) {
+            Some((value, rest)) => Leading {
+                condition: self.comparison(word, relation, value),
+                rest,
+            },
+            None => Leading {
+                condition: None,
+                rest: text,
+            },
+        }
+    }
+
+    /// Reads the condition at the front of a text.
+    #[tactic(auto, unfolding(crate::specs::Operands::leading))]
+    pub fn leading<'b>(&self, text: &'b [u8]) -> Leading<'b>
+        ensures condition { result.condition
+            ≡ (leading (seen self.now.listing) self.now.board.now (words text.now)).0 }
+        ensures rest { words result.rest.now
+            ≡ (leading (seen self.now.listing) self.now.board.now (words text.now)).1 }
+    {
+        let Some((word, rest)) = first_word(text) else {
+            return Leading {
+                condition: None,
+                rest: text,
+            };
+        };
+        let Some((second, more)) = first_word(rest) else {
+            return Leading {
+                condition: self.word_condition(word),
+                rest,
+            };
+        };
+        match relation(second) {
+            Some(relation) => self.compared(word, relation, more),
+            None => Leading {
+                condition: self.word_condition(word),
+                rest,
+            },
+        }
     }
 }

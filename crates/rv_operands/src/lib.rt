@@ -8,6 +8,7 @@ mod input;
 mod place;
 mod word;
 
+pub use condition::Leading;
 pub use input::read_bytes_inputs;
 pub use place::{Scope, line_with_bytes};
 pub use word::{line_number, number, only_word, operands_of};

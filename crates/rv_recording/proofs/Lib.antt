@@ -6,3 +6,4 @@ pub mod Keeping
 pub mod Counting
 pub mod Taken
 pub mod NextBreak
+pub mod Nearest

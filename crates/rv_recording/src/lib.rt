@@ -4,6 +4,7 @@
 
 mod breaks;
 mod kept;
+mod near;
 mod out;
 mod recording;
 mod until;

@@ -245,7 +245,7 @@ impl Recording {
 
     /// Returns a board that has taken some of the first `count` steps, and their number: a copy of the newest
     /// state that is kept of them, or the board at reset.
-    fn board_before(&self, count: u64) -> Result<(BootedBoard, u64), NoMemory>
+    pub(crate) fn board_before(&self, count: u64) -> Result<(BootedBoard, u64), NoMemory>
         ensures within { IfOk result (λ start. start.1 ≤ count) }
         ensures run { IfOk result (λ start. start.0
             ≡ run (first_board self.now) (events_of self.now.session.timed.inputs 0 start.1)) }
@@ -285,7 +285,7 @@ impl Recording {
 
     /// Returns a session with the recorded inputs before its first step, which may take `limit` steps. No name of
     /// the program is known to it.
-    fn begun_again(&self, limit: u64) -> Result<Session<PagedRam, DecodeCache>, NoMemory>
+    pub(crate) fn begun_again(&self, limit: u64) -> Result<Session<PagedRam, DecodeCache>, NoMemory>
         ensures inputs { IfOk result (λ s. s.timed.inputs ≡ self.now.session.timed.inputs) }
         ensures limit { IfOk result (λ s. s.limit ≡ limit) }
     {

@@ -12,7 +12,8 @@ use Rattle.rv_hart.specs.declared.trap.Outcome.{Outcome}
 use Rattle.rv_hart.specs.declared.trap.Outcome.TheVariants.{Trapped}
 use Rattle.rv_answers.specs.declared.explained.Explained.{Explained}
 use Rattle.rv_answers.specs.declared.explained.Explanation.{Explanation}
-use Rattle.rv_why.specs.Why.{board_at, explained, explanation, first_state, outcome_at, told}
+use Rattle.rv_why.specs.Taken.{board_at, first_state, outcome_at}
+use Rattle.rv_why.specs.Why.{explained, explanation, told}
 use Rattle.rv_why.specs.Support.Found.{IsTold}
 use Rattle.rv_why.specs.declared.search.Found.{Found}
 
@@ -22,19 +23,19 @@ stands_at r t n h e =
     let least : min n r.session.timed.taken ≡ n = omega (arith, h) in
     ap (λ (u : TimedState). u.board) e ∙ ap (λ (k : ℕ). board_at (first_state r) k) least
 
+pub first_in_time : (r : RecordingState) → IsReached (first_board r) r.session.timed → IsInTime (first_state r)
+first_in_time r reached =
+    in_time (first_board r) (first_state r) (begun_stands (first_board r) r.session.timed.inputs reached.rising)
+
 module _ (r : RecordingState) (reached : IsReached (first_board r) r.session.timed) (t : TimedState)
     (e : t ≡ (gone_back r (min 0 r.session.timed.taken)).session.timed) where
-  first_in_time : IsInTime (first_state r)
-  first_in_time =
-      in_time (first_board r) (first_state r) (begun_stands (first_board r) r.session.timed.inputs reached.rising)
-
   pub is_first : t ≡ first_state r
   is_first =
       let none : min 0 r.session.timed.taken ≡ 0 = omega arith in
-      e ∙ (ap (after (first_state r)) none ∙ after_none (first_state r) first_in_time)
+      e ∙ (ap (after (first_state r)) none ∙ after_none (first_state r) (first_in_time r reached))
 
   pub begins_in_time : IsInTime t
-  begins_in_time = subst IsInTime (sym is_first) first_in_time
+  begins_in_time = subst IsInTime (sym is_first) (first_in_time r reached)
 
   pub begins_running : (most i : ℕ) → most ≤ r.session.timed.taken → i < most → halted_of (after t i).board ≡ None
   begins_running most i h l =

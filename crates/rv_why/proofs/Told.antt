@@ -1,19 +1,17 @@
 -- The search for the trap that is told.
-use Rattle.std.proofs.Common.{◌≡◌, ◌∙◌, ℕ, zero, suc, ◌+◌, ◌-◌, ◌<◌, ◌≤◌, Bool, true, false, add-one, refl, sym, ap, subst, arith}
+use Rattle.std.proofs.Common.{◌≡◌, ◌∙◌, ℕ, zero, suc, ◌+◌, ◌-◌, ◌<◌, Bool, true, false, add-one, refl, sym, ap, subst, arith}
 use native.Mathlib.Numerals.{unary_clauses}
-use Rattle.std.specs.Prelude.{is_none, is_some, nat_lt, Option, Some, None}
+use Rattle.std.specs.Prelude.{is_some, Option, Some, None}
 use Rattle.std.specs.Option.{option_map_or}
-use Rattle.std.proofs.lemmas.Bool.Decides.{nat_tests}
-use Rattle.rv_hart.specs.Step.{step}
 use Rattle.rv_hart.specs.declared.trap.Outcome.TheVariants.{Trapped}
 use Rattle.rv_answers.specs.declared.explained.Handler.{Handler}
-use Rattle.rv_board.specs.Support.State.{halted_of}
-use Rattle.rv_monitor.specs.State.{IsInTime, SessionState, TimedState, after, with_due}
-use Rattle.rv_monitor.specs.Stops.{may_step}
-use Rattle.rv_monitor.proofs.Steps.{after_none, after_more}
-use Rattle.rv_why.specs.Why.{board_at, handler_of, is_trap, is_unhandled, outcome_at, told}
+use Rattle.rv_monitor.specs.State.{IsInTime, SessionState, TimedState, after}
+use Rattle.rv_monitor.proofs.Steps.{after_more}
+use Rattle.rv_why.specs.Taken.{board_at, is_trap, outcome_at}
+use Rattle.rv_why.specs.Why.{handler_of, is_unhandled, told}
 use Rattle.rv_why.specs.Support.Found.{IsTold, IsTrap, next_of}
 use Rattle.rv_why.specs.declared.search.Found.{Found}
+use Rattle.rv_why.proofs.Standing.{did, next_is, stands, stands_first, timed_is}
 
 -- whether the trap that is told of the first n steps met no handler
 abbrev pub ends : TimedState → ℕ → Bool
@@ -33,9 +31,6 @@ stays s n zero e = simp unary_clauses refl
 stays s n (suc k) e = simp unary_clauses (rw (stays s n k e) (rw e refl))
 
 -- n steps were taken, of which a trap was found whose handler is there, or none
-abbrev pub stands : SessionState → ℕ → SessionState
-stands first n = record first { timed = after first.timed n }
-
 pub record Searching (first now : SessionState) (found : Option Found) (n : ℕ) : Type 0 where
   pub state : now ≡ stands first n
   pub told : IsTold first.timed n found
@@ -44,51 +39,19 @@ pub record Searching (first now : SessionState) (found : Option Found) (n : ℕ)
 pub begins : (first : SessionState) → IsInTime first.timed → Searching first first None 0
 unfolding told
 begins first h = record {
-  state = ap (λ (t : TimedState). record first { timed = t }) (sym (after_none first.timed h));
+  state = stands_first first h;
   told = refl;
   going = refl;
 }
 
-running_by : (h : Option ℕ) → h ≡ None → is_none h ≡ true
-running_by None e = refl
-running_by (Some code) e = absurd cc
-
 module _ (first now : SessionState) (found : Option Found) (n : ℕ) (h : IsInTime first.timed)
     (at : Searching first now found n) where
-  s : TimedState
-  s = first.timed
-
-  timed_is : now.timed ≡ after first.timed n
-  timed_is = ap (λ (u : SessionState). u.timed) at.state
-
-  taken_is : now.timed.taken ≡ first.timed.taken + n
-  unfolding after
-  taken_is = ap (λ (t : TimedState). t.taken) timed_is
-
-  pub may_go : (most : ℕ) → n < most → first.timed.taken + most ≤ first.limit
-      → ((i : ℕ) → i < most → halted_of (after first.timed i).board ≡ None) → may_step now ≡ true
-  may_go most l room runs =
-      let running : is_none (halted_of now.timed.board) ≡ true =
-      running_by _ (ap (λ (t : TimedState). halted_of t.board) timed_is ∙ runs n l) in
-      let limit : now.limit ≡ first.limit = ap (λ (u : SessionState). u.limit) at.state in
-      let less : now.timed.taken < now.limit = omega (arith, taken_is, limit, l, room) in
-      let is_less : nat_lt now.timed.taken now.limit ≡ true = grind (arith, nat_tests, less) in
-      rw (running, is_less) refl
-
   module _ (next : SessionState) (moves : next ≡ next_of now) where
-    next_is : next ≡ stands first (n + 1)
-    next_is =
-        moves ∙ (ap next_of at.state
-        ∙ ap (λ (t : TimedState). record first { timed = t }) (after_more first.timed n 1 h.rising))
-
-    did : step (with_due now.timed).board.machine ≡ step (with_due (after first.timed n)).board.machine
-    did = ap (λ (t : TimedState). step (with_due t).board.machine) timed_is
-
     -- the step took no trap
     told_still : IsTrap n now.timed None → told first.timed (n + 1) ≡ told first.timed n
     told_still none =
         ap (told first.timed) (add-one n)
-        ∙ more_none first.timed n at.going (sym (ap (λ r. is_trap r.1) did) ∙ none)
+        ∙ more_none first.timed n at.going (sym (ap (λ r. is_trap r.1) (did first now n h at.state)) ∙ none)
 
     told_on : (f : Option Found) → IsTold first.timed n f → told first.timed (n + 1) ≡ told first.timed n
         → IsTold first.timed (n + 1) f
@@ -97,7 +60,7 @@ module _ (first now : SessionState) (found : Option Found) (n : ℕ) (h : IsInTi
 
     pub went_on : IsTrap n now.timed None → Searching first next found (n + 1)
     went_on none = record {
-      state = next_is;
+      state = next_is first now n h at.state next moves;
       told = told_on found at.told (told_still none);
       going = ap (λ (o : Option ℕ). option_map_or (is_unhandled first.timed) o false) (told_still none) ∙ at.going;
     }
@@ -105,7 +68,7 @@ module _ (first now : SessionState) (found : Option Found) (n : ℕ) (h : IsInTi
     -- the step took one
     module _ (f : Found) (trap : IsTrap n now.timed (Some f)) where
       outcome_is : outcome_at first.timed n ≡ Trapped f.cause f.epc f.tval
-      outcome_is = sym (ap (λ r. r.1) did) ∙ trap.1
+      outcome_is = sym (ap (λ r. r.1) (did first now n h at.state)) ∙ trap.1
 
       told_it : told first.timed (n + 1) ≡ Some n
       told_it =
@@ -115,7 +78,7 @@ module _ (first now : SessionState) (found : Option Found) (n : ℕ) (h : IsInTi
       handler_is : f.handler ≡ handler_of (board_at first.timed (n + 1))
       handler_is =
           trap.2 ∙ ap (λ (t : TimedState). handler_of t.board)
-          (ap (λ (t : TimedState). after t 1) timed_is ∙ after_more first.timed n 1 h.rising)
+          (ap (λ (t : TimedState). after t 1) (timed_is first now n h at.state) ∙ after_more first.timed n 1 h.rising)
 
       pub told_now : IsTold first.timed (n + 1) (Some f)
       told_now = (
@@ -131,7 +94,7 @@ module _ (first now : SessionState) (found : Option Found) (n : ℕ) (h : IsInTi
           ∙ sym (ap (λ (k : Handler). is_some k.missing) handler_is)
 
       pub found_one : is_some f.handler.missing ≡ false → Searching first next (Some f) (n + 1)
-      found_one e = record { state = next_is; told = told_now; going = ends_is ∙ e }
+      found_one e = record { state = next_is first now n h at.state next moves; told = told_now; going = ends_is ∙ e }
 
       pub found_last : (most : ℕ) → n < most → is_some f.handler.missing ≡ true → IsTold first.timed most (Some f)
       found_last most l e =

@@ -1,2 +1,4 @@
+pub mod Taken
+pub mod Origins
 pub mod Why
 pub mod Support

@@ -18,14 +18,15 @@ use Rattle.rv_pmp.specs.declared.mode.Mode.{Mode}
 use Rattle.rv_csr.specs.Traps.{data_mode}
 use Rattle.rv_hart.specs.Effect.{plus, reg}
 use Rattle.rv_hart.specs.Laws.{interrupt_taken}
-use Rattle.rv_hart.specs.Step.{step}
 use Rattle.rv_hart.specs.declared.trap.Outcome.{Outcome}
 use Rattle.rv_hart.specs.declared.trap.Outcome.TheVariants.{Trapped}
 use Rattle.rv_board.specs.BoardState.{BoardState, csr_of}
-use Rattle.rv_monitor.specs.State.{TimedState, begun, after, with_due}
+use Rattle.rv_monitor.specs.State.{TimedState}
 use Rattle.rv_monitor.specs.Views.{word_at}
-use Rattle.rv_recording.specs.Recording.{RecordingState, first_board}
+use Rattle.rv_recording.specs.Recording.{RecordingState}
+use Rattle.rv_recording.specs.declared.until.Watched.TheVariants.{Word}
 use Rattle.rv_answers.specs.States.{region_of}
+use Rattle.rv_answers.specs.declared.origin.Write as written
 use Rattle.rv_answers.specs.declared.explained.Area.{Area}
 use Rattle.rv_answers.specs.declared.explained.Area.TheVariants as area
 use Rattle.rv_answers.specs.declared.explained.Barrier.{Barrier}
@@ -39,6 +40,8 @@ use Rattle.rv_answers.specs.declared.explained.Before.{Before}
 use Rattle.rv_answers.specs.declared.explained.Handler.{Handler}
 use Rattle.rv_answers.specs.declared.explained.Explained.{Explained}
 use Rattle.rv_answers.specs.declared.explained.Explanation.{Explanation}
+use Rattle.rv_why.specs.Origins.{last_write}
+use Rattle.rv_why.specs.Taken.{board_at, first_state, is_trap, outcome_at}
 
 -- ---- what lets no access through
 
@@ -112,13 +115,6 @@ why_trapped b did = option_map_or why.Interrupt (interrupt_taken did) (why_tried
 
 -- ---- the trap of a step
 
--- the board after n steps of a state, and what the step after them does
-abbrev pub board_at : TimedState → ℕ → BoardState
-board_at s n = (after s n).board
-
-abbrev pub outcome_at : TimedState → ℕ → Outcome
-outcome_at s n = (step (with_due (after s n)).board.machine).1
-
 abbrev pub handler_of : BoardState → Handler
 handler_of b = record { address = b.machine.pc; mtvec = b.machine.csrs.mtvec; missing = result_err (fetched b) }
 
@@ -144,6 +140,11 @@ abbrev pub overwritten : (first now : BoardState) → ℕ → Option ℕ
 overwritten first now addr =
     if option_eq nat_eq (word_at first addr) (word_at now addr) then None else word_at first addr
 
+-- the last of the first n steps that wrote the word at an address, if that is another one than at reset
+abbrev pub writer : TimedState → (addr n : ℕ) → Option ℕ → Option written.Write
+writer s addr n None = None
+writer s addr n (Some word) = last_write (Word addr) s n
+
 -- the trap of the step that follows n steps, by what that step does
 unfoldable pub explained : TimedState → ℕ → Outcome → Option Explained
 explained s n (Trapped cause epc tval) = Some (record {
@@ -154,6 +155,7 @@ explained s n (Trapped cause epc tval) = Some (record {
   mode = (board_at s n).machine.mode;
   word = word_at (board_at s n) epc;
   overwritten = overwritten (board_at s 0) (board_at s n) epc;
+  writer = writer s epc n (overwritten (board_at s 0) (board_at s n) epc);
   reason = why_trapped (board_at s n) (Trapped cause epc tval);
   before = before_trap s cause n;
   handler = handler_of (board_at s (n + 1));
@@ -161,10 +163,6 @@ explained s n (Trapped cause epc tval) = Some (record {
 explained s n did = None
 
 -- ---- which trap
-
-abbrev pub is_trap : Outcome → Bool
-is_trap (Trapped cause epc tval) = true
-is_trap did = false
 
 -- after the step that follows n steps, no instruction is fetched
 abbrev pub is_unhandled : TimedState → ℕ → Bool
@@ -176,10 +174,6 @@ told s zero = None
 told s (suc n) =
     if option_map_or (is_unhandled s) (told s n) false then told s n
     else (if is_trap (outcome_at s n) then Some n else told s n)
-
--- a recording before its first step
-abbrev pub first_state : RecordingState → TimedState
-first_state r = begun (first_board r) r.session.timed.inputs
 
 -- what is told of a recording: at most 20,000,000 steps are looked at
 unfoldable pub explanation : RecordingState → Explanation

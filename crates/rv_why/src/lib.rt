@@ -8,6 +8,8 @@ mod laws;
 mod reason;
 mod search;
 mod trap;
+mod writes;
 
 pub use laws::fetches_as_the_machine;
 pub use trap::explain;
+pub use writes::{Sought, last_met, origin, target_of};

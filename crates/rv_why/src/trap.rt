@@ -2,24 +2,29 @@
 ghost use Rattle.std.specs.Prelude.{◌≡◌, ◌==◌, ◌+◌, ◌-◌, ◌<◌, ◌≤◌, if◌then◌else◌, None, Some, IfOk};
 ghost use Rattle.rv_hart.specs.declared.trap.Outcome.TheVariants.{Trapped};
 ghost use Rattle.rv_why.specs.Why as spec;
-ghost use Rattle.rv_why.specs.Why.{board_at, explanation, first_state, handler_of};
+ghost use Rattle.rv_why.specs.Taken.{board_at, first_state};
+ghost use Rattle.rv_why.specs.Why.{explanation, handler_of};
 
 use crate::reason::{before_of, why_trapped};
 use crate::search::{Found, find_trap};
-use rv_answers::{Before, Explained, Explanation};
+use crate::writes::last_write;
+use rv_answers::{Before, Explained, Explanation, Write};
 use rv_base::NoMemory;
 use rv_board::BootedBoard;
 use rv_cache::DecodeCache;
 use rv_monitor::{Session, word_at};
 use rv_ram::PagedRam;
-use rv_recording::Recording;
+use rv_recording::{Recording, Watched};
 
 /// How many steps are looked at.
 const MOST: u64 = 20_000_000;
 
 /// Returns a session whose board has taken that many steps of a recording.
 #[tactic(auto, using(crate::proofs::Replays::stands_at))]
-fn at_step(recording: &Recording, steps: u64) -> Result<Session<PagedRam, DecodeCache>, NoMemory>
+pub(crate) fn at_step(
+    recording: &Recording,
+    steps: u64,
+) -> Result<Session<PagedRam, DecodeCache>, NoMemory>
     requires { steps ≤ recording.now.session.timed.taken }
     ensures { IfOk result (λ s. s.timed.board ≡ board_at (first_state recording.now) steps) }
 {
@@ -61,6 +66,22 @@ fn overwritten(first: &BootedBoard, now: &BootedBoard, address: u32) -> Option<u
     word
 }
 
+/// Returns the last of the first `steps` steps that wrote the word at an address, if that is another one than at reset.
+fn writer(
+    recording: &Recording,
+    address: u32,
+    steps: u64,
+    overwritten: Option<u32>,
+) -> Result<Option<Write>, NoMemory>
+    requires { steps ≤ recording.now.session.timed.taken }
+    ensures { IfOk result (λ w. w ≡ spec.writer (first_state recording.now) address steps overwritten) }
+{
+    match overwritten {
+        Some(_) => last_write(recording, Watched::Word(address), steps),
+        None => Ok(None),
+    }
+}
+
 /// Explains a trap of a recording.
 #[tactic(auto, unfolding(crate::specs::Why::explained))]
 fn explained(recording: &Recording, found: Found) -> Result<Explained, NoMemory>
@@ -81,6 +102,8 @@ fn explained(recording: &Recording, found: Found) -> Result<Explained, NoMemory>
     let first = at_step(recording, 0)?;
     let run = at_step(recording, step)?;
     let board = run.board();
+    let overwritten = overwritten(first.board(), board, epc);
+    let writer = writer(recording, epc, step, overwritten)?;
     Ok(Explained {
         step: step + 1,
         cause,
@@ -88,7 +111,8 @@ fn explained(recording: &Recording, found: Found) -> Result<Explained, NoMemory>
         address: epc,
         mode: board.mode(),
         word: word_at(board, epc),
-        overwritten: overwritten(first.board(), board, epc),
+        overwritten,
+        writer,
         reason: why_trapped(board, cause, epc, tval),
         before,
         handler,

@@ -4,7 +4,8 @@ use Rattle.std.specs.Prelude.{◌≡◌, ℕ, ◌+◌, ◌<◌, false, Option, S
 use Rattle.rv_hart.specs.Step.{step}
 use Rattle.rv_hart.specs.declared.trap.Outcome.TheVariants.{Trapped}
 use Rattle.rv_monitor.specs.State.{SessionState, TimedState, after, with_due}
-use Rattle.rv_why.specs.Why.{board_at, handler_of, is_trap, outcome_at, told}
+use Rattle.rv_why.specs.Taken.{board_at, is_trap, outcome_at}
+use Rattle.rv_why.specs.Why.{handler_of, told}
 use Rattle.rv_why.specs.declared.search.Found.{Found}
 
 -- a session after its next step

@@ -1,6 +1,7 @@
 use Rattle.std.proofs.Common.{◌≡◌, true, false, rules, arith}
 use Rattle.std.specs.Prelude.{is_some}
-use Rattle.rv_why.proofs.Told.{begins, found_last, found_one, may_go, went_on}
+use Rattle.rv_why.proofs.Standing.{may_go}
+use Rattle.rv_why.proofs.Told.{begins, found_last, found_one, went_on}
 use Rattle.rv_why.proofs.search.find_trap.Goals.{in-Some+else-is_some, in_default}
 use Rattle.rv_why.proofs.search.find_trap.Goals as goal
 
@@ -9,8 +10,7 @@ loop-done-init c = begins c.args.run.now c.requires.in_time
 
 pub take_step-requires : goal.take_step-requires
 take_step-requires c =
-    may_go c.args.run.now c.loop-done.run c.loop-done.found c.loop-done.done c.requires.in_time
-    c.loop-done.invariant c.args.most (omega arith) c.requires.room c.requires.running
+    may_go c.args.run.now c.loop-done.run c.loop-done.done c.requires.in_time c.loop-done.invariant.state c.args.most (omega arith) c.requires.room c.requires.running
 
 pub returns-then-is_some : goal.returns-then-is_some
 returns-then-is_some c =
