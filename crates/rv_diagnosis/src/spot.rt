@@ -79,9 +79,17 @@ pub(crate) fn skip_blanks(text: &[u8]) -> &[u8] {
     text.split_at(len.min(text.len())).1
 }
 
-/// Returns the word with which the statement of a line begins, by what stands before a place in it: what follows the
-/// last colon, which ends a label.
-pub(crate) fn word_in(before: &[u8]) -> &[u8] {
+/// Returns the word with which a text begins, and the next one.
+pub(crate) fn two_words(text: &[u8]) -> (&[u8], &[u8]) {
+    let text = skip_blanks(text);
+    let word = run_of(text);
+    let rest = text.split_at(word.len().min(text.len())).1;
+    (word, run_of(skip_blanks(rest)))
+}
+
+/// Returns the statement of a line up to a place, by what stands before that: what follows the last colon, which ends a
+/// label.
+pub(crate) fn statement_in(before: &[u8]) -> &[u8] {
     let mut place: usize = 0;
     let mut begin: usize = 0;
     for byte in before {
@@ -90,7 +98,12 @@ pub(crate) fn word_in(before: &[u8]) -> &[u8] {
             begin = place;
         }
     }
-    run_of(skip_blanks(before.split_at(begin.min(before.len())).1))
+    before.split_at(begin.min(before.len())).1
+}
+
+/// Returns the word with which the statement of a line begins, by what stands before a place in it.
+pub(crate) fn word_in(before: &[u8]) -> &[u8] {
+    two_words(statement_in(before)).0
 }
 
 /// Returns how often a byte stands in a text.

@@ -1,7 +1,9 @@
 //! Tokens that can't stand where they stand, and bytes at which no token begins (E3).
 use crate::foreign::FOREIGN;
 use crate::operands::{NO_WORD, is_word};
-use crate::spot::{Spot, count_of, first_byte, is_in_name, last_byte, run_of, word_in};
+use crate::spot::{
+    Spot, count_of, first_byte, is_in_name, last_byte, run_of, statement_in, two_words,
+};
 use crate::text::{Words, in_words};
 use rv_base::look_up;
 
@@ -259,14 +261,14 @@ const OPERATOR: (&str, &str) = (
 /// Returns what is said where a comma seems to be missing, but the word of the statement is none: a label without its
 /// colon, or a word of another assembler.
 fn no_statement<'a>(spot: Spot<'a>) -> Option<(Words, &'a [u8])> {
-    let word = word_in(spot.before);
+    let (word, next) = two_words(statement_in(spot.before));
     if word.is_empty() || is_word(word) || !is_in_name(last_byte(spot.before)) {
         return None;
     }
     if let Some(advice) = look_up(&FOREIGN, word) {
         return Some((in_words(NO_WORD, advice), word));
     }
-    if is_word(run_of(spot.rest)) {
+    if is_word(next) {
         let said = in_words(
             "`^` is no instruction",
             "if it is a label write `^:`, with a colon",
