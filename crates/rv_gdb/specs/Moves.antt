@@ -1,0 +1,113 @@
+-- To audit: public contracts cite this.
+-- The moves of a target, and what gdb is told of their ends (Debugging with GDB, appendix "GDB Remote Serial Protocol",
+-- "Stop Reply Packets"; the numbers of the signals are gdb's).
+use Rattle.std.specs.Prelude.{◌≡◌, ℕ, ◌-◌, ◌^◌, ◌==◌, ◌||◌, ◌&&◌, ◌++◌, Bool, true, false, List, if◌then◌else◌, is_none, is_some, min, nat_le, Option, Some, None}
+use Rattle.std.specs.FinSet as set
+use Rattle.rv_board.specs.BoardState.{BoardState}
+use Rattle.rv_hart.specs.declared.trap.Outcome.{Outcome}
+use Rattle.rv_hart.specs.declared.trap.Outcome.TheVariants.{Trapped}
+use Rattle.rv_hart.specs.Step.{step}
+use Rattle.rv_monitor.specs.State.{SessionState, with_due}
+use Rattle.rv_monitor.specs.Stops.{may_step}
+use Rattle.rv_recording.specs.Out.{out_ends}
+use Rattle.rv_recording.specs.Recording.{gone_back}
+use Rattle.rv_recording.specs.Until.{HasRun}
+use Rattle.rv_recording.specs.declared.until.End.{End}
+use Rattle.rv_recording.specs.declared.until.End.TheVariants.{Limit}
+use Rattle.rv_lab.specs.Commands.{stepped}
+use Rattle.rv_lab.specs.State.{board}
+use Rattle.rv_packets.specs.Items.{framed}
+use Rattle.rv_replies.specs.Texts.{state_text}
+use Rattle.rv_replies.specs.declared.stops.Reason.{Reason}
+use Rattle.rv_gdb.specs.Target.{TargetState, console_text, moved, with_console, with_recording}
+
+-- ---- stops
+
+-- the signal of a trap by its cause: SIGBUS, SIGSEGV, SIGILL, SIGSYS, and else SIGTRAP
+abbrev pub signal_of : ℕ → ℕ
+signal_of cause =
+    if (cause == 0) || (cause == 4) || (cause == 6) then 10
+    else if (cause == 1) || (cause == 5) || (cause == 7) then 11
+    else if cause == 2 then 4
+    else if (cause == 8) || (cause == 11) then 12
+    else 5
+
+-- whether a board stands where a trap without a handler leads: mtvec is 0 at reset, and there is no memory
+abbrev pub is_lost : BoardState → Bool
+is_lost b = is_none b.machine.bus.halt && (b.machine.pc == 0)
+
+-- the packet of a stop by a signal, or of the end of the program
+abbrev pub state_packet : ℕ → Reason → TargetState → List ℕ
+state_packet signal reason t =
+    framed (state_text signal reason (board t.lab))
+
+-- that, after what the console got
+abbrev pub stop_packets : ℕ → Reason → TargetState → List ℕ
+stop_packets signal reason t = console_text t ++ state_packet signal reason t
+
+-- ---- moves
+
+abbrev pub taken : TargetState → ℕ
+taken t = t.lab.recording.session.timed.taken
+
+-- the target gone back to after the first n steps, if more were taken
+abbrev pub went_back : TargetState → ℕ → TargetState
+went_back t n = moved t (gone_back t.lab.recording (min n (taken t)))
+
+-- what the next step does, if there is one
+abbrev pub next_outcome : SessionState → Option Outcome
+next_outcome s = if may_step s then Some (step (with_due s.timed).board.machine).1 else None
+
+-- the cause of a trap
+unfoldable pub trap_cause : Option Outcome → Option ℕ
+trap_cause (Some (Trapped cause epc tval)) = Some cause
+trap_cause _ = None
+
+-- the cause of the trap that led a board where it is, if there was no handler for it: what its last step did
+abbrev pub lost_by : TargetState → Option ℕ
+lost_by t =
+    let before = (gone_back t.lab.recording (min (taken t - 1) (taken t))).session in
+    if is_lost (board t.lab) then trap_cause (next_outcome (record before { limit = taken t })) else None
+
+-- where a move ends: a trap without a handler is undone, so that the board stands at the instruction that trapped
+abbrev pub landed : TargetState → TargetState
+landed t = if is_some (lost_by t) then went_back t (taken t - 1) else with_console t
+
+-- whether an interrupt came with it: the highest bit of its cause is set
+unfoldable pub is_interrupt : Option Outcome → Bool
+is_interrupt (Some (Trapped cause epc tval)) = nat_le (2 ^ 31) cause
+is_interrupt _ = false
+
+-- the target whose recording has another session
+abbrev pub with_session : TargetState → SessionState → TargetState
+with_session t s = with_recording t (record t.lab.recording { session = s })
+
+-- a target after a part of a run that ended so: the run goes on if it took as many steps as it was to take
+abbrev pub after_part : End → TargetState → TargetState
+after_part Limit t = with_console t
+after_part end t = landed t
+
+abbrev pub goes_on : End → Bool
+goes_on Limit = true
+goes_on end = false
+
+-- a step was taken, and if an interrupt came with it, those of its handler, up to its end or to a breakpoint: the run
+-- out of one call
+pub record RanOut (most : ℕ) (old new : TargetState) : Type 0 where
+  pub session : SessionState
+  pub end : End
+  pub run : HasRun (out_ends 1 old.lab.recording.session) most old.lab.recording.session session end
+  pub state : new ≡ landed (with_session old session)
+
+abbrev pub Passed : (interrupted : Bool) (most : ℕ) (one new : TargetState) → Type 0
+Passed true most one new = RanOut most one new
+Passed false most one new = new ≡ landed one
+
+abbrev pub StepsPast : (most : ℕ) (old new : TargetState) → Type 0
+StepsPast most old new =
+    Passed (is_interrupt (next_outcome old.lab.recording.session)) most
+    (with_recording old (stepped old.lab.recording)) new
+
+-- whether the next instruction is at a breakpoint
+abbrev pub is_at_break : TargetState → Bool
+is_at_break t = set.contains t.lab.recording.session.breakpoints.addresses (board t.lab).machine.pc

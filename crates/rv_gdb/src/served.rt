@@ -1,0 +1,132 @@
+//! Requests, one by one.
+ghost use Rattle.std.specs.Prelude.{◌≡◌, ◌++◌, IfOk, MatchOption, OnOk, false, true};
+ghost use Rattle.rv_packets.specs.Items.{framed};
+ghost use Rattle.rv_lab.specs.State.{board};
+ghost use Rattle.rv_replies.specs.Looks.{look_text};
+ghost use Rattle.rv_gdb.specs.Moves.{went_back};
+ghost use Rattle.rv_gdb.specs.Serves.{Replies, Serves, inserted, removed};
+
+use crate::target::{NO_HANDLER, Target};
+use rv_base::NoMemory;
+use rv_packets::append_packet;
+use rv_replies::append_look;
+use rv_requests::{Point, Request};
+
+/// What follows a request.
+#[derive(Clone, Copy)]
+pub(crate) enum Then {
+    /// The next request.
+    Waits,
+    /// A run.
+    Runs,
+    /// Nothing: the talk is over.
+    Ends,
+}
+
+impl Target {
+    /// Appends a packet.
+    pub(crate) fn say(&self, contents: &[u8], out: &mut Vec<u8>) -> Result<Then, NoMemory>
+        ensures { OnOk result (out.new.items ≡ out.old.items ++ framed contents.now) }
+    {
+        append_packet(self.alloc, contents, out)?;
+        Ok(Then::Waits)
+    }
+
+    /// Inserts a point. Those at accesses aren't known.
+    fn insert(&mut self, point: Point, address: u32, out: &mut Vec<u8>) -> Result<Then, NoMemory>
+        ensures { OnOk result (self.new ≡ inserted point address self.old) }
+    {
+        if !matches!(point, Point::Break) {
+            return self.say(b"", out);
+        }
+        self.lab.recording_mut().set_break(address)?;
+        self.say(b"OK", out)
+    }
+
+    /// Removes a point. The one where a trap without a handler leads stays.
+    fn remove(&mut self, point: Point, address: u32, out: &mut Vec<u8>) -> Result<Then, NoMemory>
+        ensures { OnOk result (self.new ≡ removed point address self.old) }
+    {
+        if !matches!(point, Point::Break) {
+            return self.say(b"", out);
+        }
+        if address == NO_HANDLER {
+            return self.say(b"OK", out);
+        }
+        let _was = self.lab.recording_mut().clear_break(address);
+        self.say(b"OK", out)
+    }
+
+    /// Goes back to the first step.
+    fn restart(&mut self, out: &mut Vec<u8>) -> Result<Then, NoMemory>
+        ensures { OnOk result (self.new ≡ went_back self.old 0) }
+    {
+        self.go_back(0)?;
+        self.look(&Request::LastStop, out)?;
+        Ok(Then::Waits)
+    }
+
+    /// Serves a request, and returns what follows it.
+    #[tactic(auto, unfolding(crate::specs::Serves::Serves))]
+    pub(crate) fn serve(&mut self, request: &Request, out: &mut Vec<u8>) -> Result<Then, NoMemory>
+        ensures { OnOk result (Serves request.now self.old self.new) }
+    {
+        match request {
+            Request::Step => {
+                self.step(out)?;
+                Ok(Then::Waits)
+            }
+            Request::StepWithin(_, _) => {
+                self.step_past(out)?;
+                Ok(Then::Waits)
+            }
+            Request::StepBack => {
+                self.step_back(out)?;
+                Ok(Then::Waits)
+            }
+            Request::ContinueBack => {
+                self.run_back(out)?;
+                Ok(Then::Waits)
+            }
+            Request::Continue => Ok(Then::Runs),
+            Request::Insert(point, address, _) => self.insert(*point, *address, out),
+            Request::Remove(point, address, _) => self.remove(*point, *address, out),
+            Request::Run => self.restart(out),
+            Request::Command(line) => self.answer_line(line.bytes(), out),
+            Request::Detach => self.detach(out),
+            Request::End => Ok(Then::Ends),
+            Request::Answered(_) => Ok(Then::Waits),
+            _ => self.tell(request, out),
+        }
+    }
+
+    /// Ends the talk.
+    fn detach(&self, out: &mut Vec<u8>) -> Result<Then, NoMemory> {
+        let _then = self.say(b"OK", out)?;
+        Ok(Then::Ends)
+    }
+
+    /// Replies to a request that leaves the board as it stands, and returns whether it is one.
+    fn look(&self, request: &Request, out: &mut Vec<u8>) -> Result<bool, NoMemory>
+        ensures { IfOk result (λ known. MatchOption (look_text request.now (board self.now.lab) self.now.files)
+            ((known ≡ false) × (out.new ≡ out.old))
+            (λ t. (known ≡ true) × (out.new.items ≡ out.old.items ++ framed t))) }
+    {
+        let mut contents = Vec::new(self.alloc);
+        let known = append_look(&mut contents, request, self.board(), &self.files)?;
+        if known {
+            append_packet(self.alloc, &contents, out)?;
+        }
+        Ok(known)
+    }
+
+    /// Replies to a request that doesn't move the board: what it asks for, or else that it is agreed to.
+    fn tell(&self, request: &Request, out: &mut Vec<u8>) -> Result<Then, NoMemory>
+        ensures { OnOk result (Replies request.now self.now out.old.items out.new.items) }
+    {
+        if self.look(request, out)? {
+            return Ok(Then::Waits);
+        }
+        self.say(b"OK", out)
+    }
+}
