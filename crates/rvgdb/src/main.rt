@@ -1,0 +1,164 @@
+//! The server of gdb's remote protocol: `rvgdb SOURCE [--input F] [--pages P] [--slots S] [--no-questions]`.
+//!
+//! Opens a lab of the source, and talks with gdb over the standard input and output.
+#![tactic(auto)]
+
+mod talk;
+mod words;
+
+use crate::talk::{TalkFault, talk};
+use crate::words::{Words, read_words};
+use clap::error::ErrorKind;
+use rv_base::{NoMemory, TEXT_LIMIT};
+use rv_gdb::{Server, Target, features, memory_map};
+use rv_lab::{Lab, LabFault, Printer, append_diagnosis};
+use rv_object::{ElfFault, elf_file};
+use rv_options::refusal_status;
+use rv_replies::Files;
+use std::alloc::AllocError;
+use std::io::{self, Write};
+use std::process::ExitCode;
+use std::{env, fs};
+
+/// The exit status where the source, the timed list or the words are refused.
+const REFUSED: u8 = 3;
+
+/// The exit status where a file can't be read, or memory ran out.
+const FAILED: u8 = 4;
+
+/// The path by which gdb knows the program's file.
+const PATH: &[u8] = b"/board.elf";
+
+/// Writes a line to the standard error, and returns the exit status of a failure.
+fn fail(rt: &HostRuntime, line: &[u8]) -> u8 {
+    let _ = rt.stderr().write_all(line);
+    FAILED
+}
+
+/// Reads a file of at most 16,777,216 bytes.
+fn read_file(rt: &HostRuntime, path: &str) -> Option<Vec<u8>> {
+    let text = fs::read(rt, path).ok()?;
+    if text.len() > TEXT_LIMIT {
+        None
+    } else {
+        Some(text)
+    }
+}
+
+/// Returns the folder that relative paths begin at, or an empty one where it isn't known.
+fn folder(rt: &HostRuntime) -> Vec<u8> {
+    let Ok(path) = env::current_dir(rt) else {
+        return Vec::new(rt.alloc());
+    };
+    let folder = match path.to_str() {
+        Some(text) => text.as_bytes().to_vec(rt.alloc()),
+        None => Err(AllocError),
+    };
+    folder.unwrap_or(Vec::new(rt.alloc()))
+}
+
+/// Returns the program's ELF file, or an empty one where it would be too large.
+fn program_file(rt: &HostRuntime, name: &str, lab: &Lab) -> Result<Vec<u8>, NoMemory> {
+    match elf_file(rt.alloc(), lab.listing(), name.as_bytes(), &folder(rt)) {
+        Ok(file) => Ok(file),
+        Err(ElfFault::TooLarge) => Ok(Vec::new(rt.alloc())),
+        Err(ElfFault::OutOfMemory) => Err(NoMemory),
+    }
+}
+
+/// Returns a server of a lab.
+fn server(rt: &HostRuntime, words: &Words<'_>, lab: Lab) -> Result<Server, NoMemory> {
+    let file = program_file(rt, words.source, &lab)?;
+    let mut path = Vec::new(rt.alloc());
+    path.extend_from_slice(PATH)?;
+    let map = memory_map(rt.alloc(), words.sizes.pages)?;
+    let files = Files::new(features(rt.alloc())?, map, path, file);
+    let target = Target::new(rt.alloc(), lab, files)?;
+    Ok(Server::new(rt.alloc(), target, words.asks))
+}
+
+/// Talks about a lab until gdb is done. Returns the exit status.
+fn serve(rt: &HostRuntime, words: &Words<'_>, lab: Lab) -> u8 {
+    let Ok(mut server) = server(rt, words, lab) else {
+        return fail(rt, b"out of memory\n");
+    };
+    match talk(rt, &mut server) {
+        Ok(()) => 0,
+        Err(TalkFault::NoMemory) => fail(rt, b"out of memory\n"),
+        Err(TalkFault::Closed) => FAILED,
+    }
+}
+
+/// Reports why there is no lab, and returns the exit status.
+fn refuse(rt: &HostRuntime, words: &Words<'_>, source: &[u8], fault: LabFault) -> u8 {
+    let mut text = Printer::new(rt.alloc());
+    append_diagnosis(words.source, source, fault, &mut text);
+    let failed = fail(rt, text.bytes());
+    match fault {
+        LabFault::OutOfMemory => failed,
+        _ => REFUSED,
+    }
+}
+
+/// Opens a lab of a source with a timed list, and talks. Returns the exit status.
+fn open(rt: &HostRuntime, words: &Words<'_>, source: &[u8], inputs: &[u8]) -> u8 {
+    match Lab::open(rt.alloc(), source, inputs, words.sizes) {
+        Ok(lab) => serve(rt, words, lab),
+        Err(fault) => refuse(rt, words, source, fault),
+    }
+}
+
+/// Reads the timed list, if the words name one, and talks. Returns the exit status.
+fn run_source(rt: &HostRuntime, words: &Words<'_>, source: &[u8]) -> u8 {
+    let Some(path) = words.input else {
+        return open(rt, words, source, b"");
+    };
+    match read_file(rt, path) {
+        Some(inputs) => open(rt, words, source, inputs.as_slice()),
+        None => fail(rt, b"cannot read input\n"),
+    }
+}
+
+/// Reads the files that the words name, and talks. Returns the exit status.
+fn run(rt: &HostRuntime, words: &Words<'_>) -> u8 {
+    match read_file(rt, words.source) {
+        Some(source) => run_source(rt, words, source.as_slice()),
+        None => fail(rt, b"cannot read source\n"),
+    }
+}
+
+/// Prints the help that was asked for, or why the words are refused, and returns the exit status.
+fn refuse_words(rt: &HostRuntime, error: &clap::Error) -> u8 {
+    if error.kind() == ErrorKind::OutOfMemory {
+        let _failed = fail(rt, b"out of memory\n");
+    } else {
+        let _ = error.print(rt);
+    }
+    refusal_status(error)
+}
+
+/// Reads the words, does what they ask for, and returns the exit status.
+fn run_words(rt: &HostRuntime, all: &[String]) -> Result<u8, AllocError> {
+    let list: Vec<&str> = all.iter().map(|word| word.as_str()).collect(rt.alloc())?;
+    Ok(match read_words(rt.alloc(), list.as_slice()) {
+        Ok(words) => run(rt, &words),
+        Err(error) => refuse_words(rt, &error),
+    })
+}
+
+/// Returns the words of the command line, the program's name first.
+fn all_words(rt: &HostRuntime) -> io::Result<Vec<String>> {
+    let all = env::args(rt)?.collect(rt.alloc())?;
+    Ok(all)
+}
+
+fn main(rt: HostRuntime) -> ExitCode {
+    let status = match all_words(&rt) {
+        Ok(all) => run_words(&rt, all.as_slice()).unwrap_or(FAILED),
+        Err(_) => {
+            let _failed = fail(&rt, b"error: a word is not UTF-8\n");
+            REFUSED
+        }
+    };
+    ExitCode::from(status)
+}
