@@ -9,5 +9,6 @@ mod server;
 mod target;
 
 pub use descriptions::{features, memory_map};
+pub use served::Then;
 pub use server::{Next, Server};
 pub use target::Target;

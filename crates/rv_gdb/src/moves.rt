@@ -197,7 +197,11 @@ impl Target {
     }
 
     /// Takes steps of a run, at most `most`, up to a breakpoint, and returns why they ended.
-    pub(crate) fn take_part(&mut self, most: u64) -> Result<End, NoMemory>
+    ///
+    /// # Errors
+    ///
+    /// `NoMemory` if memory runs out at a step. The steps before it are taken.
+    pub fn take_part(&mut self, most: u64) -> Result<End, NoMemory>
         ensures run { IfOk result (HasRun (break_ends self.old.lab.recording.session) most
             self.old.lab.recording.session self.new.lab.recording.session) }
         ensures others { self.new ≡ with_session self.old self.new.lab.recording.session }
@@ -206,7 +210,11 @@ impl Target {
     }
 
     /// Tells where a part of a run ended, by why it did, and returns whether the run goes on.
-    pub(crate) fn end_part(&mut self, end: End, out: &mut Vec<u8>) -> Result<bool, NoMemory>
+    ///
+    /// # Errors
+    ///
+    /// `NoMemory` if memory runs out.
+    pub fn end_part(&mut self, end: End, out: &mut Vec<u8>) -> Result<bool, NoMemory>
         ensures state { OnOk result (self.new ≡ after_part end self.old) }
         ensures more { IfOk result (λ more. more ≡ goes_on end) }
     {

@@ -14,7 +14,7 @@ use rv_requests::{Point, Request};
 
 /// What follows a request.
 #[derive(Clone, Copy)]
-pub(crate) enum Then {
+pub enum Then {
     /// The next request.
     Waits,
     /// A run.
@@ -67,8 +67,12 @@ impl Target {
     }
 
     /// Serves a request, and returns what follows it.
+    ///
+    /// # Errors
+    ///
+    /// `NoMemory` if memory runs out. A move may have been made then.
     #[tactic(auto, unfolding(crate::specs::Serves::Serves))]
-    pub(crate) fn serve(&mut self, request: &Request, out: &mut Vec<u8>) -> Result<Then, NoMemory>
+    pub fn serve(&mut self, request: &Request, out: &mut Vec<u8>) -> Result<Then, NoMemory>
         ensures { OnOk result (Serves request.now self.old self.new) }
     {
         match request {
