@@ -53,6 +53,7 @@ a.s: 1 line
 > help
 s [N]               takes steps
 m WHERE [N] [w|t]   shows bytes, or words
+why [REG|WHERE [N]] explains a trap
 q                   ends
 An empty line repeats. It is
 free text.
@@ -64,6 +65,9 @@ s [N]: takes steps
 > help m
 m WHERE [N] [w|t]: shows bytes, or words
   example: m sp 8 w
+> help why
+why [REG|WHERE [N]]: explains a trap
+  example: why sp
 > help q
 q: ends
   example: q
@@ -148,7 +152,7 @@ class Commands(unittest.TestCase):
         rows, note = read_commands(SAID)
         self.assertEqual(note, ["An empty line repeats. It is", "free text."])
         found = list(read_examples(EXAMPLES, rows))
-        self.assertEqual([command.word for command in found], ["s", "m", "q"])
+        self.assertEqual([command.word for command in found], ["s", "m", "why", "q"])
         shows = Command("m WHERE [N] [w|t]", "shows bytes, or words", "m sp 8 w")
         self.assertEqual(found[1], shows)
 

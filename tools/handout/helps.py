@@ -10,7 +10,7 @@ ROW = re.compile(r" +(\S+(?: \S+)*) {2,}(\S.*)")
 OPTION = re.compile(r"(?:(-\w), )?(--[a-z][a-z-]*)(?: (?:<([A-Z]+)>|([A-Z/]+)))?")
 ARGUMENT = re.compile(r"\[([A-Z]+)\]|<([A-Z]+)>|([A-Z]+)")
 CHOICES = re.compile(r"\[possible values: ([^]]+)\]")
-COMMAND = re.compile(r"([a-z]+(?: \S+)*) {2,}(\S.*)")
+COMMAND = re.compile(r"([a-z]+(?: [A-Z[.]\S*)*) +(\S.*)")
 
 
 @dataclass(frozen=True)
@@ -133,7 +133,9 @@ def read_option(line: str) -> Option | None:
 def read_commands(said: str) -> tuple[list[tuple[str, str]], list[str]]:
     """Reads what the lab's `help` prints: each command's form with its text, and the lines below them."""
     lines = answers(said).get("help", [])
+    column = first.start(2) if lines and (first := COMMAND.fullmatch(lines[0])) else 0
     rows = [COMMAND.fullmatch(line) for line in lines]
+    rows = [row if row and row.start(2) == column else None for row in rows]  # all texts stand below each other
     count = rows.index(None) if None in rows else len(rows)
     commands = [(row[1], row[2]) for row in rows[:count] if row]
     if not commands or any(rows[count:]):
