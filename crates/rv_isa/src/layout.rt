@@ -1,6 +1,7 @@
 //! Kinds laid out as fields, and put together again: which field each operand of a kind is.
 ghost use Rattle.std.specs.Prelude.{◌≡◌, ◌<◌, ◌^◌};
 ghost use Rattle.rv_isa.specs.Fields as spec;
+ghost use Rattle.rv_isa.specs.declared.kind.Kind.TheVariants as kind;
 ghost use Rattle.rv_isa.specs.Support.Kinds as layout;
 ghost use Rattle.rv_isa.specs.Support.Codes as codes;
 ghost use Rattle.rv_isa.specs.Fields.{with_fields};
@@ -8,7 +9,7 @@ ghost use Rattle.rv_isa.specs.Support.Kinds.{IsInRange};
 
 use crate::format::Format;
 use crate::kind::kind;
-use crate::{Fields, Kind, Operation, Reg};
+use crate::{AluOp, Cond, CsrOp, Fields, ImmOp, Kind, LoadOp, Operation, Reg, ShiftOp, Width};
 
 // ---- a kind's fields
 
@@ -78,7 +79,75 @@ pub(crate) fn fields_of(kind: Kind) -> Fields
     }
 }
 
-// ---- the kind of fields, which are read where they are used
+// ---- the kind of fields, which are read where they are used. Each form of several operations has a function of
+// its own: written out in the arms of a match, their operands would be set to zero before each match.
+
+/// Returns a branch.
+#[inline(always)]
+pub(crate) fn branch(cond: Cond, fields: &Fields) -> Kind
+    ensures { result ≡ kind.Branch cond fields.now.rs1 fields.now.rs2 fields.now.imm }
+{
+    kind!(Branch cond (fields.rs1) (fields.rs2) (fields.imm))
+}
+
+/// Returns a load.
+#[inline(always)]
+pub(crate) fn load(op: LoadOp, fields: &Fields) -> Kind
+    ensures { result ≡ kind.Load op fields.now.rd fields.now.rs1 fields.now.imm }
+{
+    kind!(Load op (fields.rd) (fields.rs1) (fields.imm))
+}
+
+/// Returns a store.
+#[inline(always)]
+pub(crate) fn store(width: Width, fields: &Fields) -> Kind
+    ensures { result ≡ kind.Store width fields.now.rs2 fields.now.rs1 fields.now.imm }
+{
+    kind!(Store width (fields.rs2) (fields.rs1) (fields.imm))
+}
+
+/// Returns an operation on a register and an immediate.
+#[inline(always)]
+pub(crate) fn op_imm(op: ImmOp, fields: &Fields) -> Kind
+    ensures { result ≡ kind.OpImm op fields.now.rd fields.now.rs1 fields.now.imm }
+{
+    kind!(OpImm op (fields.rd) (fields.rs1) (fields.imm))
+}
+
+/// Returns a shift by an immediate.
+#[inline(always)]
+pub(crate) fn shift(op: ShiftOp, fields: &Fields) -> Kind
+    requires { spec.unsigned fields.now.imm < 2 ^ 5 }
+    ensures { result ≡ kind.Shift op fields.now.rd fields.now.rs1 (spec.unsigned fields.now.imm) }
+{
+    kind!(Shift op (fields.rd) (fields.rs1) (low_byte(fields.imm)))
+}
+
+/// Returns an operation on two registers.
+#[inline(always)]
+pub(crate) fn op(op: AluOp, fields: &Fields) -> Kind
+    ensures { result ≡ kind.Op op fields.now.rd fields.now.rs1 fields.now.rs2 }
+{
+    kind!(Op op (fields.rd) (fields.rs1) (fields.rs2))
+}
+
+/// Returns a change of a control register by a register.
+#[inline(always)]
+pub(crate) fn csr(op: CsrOp, fields: &Fields) -> Kind
+    requires { spec.unsigned fields.now.imm < 2 ^ 12 }
+    ensures { result ≡ kind.Csr op fields.now.rd fields.now.rs1 (spec.unsigned fields.now.imm) }
+{
+    kind!(Csr op (fields.rd) (fields.rs1) (low_half(fields.imm)))
+}
+
+/// Returns a change of a control register by a number.
+#[inline(always)]
+pub(crate) fn csr_imm(op: CsrOp, fields: &Fields) -> Kind
+    requires { spec.unsigned fields.now.imm < 2 ^ 12 }
+    ensures { result ≡ kind.CsrImm op fields.now.rd fields.now.rs1 (spec.unsigned fields.now.imm) }
+{
+    kind!(CsrImm op (fields.rd) (fields.rs1.number()) (low_half(fields.imm)))
+}
 
 /// Expands to a kind of a row of the table, with the operands that the fields have for it.
 macro_rules! made {
@@ -86,13 +155,14 @@ macro_rules! made {
     ($f:ident (Auipc)) => { kind!(Auipc ($f.rd) ($f.imm.cast_unsigned())) };
     ($f:ident (Jal)) => { kind!(Jal ($f.rd) ($f.imm)) };
     ($f:ident (Jalr)) => { kind!(Jalr ($f.rd) ($f.rs1) ($f.imm)) };
-    ($f:ident (Branch $cond:tt)) => { kind!(Branch $cond ($f.rs1) ($f.rs2) ($f.imm)) };
-    ($f:ident (Store $width:tt)) => { kind!(Store $width ($f.rs2) ($f.rs1) ($f.imm)) };
-    ($f:ident (Shift $op:tt)) => { kind!(Shift $op ($f.rd) ($f.rs1) (low_byte($f.imm))) };
-    ($f:ident (Op $op:tt)) => { kind!(Op $op ($f.rd) ($f.rs1) ($f.rs2)) };
-    ($f:ident (Csr $op:tt)) => { kind!(Csr $op ($f.rd) ($f.rs1) (low_half($f.imm))) };
-    ($f:ident (CsrImm $op:tt)) => { kind!(CsrImm $op ($f.rd) ($f.rs1.number()) (low_half($f.imm))) };
-    ($f:ident ($kind:ident $op:tt)) => { kind!($kind $op ($f.rd) ($f.rs1) ($f.imm)) };
+    ($f:ident (Branch $cond:tt)) => { branch($cond, $f) };
+    ($f:ident (Load $op:tt)) => { load($op, $f) };
+    ($f:ident (Store $width:tt)) => { store($width, $f) };
+    ($f:ident (OpImm $op:tt)) => { op_imm($op, $f) };
+    ($f:ident (Shift $op:tt)) => { shift($op, $f) };
+    ($f:ident (Op $op:tt)) => { op($op, $f) };
+    ($f:ident (Csr $op:tt)) => { csr($op, $f) };
+    ($f:ident (CsrImm $op:tt)) => { csr_imm($op, $f) };
     ($f:ident (Fence)) => { kind!(Fence ($f.rd) ($f.rs1) (low_half($f.imm))) };
     ($f:ident (FenceI)) => { kind!(FenceI ($f.rd) ($f.rs1) (low_half($f.imm))) };
     ($f:ident ($kind:ident)) => { Kind::$kind };

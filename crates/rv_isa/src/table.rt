@@ -9,7 +9,7 @@ ghost use Rattle.rv_isa.specs.Table.{mnemonic, row};
 
 use crate::format::{Codes, Format};
 use crate::kind::kind;
-use crate::layout::{any, low_byte, low_half, made};
+use crate::layout::{any, branch, csr, csr_imm, load, low_half, made, op, op_imm, shift, store};
 use crate::{AluOp, Cond, CsrOp, Fields, ImmOp, Kind, LoadOp, Operation, ShiftOp, Width};
 
 /// Gives a macro what stands behind its name, and then the rows of the table.
