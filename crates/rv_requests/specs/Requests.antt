@@ -48,7 +48,7 @@ point n =
     else if n == 4 then Some Access
     else None
 
--- a point of a kind, at so many bytes from an address on; those of other kinds are unknown
+-- a point of a kind, with its address and its number of bytes; those of other kinds are unknown
 abbrev pub at_point : List ℕ → (Point → ℕ → ℕ → Request) → Request
 at_point text request =
     or_malformed (triple text) (λ t. option_map_or (λ p. request p t.1 t.2) (point t.0) Unknown)

@@ -87,7 +87,7 @@ pub enum Request {
     StepBack,
     /// `bc`: a run back.
     ContinueBack,
-    /// `Z`: a point at which runs stop, at so many bytes from an address on.
+    /// `Z`: a point at which runs stop: its address, and how many bytes it has.
     Insert(Point, u32, u32),
     /// `z`: that point no more.
     Remove(Point, u32, u32),
