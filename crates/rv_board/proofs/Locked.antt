@@ -16,7 +16,7 @@ use Rattle.rv_csr.specs.State.{CsrState}
 use Rattle.rv_csr.specs.Registers.{may_write, read, write}
 use Rattle.rv_csr.specs.Support.RegisterCases.{register_at, with_value, with_value_at}
 use Rattle.rv_csr.proofs.Table.{write_by_cases}
-use Rattle.rv_csr.specs.Traps.{entered, left}
+use Rattle.rv_csr.specs.Traps.{entered, after_return}
 use Rattle.rv_csr.specs.declared.register.Register.{Register}
 use Rattle.rv_csr.specs.declared.register.Register.TheVariants.{Mstatus}
 use Rattle.rv_bus.specs.Access.{lines_of}
@@ -172,7 +172,7 @@ module _ (m : Machine) where
     by (Some old) = or_not old (is_write op field)
 
   returns : (d : Mode) → IfRetired (KeptFrom m) (return_effect m d)
-  unfolding return_effect left
+  unfolding return_effect after_return
   returns mode.User = tt
   returns mode.Machine = kept m.csrs.pmp
 

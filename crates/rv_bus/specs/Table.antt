@@ -1,18 +1,18 @@
 -- To audit: public contracts cite this.
--- The address table (docs/BOARD.md). Accesses are at multiples of their width, so that all bytes of one to
--- the memory or the interrupt controller are there. Every other access is a fault.
-use Rattle.std.specs.Prelude.{ℕ, Bool, ◌-◌, ◌%◌, ◌^◌, ◌&&◌, nat_lt, nat_le, List, [], ◌∷◌, length, find, Option}
+-- The address table (docs/BOARD.md). Accesses are at multiples of their width, and a board's memory has whole pages of
+-- 4096 bytes. So all bytes of an access to the memory or the interrupt controller are there. Every other access is a
+-- fault.
+use Rattle.std.specs.Prelude.{ℕ, Bool, ◌+◌, ◌-◌, ◌%◌, ◌^◌, ◌&&◌, nat_lt, nat_le, List, [], ◌∷◌, ◌++◌, length, map, find, Option}
 use Rattle.rv_base.specs.Limits.{ram_base}
 use Rattle.rv_base.specs.Registers.{Register}
 use Rattle.rv_ram.specs.Bytes.{put, value_at}
 use Rattle.rv_plic.specs.Plic.{plic_register}
-use Rattle.rv_mmio.specs.Timer.{timer_register}
+use Rattle.rv_mmio.specs.Timer.{offsets, timer_register}
 use Rattle.rv_mmio.specs.Serial.{SerialState, serial_register}
 use Rattle.rv_mmio.specs.Halt.{halted_by}
 use Rattle.rv_mmio.specs.declared.serial.SerialReg.{SerialReg}
 use Rattle.rv_mmio.specs.declared.serial.SerialReg.TheVariants.{Tx, Rx, Status}
 use Rattle.rv_mmio.specs.declared.timer.TimerReg.{TimerReg}
-use Rattle.rv_mmio.specs.declared.timer.TimerReg.TheVariants.{Msip, MtimecmpLow, MtimecmpHigh, MtimeLow, MtimeHigh}
 use Rattle.rv_bus.specs.State.{BusState}
 
 -- a window of the table, for accesses of some number of bytes: its first address, the number of addresses at
@@ -82,12 +82,8 @@ windows b n =
     ∷ serial_port b n 0x10000004 Rx
     ∷ serial_port b n 0x10000008 Status
     ∷ halt_register b
-    ∷ machine_timer b 0x02000000 Msip
-    ∷ machine_timer b 0x02004000 MtimecmpLow
-    ∷ machine_timer b 0x02004004 MtimecmpHigh
-    ∷ machine_timer b 0x0200bff8 MtimeLow
-    ∷ machine_timer b 0x0200bffc MtimeHigh
-    ∷ interrupt_controller b ∷ []
+    ∷ map (λ row. machine_timer b (0x02000000 + row.0) row.1) offsets
+    ++ interrupt_controller b ∷ []
 
 -- whether a window accepts an access of n bytes at an address
 abbrev pub accepts : ℕ → ℕ → Window → Bool

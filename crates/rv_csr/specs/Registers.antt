@@ -18,7 +18,7 @@ use Rattle.rv_csr.specs.declared.mstatus.Mstatus.{Mstatus}
 
 -- ---- the values
 
--- mstatus: MIE in bit 3, MPIE in bit 7, MPP in bits 12 and 11, MPRV in bit 17, TW in bit 21
+-- mstatus: MIE in bit 3, MPIE in bit 7, MPP in bits 12 and 11, MPRV in bit 17, TW in bit 21 (section 3.1.6)
 unfoldable pub status_word : Mstatus → ℕ
 status_word s =
     truth s.mie * 2 ^ 3 + truth s.mpie * 2 ^ 7 + level s.mpp * 2 ^ 11 + truth s.mprv * 2 ^ 17 + truth s.tw * 2 ^ 21
@@ -27,7 +27,7 @@ status_word s =
 abbrev pub mode_of : ℕ → Option Mode
 mode_of code = find (λ mode. code == level mode) (User ∷ Machine ∷ [])
 
--- mstatus after a write. MPP stays as it is where its field is the level of no mode
+-- mstatus after a write. MPP stays as it is where its field is the level of no mode (section 3.1.6)
 unfoldable pub with_status : Mstatus → ℕ → Mstatus
 with_status old word = record {
   mie = flag word 3;
@@ -37,7 +37,8 @@ with_status old word = record {
   tw = flag word 21;
 }
 
--- mie and mip: the software interrupt in bit 3, that of the timer in bit 7, the external one in bit 11
+-- mie and mip: the software interrupt in bit 3, that of the timer in bit 7, the external one in bit 11 (section
+-- 3.1.9)
 unfoldable pub lines_word : Lines → ℕ
 lines_word lines = truth lines.software * 2 ^ 3 + truth lines.timer * 2 ^ 7 + truth lines.external * 2 ^ 11
 
@@ -60,8 +61,13 @@ pub record CsrRow : Type 0 where
 abbrev pub csr_row : List ℕ → (CsrState → Lines → ℕ) → (CsrState → ℕ → CsrState) → CsrRow
 csr_row name value written = record { name = name; value = value; written = written }
 
--- the registers, but for those of physical memory protection. misa says RV32I with M and user mode; mtvec has no
--- bit 1. A register with no other row, as mcounteren, reads 0, and a write to it changes nothing
+-- the registers, but for those of physical memory protection: misa (section 3.1.1), which says RV32I with M and user
+-- mode; mstatus (section 3.1.6); mtvec, which has no bit 1 (section 3.1.7); mie and mip (section 3.1.9); the counters
+-- (section 3.1.10); mscratch (section 3.1.13), mepc (section 3.1.14), mcause (section 3.1.15) and mtval (section
+-- 3.1.16). The last line gives each name of a register a row that reads 0, and by which a write changes nothing. Of
+-- two rows with one name the upper one counts, so it is for the registers that have no other: those that identify
+-- the hart (sections 3.1.2, 3.1.3, 3.1.4 and 3.1.5), mcounteren and mcountinhibit (sections 3.1.11 and 3.1.12),
+-- mconfigptr (section 3.1.17), menvcfg (section 3.1.18), and the other counters
 unfoldable pub table : List CsrRow
 table =
     csr_row (codes "mstatus") (λ s _. status_word s.mstatus) (λ s w. record s { mstatus = with_status s.mstatus w })
@@ -128,7 +134,7 @@ wrote_half name None = false
 wrote_half name (Some addr) = is_at addr name || is_at addr (name ++ codes "h")
 
 -- the state after a step is counted: mcycle grows in each, minstret if an instruction retired; but a counter
--- keeps what was written if the instruction wrote a half of it
+-- keeps what was written if the instruction wrote a half of it (section 3.1.10)
 abbrev pub counted : CsrState → Bool → Option ℕ → CsrState
 counted s retired wrote = record s {
   mcycle = if wrote_half (codes "mcycle") wrote then s.mcycle else (s.mcycle + 1) % 2 ^ 64;

@@ -6,8 +6,8 @@ use Rattle.rv_pmp.specs.Pmp.{PmpState, off_entry}
 use Rattle.rv_pmp.specs.declared.mode.Mode.TheVariants.{User}
 use Rattle.rv_csr.specs.declared.mstatus.Mstatus.{Mstatus}
 
--- mstatus; the interrupts that mie enables; the registers of traps; the counters, of 64 bits; physical memory
--- protection
+-- mstatus; mie, as the interrupts that it enables (the field mie of mstatus is another, the bit MIE); the registers of
+-- traps; the counters, of 64 bits; physical memory protection
 pub record CsrState : Type 0 where
   pub mstatus : Mstatus
   pub mie : Lines

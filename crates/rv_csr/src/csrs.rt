@@ -212,8 +212,8 @@ impl Csrs {
     #[tactic(auto, using(crate::proofs::Pending::none_pending, crate::proofs::Pending::by_flags))]
     pub fn takes_interrupts(&self, mode: Mode) -> bool
         ensures value { result
-            ≡ is_some (traps.pending self.now mode (record { software = true; timer = true; external = true })) }
-        ensures none { result ≡ false → (lines : Lines) → traps.pending self.now mode lines ≡ None }
+            ≡ is_some (traps.next_interrupt self.now mode (record { software = true; timer = true; external = true })) }
+        ensures none { result ≡ false → (lines : Lines) → traps.next_interrupt self.now mode lines ≡ None }
     {
         self.any_enabled(mode)
     }
@@ -233,7 +233,7 @@ impl Csrs {
     /// of the timer.
     #[tactic(auto, using(crate::proofs::Pending::by_cases), unfolding(crate::specs::Support::Interruptible::pending_by_cases))]
     pub fn pending(&self, mode: Mode, lines: Lines) -> Option<u32>
-        ensures { result ≡ traps.pending self.now mode lines }
+        ensures { result ≡ traps.next_interrupt self.now mode lines }
     {
         if mode.is_machine() && !self.mstatus.mie {
             return None;
@@ -273,9 +273,9 @@ impl Csrs {
 
     /// Returns from a trap: restores MIE from MPIE. Returns the mode and the address at which the program
     /// goes on.
-    #[tactic(auto, unfolding(crate::specs::Traps::left))]
+    #[tactic(auto, unfolding(crate::specs::Traps::after_return))]
     pub fn leave_trap(&mut self) -> (Mode, u32)
-        ensures state { self.new ≡ traps.left self.old }
+        ensures state { self.new ≡ traps.after_return self.old }
         ensures mode { result.0 ≡ self.old.mstatus.mpp }
         ensures pc { result.1 ≡ self.old.mepc }
         ensures aligned { result.1 % 4 ≡ 0 }

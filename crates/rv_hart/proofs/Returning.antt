@@ -4,7 +4,7 @@ use Rattle.std.specs.Result.{result_ok}
 use Rattle.rv_isa.specs.declared.kind.Kind.{Kind}
 use Rattle.rv_isa.specs.declared.kind.Kind.TheVariants.{Mret}
 use Rattle.rv_pmp.specs.declared.mode.Mode.TheVariants as mode
-use Rattle.rv_csr.specs.Traps.{entered, left}
+use Rattle.rv_csr.specs.Traps.{entered, after_return}
 use Rattle.rv_hart.specs.State.{Machine}
 use Rattle.rv_hart.specs.Effect.{csr_written, effect, execute}
 use Rattle.rv_hart.specs.Step.{step, tries, ticked, fetched, attempt, finished, counts, enter}
@@ -42,7 +42,7 @@ tried m (Ok j) k is = let same : j ≡ k = cc in ap (λ x. attempt m (Ok x)) sam
 tried m (Err t) k is = absurd cc
 
 abbrev returned : Machine → Machine
-returned m = record m { csrs = left m.csrs; mode = m.csrs.mstatus.mpp; pc = m.csrs.mepc }
+returned m = record m { csrs = after_return m.csrs; mode = m.csrs.mstatus.mpp; pc = m.csrs.mepc }
 
 returns : (m : Machine) → m.mode ≡ mode.Machine → effect Mret m ≡ Ok (returned m)
 unfolding execute jump_effect branch_effect load_effect store_effect exchange_effect return_effect
@@ -60,7 +60,7 @@ leaves m machine is =
 
 back : (m : Machine) (t : Trap)
     → IsBack m (counts (returned (ticked (trap_step (ticked m) t).0)) true (csr_written Mret))
-unfolding counts enter entered left
+unfolding counts enter entered after_return
 back m t = record { pc = refl; mode = refl; interrupts = refl; registers = refl; memory = refl }
 
 in_machine_mode : (m : Machine) (t : Trap) → (trap_step m t).0.mode ≡ mode.Machine

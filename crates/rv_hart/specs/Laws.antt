@@ -59,15 +59,15 @@ abbrev pub IsDenied : PmpState → Mode → Access → ℕ → ℕ → Type 0
 IsDenied pmp mode access first size =
     (addr : ℕ) → first ≤ addr → addr < first + size → grants pmp mode access addr 1 ≡ false
 
--- each device is as it was left, unless protection grants a mode an access to it: the halt register and the timer
+-- each device is as it would be otherwise, unless protection grants a mode an access to it: the halt register and the timer
 -- change by stores, the interrupt controller and the serial port by loads as well
-pub record ChangesByAccess (pmp : PmpState) (mode : Mode) (left new : BusState) : Type 0 where
-  pub halt : IsDenied pmp mode Write 0x00100000 4 → new.halt ≡ left.halt
-  pub timer : IsDenied pmp mode Write 0x02000000 0xc000 → new.timer ≡ left.timer
+pub record ChangesByAccess (pmp : PmpState) (mode : Mode) (otherwise new : BusState) : Type 0 where
+  pub halt : IsDenied pmp mode Write 0x00100000 4 → new.halt ≡ otherwise.halt
+  pub timer : IsDenied pmp mode Write 0x02000000 0xc000 → new.timer ≡ otherwise.timer
   pub controller : IsDenied pmp mode Read 0x0c000000 0x4000000 → IsDenied pmp mode Write 0x0c000000 0x4000000
-      → new.plic ≡ left.plic
+      → new.plic ≡ otherwise.plic
   pub serial : IsDenied pmp mode Read 0x10000000 12 → IsDenied pmp mode Write 0x10000000 12
-      → new.serial ≡ left.serial
+      → new.serial ≡ otherwise.serial
 
 -- ---- interrupts
 
@@ -117,8 +117,8 @@ pub record StaysPending (old new : Machine) : Type 0 where
 
 -- ---- the return from a trap
 
--- a machine is back where another was: at its pc without the two lowest bits, which mepc doesn't keep, in its
--- mode, with interrupts enabled if they were, and with its registers and memory
+-- a machine is back where another was: at its pc, in its mode, with interrupts enabled if they were, and with its
+-- registers and memory. mepc keeps no pc but multiples of 4, and a board has no other
 pub record IsBack (old new : Machine) : Type 0 where
   pub pc : new.pc ≡ aligned old.pc
   pub mode : new.mode ≡ old.mode

@@ -1,6 +1,7 @@
 pub mod Effect
 pub mod Fetch
 pub mod HartView
+pub mod Keeps
 pub mod Laws
 pub mod Room
 pub mod State

@@ -1,7 +1,6 @@
 -- Definitions that aren't to audit: each file says why.
 pub mod Coherent
 pub mod EffectParts
-pub mod Keeps
 pub mod Plain
 pub mod Shortcuts
 pub mod StepParts

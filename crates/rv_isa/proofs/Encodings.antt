@@ -2,11 +2,11 @@
 use Rattle.std.proofs.Common.{◌≡◌, ℕ, ◌+◌, ◌*◌, ◌^◌, ◌<◌, ◌∙◌, List, Option, Some, None, sym, ap, subst, ℤ, pos, negsuc, arith, rules}
 use Rattle.std.specs.Prelude.{◌↔◌, fold}
 use Rattle.rv_isa.proofs.OneLayout.{kept, fields_in_range}
-use Rattle.rv_isa.specs.Fields.{kind_of, unsigned}
+use Rattle.rv_isa.specs.Fields.{kind_of, encoded, AreInRange, to_word}
+use Rattle.rv_isa.specs.Formats.{in_format}
 use Rattle.rv_isa.specs.Support.Kinds.{fields_of, word, IsInRange, IsMeaning}
 use Rattle.rv_isa.specs.Support.Codes.{codes_of, placed}
-use Rattle.rv_isa.specs.Table.{kind_in, row, Encoding, R}
-use Rattle.rv_isa.specs.Encoded.{parts, encoded, HasImmediate, AreInRange}
+use Rattle.rv_isa.specs.Table.{row, Encoding, R}
 use Rattle.rv_isa.specs.Word.{Means}
 use Rattle.rv_isa.specs.declared.fields.Fields.{Fields}
 use Rattle.rv_isa.specs.declared.format.Codes.{Codes}
@@ -19,17 +19,17 @@ abbrev packed : List (ℕ × ℕ) → ℕ
 packed all = fold (λ above part. above * 2 ^ part.1 + part.0) 0 all
 
 -- the code puts codes and fields side by side
-pub same_word : (e : Encoding) (f : Fields) → placed (codes_of e) f ≡ packed (parts e f)
+pub same_word : (e : Encoding) (f : Fields) → placed (codes_of e) f ≡ packed (in_format e f).parts
 same_word (R _ _ _ _) f = omega arith
 same_word e f = omega arith
 
 -- ---- a kind by fields
 
-twice : (z : ℤ) → unsigned (pos (unsigned z)) ≡ unsigned z
+twice : (z : ℤ) → to_word (pos (to_word z)) ≡ to_word z
 twice (pos n) = omega arith
 twice (negsuc n) = omega arith
 
-worded : (x : Operation) (f : Fields) → encoded (fields_of (kind_in (row x).1 f)) ≡ packed (parts (row x).1 f)
+worded : (x : Operation) (f : Fields) → encoded (fields_of (in_format (row x).1 f).kind) ≡ packed (in_format (row x).1 f).parts
 unfolding fields_of
 worded o.Lui f = omega (arith, twice f.imm)
 worded x f = omega (arith, twice f.imm)
@@ -38,8 +38,8 @@ pub kind_word : (f : Fields) → word (kind_of f) ≡ encoded f
 unfolding kind_of word
 kind_word f = worded f.operation f
 
-ranged : (x : Operation) (f : Fields) → f.rd < 32 → f.rs1 < 32 → f.rs2 < 32 → HasImmediate (row x).1 f.imm
-    → IsInRange (kind_in (row x).1 f)
+ranged : (x : Operation) (f : Fields) → f.rd < 32 → f.rs1 < 32 → f.rs2 < 32 → (in_format (row x).1 f).HasImmediate
+    → IsInRange (in_format (row x).1 f).kind
 ranged o.Lui f a b c h = search rules
 ranged x f a b c h = search rules
 

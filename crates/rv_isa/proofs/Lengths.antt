@@ -4,7 +4,8 @@ use Rattle.std.proofs.lemmas.Fmt.{length-decimal-le, length_signed_le}
 use Rattle.std.specs.Prelude.{ℤ, pos, negsuc}
 use Rattle.std.specs.Fmt.{decimal, signed_decimal}
 use Rattle.rv_isa.specs.Number.{IsWithin}
-use Rattle.rv_isa.specs.Table.{kind_in, mnemonic, row}
+use Rattle.rv_isa.specs.Formats.{in_format}
+use Rattle.rv_isa.specs.Table.{mnemonic, row}
 use Rattle.rv_isa.specs.Fields.{kind_of}
 use Rattle.rv_isa.proofs.OneLayout.{kept}
 use Rattle.rv_isa.specs.declared.fields.Fields.{Fields}
@@ -50,8 +51,8 @@ jump_length (negsuc n) h =
 
 ruleset lengths = (small_length, register_length, upper_length, csr_number_length, immediate_length, branch_length, jump_length)
 
-by_operation : (x : Operation) (f : Fields) → IsInRange (kind_in (row x).1 f)
-    → length (text (kind_in (row x).1 f)) ≤ 19
+by_operation : (x : Operation) (f : Fields) → IsInRange (in_format (row x).1 f).kind
+    → length (text (in_format (row x).1 f).kind) ≤ 19
 unfolding text mnemonic
 by_operation o.Lui f r = simp length-append (grind (arith, lengths))
 by_operation x f r = simp length-append (grind (arith, lengths))
@@ -60,5 +61,5 @@ pub text_length : (k : Kind) → IsInRange k → length (text k) ≤ 19
 unfolding kind_of
 text_length k r =
     let f = fields_of k in
-    let same : kind_in (row f.operation).1 f ≡ k = kept k r in
+    let same : (in_format (row f.operation).1 f).kind ≡ k = kept k r in
     subst (λ k. length (text k) ≤ 19) same (by_operation f.operation f (subst IsInRange (sym same) r))

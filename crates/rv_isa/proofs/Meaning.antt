@@ -5,12 +5,12 @@ use Rattle.std.specs.Prelude.{if◌then◌else◌}
 use Rattle.std.proofs.lemmas.Bool.{ltb-true, lt-ltb, true≢false}
 use Rattle.std.proofs.lemmas.Bool.Decides.{nat_tests}
 use Rattle.std.proofs.lemmas.Option.{none-some, same_Some}
-use Rattle.rv_isa.specs.Encoded.{encoded, AreInRange, HasImmediate}
-use Rattle.rv_isa.specs.Fields.{kind_of, with_fields}
+use Rattle.rv_isa.specs.Fields.{kind_of, encoded, AreInRange, with_fields}
+use Rattle.rv_isa.specs.Formats.{in_format}
 use Rattle.rv_isa.specs.Support.Codes.{normal, read_in, codes_of, placed, immediate, read, CodesFit, HasCodes}
 use Rattle.rv_isa.specs.Support.Kinds.{fields_of, operations, word, IsInRange}
 use Rattle.rv_isa.specs.Support.Meaning.{has_codes, first_in, kind_with, means}
-use Rattle.rv_isa.specs.Table.{kind_in, row, Encoding, R}
+use Rattle.rv_isa.specs.Table.{row, Encoding, R}
 use Rattle.rv_isa.specs.Word.{Means, OneMeaning}
 use Rattle.rv_isa.specs.declared.fields.Fields.{Fields}
 use Rattle.rv_isa.specs.declared.format.Codes.{Codes}
@@ -60,20 +60,22 @@ read_word : (e : Encoding) (x : Operation) (w : ℕ) → w < 2 ^ 32 → HasCodes
 read_word (R _ _ _ _) x w b h = grind arith
 read_word e x w b h = grind arith
 
-read_immediate : (e : Encoding) (w : ℕ) → w < 2 ^ 32 → HasImmediate e (immediate (codes_of e).format w)
-read_immediate (R _ _ _ _) w b = grind arith
-read_immediate e w b = grind arith
+read_immediate : (e : Encoding) (x : Operation) (w : ℕ) → w < 2 ^ 32
+    → (in_format e (with_fields x (w / 2 ^ 7 % 2 ^ 5) (w / 2 ^ 15 % 2 ^ 5) (w / 2 ^ 20 % 2 ^ 5) (immediate (codes_of e).format w))).HasImmediate
+read_immediate (R _ _ _ _) x w b = grind arith
+read_immediate e x w b = grind arith
 
 read_fits : (x : Operation) (w : ℕ) → w < 2 ^ 32 → AreInRange (read x w)
-read_fits x w b = (omega arith, omega arith, omega arith, read_immediate (row x).1 w b)
+read_fits x w b = (omega arith, omega arith, omega arith, read_immediate (row x).1 x w b)
 
 read_encoded : (x : Operation) (w : ℕ) → w < 2 ^ 32 → HasCodes w (codes_of (row x).1) → encoded (read x w) ≡ w
 read_encoded x w b h = sym (same_word (row x).1 (read x w)) ∙ read_word (row x).1 x w b h
 
 -- fields in range with one word make one kind
-same_kind : (e : Encoding) (f : Fields) (x : Operation) (w : ℕ) → f.rd < 32 → f.rs1 < 32 → f.rs2 < 32 → HasImmediate e f.imm
+same_kind : (e : Encoding) (f : Fields) (x : Operation) (w : ℕ) → f.rd < 32 → f.rs1 < 32 → f.rs2 < 32 → (in_format e f).HasImmediate
     → CodesFit (codes_of e) → placed (codes_of e) f ≡ w
-    → kind_in e (with_fields x (w / 2 ^ 7 % 2 ^ 5) (w / 2 ^ 15 % 2 ^ 5) (w / 2 ^ 20 % 2 ^ 5) (immediate (codes_of e).format w)) ≡ kind_in e f
+    → (in_format e (with_fields x (w / 2 ^ 7 % 2 ^ 5) (w / 2 ^ 15 % 2 ^ 5) (w / 2 ^ 20 % 2 ^ 5) (immediate (codes_of e).format w))).kind
+    ≡ (in_format e f).kind
 same_kind (R _ _ _ _) f x w a b c h d e = grind arith
 same_kind y f x w a b c h d e = grind arith
 

@@ -3,7 +3,8 @@ use Rattle.std.proofs.lemmas.Bool.Decides.{nat_tests}
 use Rattle.std.proofs.lemmas.Grind.{common_steps}
 use Rattle.std.proofs.Common.{◌≡◌, ◌∙◌, ℕ, ℤ, pos, negsuc, refl, ap, sym, subst, SFits, w32, arith}
 use Rattle.rv_isa.specs.Fields.{kind_of, with_fields}
-use Rattle.rv_isa.specs.Table.{kind_in, row, Encoding, R}
+use Rattle.rv_isa.specs.Formats.{in_format}
+use Rattle.rv_isa.specs.Table.{row, Encoding, R}
 use Rattle.rv_isa.specs.Support.Codes.{codes_of, normal}
 use Rattle.rv_isa.specs.Support.Kinds.{fields_of, IsInRange}
 use Rattle.rv_isa.specs.declared.fields.Fields.{Fields}
@@ -15,7 +16,7 @@ same_operation : (e : Encoding) (f : Fields) → (normal (codes_of e).format f).
 same_operation (R _ _ _ _) f = refl
 same_operation e f = refl
 
-same_kind : (e : Encoding) (f : Fields) → kind_in e (normal (codes_of e).format f) ≡ kind_in e f
+same_kind : (e : Encoding) (f : Fields) → (in_format e (normal (codes_of e).format f)).kind ≡ (in_format e f).kind
 same_kind (R _ _ _ _) f = refl
 same_kind e f = refl
 
@@ -24,8 +25,8 @@ unfolding kind_of
 kind f = grind (arith, nat_tests, common_steps, same_operation, same_kind)
 
 fields : (x : Operation) (rd rs1 rs2 : ℕ) (imm : ℤ) → SFits w32 imm
-    → IsInRange (kind_in (row x).1 (with_fields x rd rs1 rs2 imm))
-    → fields_of (kind_in (row x).1 (with_fields x rd rs1 rs2 imm))
+    → IsInRange (in_format (row x).1 (with_fields x rd rs1 rs2 imm)).kind
+    → fields_of (in_format (row x).1 (with_fields x rd rs1 rs2 imm)).kind
     ≡ normal (codes_of (row x).1).format (with_fields x rd rs1 rs2 imm)
 unfolding fields_of
 fields o.Lui rd rs1 rs2 (pos n) b r = let small = b.sfits in grind arith

@@ -1,7 +1,6 @@
 -- An instruction has one layout: `kind_of` undoes `fields_of`, whose fields are in range if the kind is.
 use Rattle.std.proofs.Common.{◌≡◌, arith}
-use Rattle.rv_isa.specs.Encoded.{AreInRange}
-use Rattle.rv_isa.specs.Fields.{kind_of}
+use Rattle.rv_isa.specs.Fields.{kind_of, AreInRange}
 use Rattle.rv_isa.specs.Support.Kinds.{fields_of, IsInRange}
 use Rattle.rv_isa.specs.declared.kind.Kind.{Kind}
 use Rattle.rv_isa.specs.declared.kind.Kind.TheVariants.{Branch, Load, Store, OpImm, Shift, Op, Csr, CsrImm}

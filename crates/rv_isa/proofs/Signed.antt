@@ -9,7 +9,7 @@ use Rattle.std.proofs.lemmas.Int.{of_z-to_z, to_z-of_z, to_z_pos, fits_signed_mu
 use native.Mathlib.Nat.{div-le_self, mod-le}
 use lib.IntN.{neg_ℤ}
 use Rattle.rv_isa.specs.Number.{signed}
-use Rattle.rv_isa.specs.Number.{unsigned}
+use Rattle.rv_isa.specs.Number.{to_word}
 
 -- a cast to a signed number
 signed_is : (a : ℕ) → to_z w32 a ≡ signed a
@@ -47,28 +47,28 @@ pub mixed_product : (a b : ℕ) (x : ℤ) → SFits w32 x → b < 2 ^ 32 → x �
 mixed_product a b x f h e = grind (arith, nat_tests, common_steps, mixed_factors, to_z-of_z, mixed_is_small, signed_is)
 
 -- the word of a quotient and of a remainder, neither of which is above its dividend
-word_above : (n : ℕ) → n ≤ 2 ^ 31 → n ≡ unsigned (pos n)
+word_above : (n : ℕ) → n ≤ 2 ^ 31 → n ≡ to_word (pos n)
 word_above n h = omega arith
 
-word_below : (n : ℕ) → n ≤ 2 ^ 31 → of_z w32 (neg_ℤ (pos n)) ≡ unsigned (neg_ℤ (pos n))
+word_below : (n : ℕ) → n ≤ 2 ^ 31 → of_z w32 (neg_ℤ (pos n)) ≡ to_word (neg_ℤ (pos n))
 word_below zero h = refl
 word_below (suc n) h = omega arith
 
-is_word : (z : ℤ) → unsigned z < 2 ^ 32
+is_word : (z : ℤ) → to_word z < 2 ^ 32
 is_word (pos n) = omega arith
 is_word (negsuc n) = omega arith
 
-quotient : (x y : ℤ) → SFits w32 x → of_z w32 (int_div x y) ≡ unsigned (int_div x y)
+quotient : (x y : ℤ) → SFits w32 x → of_z w32 (int_div x y) ≡ to_word (int_div x y)
 quotient (pos a) (pos b) f = word_above (a / b) (omega (arith, div-le_self a b))
 quotient (pos a) (negsuc b) f = word_below (a / suc b) (omega (arith, div-le_self a (suc b)))
 quotient (negsuc a) (pos b) f = word_below (suc a / b) (omega (arith, div-le_self (suc a) b))
 quotient (negsuc a) (negsuc b) f = word_above (suc a / suc b) (omega (arith, div-le_self (suc a) (suc b)))
 
-pub quotient_word : (x y : ℤ) → SFits w32 x → of_z w32 (int_wrapping_div w32 x y) ≡ unsigned (int_div x y)
+pub quotient_word : (x y : ℤ) → SFits w32 x → of_z w32 (int_wrapping_div w32 x y) ≡ to_word (int_div x y)
 quotient_word x y f = ap (λ (n : ℕ). of_z w32 (to_z w32 n)) (quotient x y f)
-    ∙ of_z-to_z w32 (unsigned (int_div x y)) (is_word (int_div x y))
+    ∙ of_z-to_z w32 (to_word (int_div x y)) (is_word (int_div x y))
 
-pub remainder_word : (x y : ℤ) → SFits w32 x → of_z w32 (int_rem x y) ≡ unsigned (int_rem x y)
+pub remainder_word : (x y : ℤ) → SFits w32 x → of_z w32 (int_rem x y) ≡ to_word (int_rem x y)
 remainder_word (pos a) y f = word_above (a % unsigned_abs y) (omega (arith, mod-le a (unsigned_abs y)))
 remainder_word (negsuc a) y f =
     word_below (suc a % unsigned_abs y) (omega (arith, mod-le (suc a) (unsigned_abs y)))

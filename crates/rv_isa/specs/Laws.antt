@@ -1,16 +1,20 @@
 -- To audit: public contracts cite this.
--- The table of instructions read backwards: what `word`, `IsInRange` and `operation_of` are for a kind, and
--- `named` for a mnemonic. `means` is what `Means` and `OneMeaning` say: that a word means it is the law
--- `meaning_inverts`. So the definitions of these aren't to audit.
+-- The table of instructions read backwards: what `means` is for a word, what `word`, `IsInRange` and `operation_of`
+-- are for a kind, and `named` for a mnemonic. So the definitions of these aren't to audit.
 use Rattle.std.specs.Prelude.{◌≡◌, ◌↔◌, ℕ, List, Some}
 use Rattle.rv_isa.specs.Fields.{kind_of}
 use Rattle.rv_isa.specs.Support.Kinds.{operation_of, word, IsInRange}
 use Rattle.rv_isa.specs.Support.Mnemonics.{named}
+use Rattle.rv_isa.specs.Support.Meaning.{means}
 use Rattle.rv_isa.specs.Table.{mnemonic}
 use Rattle.rv_isa.specs.Word.{Means}
 use Rattle.rv_isa.specs.declared.fields.Fields.{Fields}
 use Rattle.rv_isa.specs.declared.kind.Kind.{Kind}
 use Rattle.rv_isa.specs.declared.op.Operation.{Operation}
+
+-- a word has the meaning that `means` returns, and by `OneMeaning` it has no other
+abbrev pub HasMeaning : Type 0
+HasMeaning = (w : ℕ) → Means w (means w)
 
 -- a word means a kind exactly if the kind is in range and has that word
 abbrev pub OneWord : Type 0

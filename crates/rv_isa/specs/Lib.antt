@@ -1,6 +1,6 @@
 pub mod Alu
-pub mod Encoded
 pub mod Fields
+pub mod Formats
 pub mod Laws
 pub mod Names
 pub mod Number

@@ -1,8 +1,6 @@
 -- To audit: public contracts cite this.
 -- The table of instructions: a row for each operation, as in RISC-V Unprivileged ISA 20191213, chapter 24.
 use Rattle.std.specs.Prelude.{ℕ, ℤ, List, codes}
-use Rattle.rv_isa.specs.Number.{unsigned}
-use Rattle.rv_isa.specs.declared.fields.Fields.{Fields}
 use Rattle.rv_isa.specs.declared.op.Operation.{Operation}
 use Rattle.rv_isa.specs.declared.op.Operation.TheVariants.{Lui, Auipc, Jal, Jalr, Beq, Bne, Blt, Bge, Bltu, Bgeu, Lb, Lh, Lw, Lbu, Lhu, Sb, Sh, Sw, Addi, Slti, Sltiu, Xori, Ori, Andi, Slli, Srli, Srai, Add, Sll, Slt, Sltu, Xor, Srl, Or, And, Sub, Sra, Mul, Mulh, Mulhsu, Mulhu, Div, Divu, Rem, Remu, Fence, FenceI, Csrrw, Csrrs, Csrrc, Csrrwi, Csrrsi, Csrrci, Ecall, Ebreak, Mret, Wfi}
 use Rattle.rv_isa.specs.declared.kind.Kind.{Kind}
@@ -29,19 +27,6 @@ pub data Encoding : Type 0 where
   U : (opcode : ℕ) → (ℕ → ℕ → Kind) → Encoding
   J : (opcode : ℕ) → (ℕ → ℤ → Kind) → Encoding
   Whole : (word : ℕ) → Kind → Encoding
-
--- its kind with these fields: the base of an access is rs1, and the source of a store is rs2. An immediate
--- from 0 on is kept as a word
-abbrev pub kind_in : Encoding → Fields → Kind
-kind_in (R _ _ _ kind) f = kind f.rd f.rs1 f.rs2
-kind_in (Amount _ _ _ kind) f = kind f.rd f.rs1 (unsigned f.imm)
-kind_in (I _ _ kind) f = kind f.rd f.rs1 f.imm
-kind_in (Number _ _ kind) f = kind f.rd f.rs1 (unsigned f.imm)
-kind_in (S _ _ kind) f = kind f.rs2 f.rs1 f.imm
-kind_in (B _ _ kind) f = kind f.rs1 f.rs2 f.imm
-kind_in (U _ kind) f = kind f.rd (unsigned f.imm)
-kind_in (J _ kind) f = kind f.rd f.imm
-kind_in (Whole _ kind) f = kind
 
 -- the mnemonic of each operation, and its encoding
 abbrev pub row : Operation → List ℕ × Encoding

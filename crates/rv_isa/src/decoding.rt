@@ -5,6 +5,7 @@
 ghost use Rattle.std.specs.Prelude.{◌≡◌, ◌≢◌, ◌<◌, ◌≤◌, ◌*◌, ◌/◌, ◌%◌, ◌^◌};
 ghost use Rattle.rv_isa.specs.Word.{Means};
 ghost use Rattle.rv_isa.specs.Fields.{kind_of};
+ghost use Rattle.rv_isa.specs.Laws.{HasMeaning};
 ghost use Rattle.rv_isa.specs.Support.Codes as spec;
 ghost use Rattle.rv_isa.specs.declared.format.Format.TheVariants as format;
 ghost use Rattle.rv_isa.specs.Support.Meaning.{means};
@@ -28,8 +29,8 @@ pub fn decode(word: u32) -> Option<Instr>
 
 /// A law: the definition `means` is the inverse of the table of words.
 #[tactic(auto, using(crate::proofs::Meaning::means_inverts))]
-pub fn meaning_inverts(word: u32)
-    ensures { Means word (means word) }
+pub fn meaning_inverts()
+    ensures { HasMeaning }
 {}
 
 /// Returns the instruction of an operation with the fields at their places in a word.

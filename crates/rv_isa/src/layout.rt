@@ -117,8 +117,8 @@ pub(crate) fn op_imm(op: ImmOp, fields: &Fields) -> Kind
 /// Returns a shift by an immediate.
 #[inline(always)]
 pub(crate) fn shift(op: ShiftOp, fields: &Fields) -> Kind
-    requires { spec.unsigned fields.now.imm < 2 ^ 5 }
-    ensures { result ≡ kind.Shift op fields.now.rd fields.now.rs1 (spec.unsigned fields.now.imm) }
+    requires { spec.to_word fields.now.imm < 2 ^ 5 }
+    ensures { result ≡ kind.Shift op fields.now.rd fields.now.rs1 (spec.to_word fields.now.imm) }
 {
     kind!(Shift op (fields.rd) (fields.rs1) (low_byte(fields.imm)))
 }
@@ -134,8 +134,8 @@ pub(crate) fn op(op: AluOp, fields: &Fields) -> Kind
 /// Returns a change of a control register by a register.
 #[inline(always)]
 pub(crate) fn csr(op: CsrOp, fields: &Fields) -> Kind
-    requires { spec.unsigned fields.now.imm < 2 ^ 12 }
-    ensures { result ≡ kind.Csr op fields.now.rd fields.now.rs1 (spec.unsigned fields.now.imm) }
+    requires { spec.to_word fields.now.imm < 2 ^ 12 }
+    ensures { result ≡ kind.Csr op fields.now.rd fields.now.rs1 (spec.to_word fields.now.imm) }
 {
     kind!(Csr op (fields.rd) (fields.rs1) (low_half(fields.imm)))
 }
@@ -143,8 +143,8 @@ pub(crate) fn csr(op: CsrOp, fields: &Fields) -> Kind
 /// Returns a change of a control register by a number.
 #[inline(always)]
 pub(crate) fn csr_imm(op: CsrOp, fields: &Fields) -> Kind
-    requires { spec.unsigned fields.now.imm < 2 ^ 12 }
-    ensures { result ≡ kind.CsrImm op fields.now.rd fields.now.rs1 (spec.unsigned fields.now.imm) }
+    requires { spec.to_word fields.now.imm < 2 ^ 12 }
+    ensures { result ≡ kind.CsrImm op fields.now.rd fields.now.rs1 (spec.to_word fields.now.imm) }
 {
     kind!(CsrImm op (fields.rd) (fields.rs1.number()) (low_half(fields.imm)))
 }
@@ -183,8 +183,8 @@ pub(crate) use any;
 /// Returns an immediate of five bits.
 #[inline(always)]
 pub(crate) fn low_byte(imm: i32) -> u8
-    requires { spec.unsigned imm < 2 ^ 5 }
-    ensures { result ≡ spec.unsigned imm }
+    requires { spec.to_word imm < 2 ^ 5 }
+    ensures { result ≡ spec.to_word imm }
 {
     imm.cast_unsigned() as u8
 }
@@ -192,8 +192,8 @@ pub(crate) fn low_byte(imm: i32) -> u8
 /// Returns an immediate of twelve bits.
 #[inline(always)]
 pub(crate) fn low_half(imm: i32) -> u16
-    requires { spec.unsigned imm < 2 ^ 12 }
-    ensures { result ≡ spec.unsigned imm }
+    requires { spec.to_word imm < 2 ^ 12 }
+    ensures { result ≡ spec.to_word imm }
 {
     imm.cast_unsigned() as u16
 }

@@ -1,8 +1,8 @@
 //! The operations: one for each mnemonic, those of each kind, and their values.
 ghost use Rattle.std.specs.Prelude.{◌≡◌, ◌%◌, ◌==◌};
-ghost use Rattle.rv_isa.specs.Alu.{alu_value};
+ghost use Rattle.rv_isa.specs.Alu.{alu_value, load_of, imm_alu_op, shift_alu_op};
 ghost use Rattle.rv_isa.specs.Support.Letters.{beginning_with};
-ghost use Rattle.rv_isa.specs.Width.{bytes_of, load_of, imm_alu_op, shift_alu_op};
+ghost use Rattle.rv_isa.specs.Width.{bytes_of};
 
 use crate::arith::{div, mulh, mulhsu, rem};
 

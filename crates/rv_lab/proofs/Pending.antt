@@ -8,7 +8,7 @@ use Rattle.rv_pmp.specs.Pmp.{read_register}
 use Rattle.rv_pmp.specs.declared.mode.Mode.{Mode}
 use Rattle.rv_csr.specs.Registers.{lines_word, number_of, read, row_at, status_word, table}
 use Rattle.rv_csr.specs.declared.mstatus.Mstatus.{Mstatus}
-use Rattle.rv_csr.specs.Traps.{pending}
+use Rattle.rv_csr.specs.Traps.{next_interrupt}
 use Rattle.rv_isa.specs.Names.{csr_names}
 use Rattle.rv_bus.specs.Access.{lines_of}
 use Rattle.rv_board.specs.BoardState.{BoardState, csr_of}
@@ -37,8 +37,8 @@ by_words mode mie enabled lines =
     (find (λ code. flag lines code && flag enabled code) (11 ∷ 3 ∷ 7 ∷ [])))
 
 pub next_is : (b : BoardState) (r : Option ℕ) → r ≡ first_pending b
-    → r ≡ pending b.machine.csrs b.machine.mode (lines_of b.machine.bus)
-unfolding first_pending pending
+    → r ≡ next_interrupt b.machine.csrs b.machine.mode (lines_of b.machine.bus)
+unfolding first_pending next_interrupt
 next_is b r e =
     e ∙ (ap (λ (w : Option ℕ). by_words b.machine.mode (flag (unwrap_or w 0) 3) (unwrap_or (csr_of b 772) 0) (unwrap_or (csr_of b 836) 0)) (mstatus_word b)
     ∙ (ap (λ (m : Bool). by_words b.machine.mode m (unwrap_or (csr_of b 772) 0) (unwrap_or (csr_of b 836) 0)) (mie_is b.machine.csrs.mstatus)

@@ -8,7 +8,7 @@ use Rattle.std.specs.Option.{option_map, option_map_or}
 use Rattle.rv_base.specs.Tables.{lookup}
 use Rattle.rv_base.specs.Words.{words}
 use Rattle.rv_isa.specs.Names.{csr_names, register_names}
-use Rattle.rv_csr.specs.Traps.{pending}
+use Rattle.rv_csr.specs.Traps.{next_interrupt}
 use Rattle.rv_bus.specs.Access.{lines_of}
 use Rattle.rv_plic.specs.Gateways.{edges_of}
 use Rattle.rv_plic.specs.Plic.{is_notified}
@@ -162,7 +162,7 @@ edges_answer l operands = option_map_or
 abbrev pub interrupts_of : BoardState → Interrupts
 interrupts_of b =
     let csr : ℕ → ℕ = λ n. unwrap_or (csr_of b n) 0 in let m = b.machine in
-    let next = pending m.csrs m.mode (lines_of m.bus) in
+    let next = next_interrupt m.csrs m.mode (lines_of m.bus) in
     record { mode = m.mode; mstatus = csr 0x300; mie = csr 0x304; mip = csr 0x344; next = next }
 
 unfoldable pub devices_of : BoardState → Devices

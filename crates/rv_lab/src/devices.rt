@@ -2,7 +2,7 @@
 ghost use Rattle.std.specs.Prelude.{◌≡◌, ◌<◌, ◌&&◌, unwrap_or};
 ghost use Rattle.rv_base.specs.Words.{words};
 ghost use Rattle.rv_isa.specs.Number.{flag};
-ghost use Rattle.rv_csr.specs.Traps.{pending};
+ghost use Rattle.rv_csr.specs.Traps.{next_interrupt};
 ghost use Rattle.rv_bus.specs.Access.{lines_of};
 ghost use Rattle.rv_board.specs.BoardState.{csr_of};
 ghost use Rattle.rv_lab.specs.Support.Rows.{edge_source, first_pending};
@@ -43,7 +43,7 @@ fn first_pending(board: &BootedBoard) -> Option<u32>
 /// Returns the cause of the interrupt that is taken next, if one is.
 #[tactic(auto, using(crate::proofs::Pending::next_is))]
 fn next_interrupt(board: &BootedBoard) -> Option<u32>
-    ensures { result ≡ pending board.now.machine.csrs board.now.machine.mode (lines_of board.now.machine.bus) }
+    ensures { result ≡ next_interrupt board.now.machine.csrs board.now.machine.mode (lines_of board.now.machine.bus) }
 {
     first_pending(board)
 }
@@ -55,7 +55,7 @@ pub(crate) fn interrupts_of(board: &BootedBoard) -> Interrupts
       mstatus = unwrap_or (csr_of board.now 0x300) 0;
       mie = unwrap_or (csr_of board.now 0x304) 0;
       mip = unwrap_or (csr_of board.now 0x344) 0;
-      next = pending board.now.machine.csrs board.now.machine.mode (lines_of board.now.machine.bus);
+      next = next_interrupt board.now.machine.csrs board.now.machine.mode (lines_of board.now.machine.bus);
     } }
 {
     Interrupts {

@@ -22,8 +22,8 @@ abbrev pub serial_status : SerialState → ℕ
 serial_status s = (if nat_lt 0 (length s.waiting) then 1 else 0) + 2 + (if s.overrun then 4 else 0)
 
 -- the registers. A store to the transmit register sends the low byte of its word. A load of the receive
--- register takes the oldest byte, and returns a word that no byte has where none is waiting; one of the
--- status register clears the overrun
+-- register takes the oldest byte; where none is waiting, it returns a word that no byte has, of which a narrow
+-- load sees zeros. A load of the status register clears the overrun
 abbrev pub serial_register : SerialReg → Register SerialState
 serial_register Tx = register (λ s. 0) (λ s w. record s { sent = s.sent ++ (w % 256) ∷ [] })
 serial_register Rx =

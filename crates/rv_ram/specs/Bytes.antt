@@ -1,6 +1,7 @@
 -- To audit: public contracts cite this.
--- A memory as the list of its bytes. RISC-V Unprivileged ISA 20191213, section 1.4: memory is addressed by
--- bytes, and the bytes of a word stand low byte first.
+-- A memory as the list of its bytes. RISC-V Unprivileged ISA 20191213: memory is addressed by bytes (section 1.4),
+-- and the bytes of a value stand low byte first, those of an instruction (section 1.5) as those of data (section
+-- 2.6).
 use Rattle.std.specs.Prelude.{ℕ, zero, suc, ◌+◌, ◌*◌, ◌/◌, ◌%◌, ◌^◌, List, slice_index, slice_set, replicate}
 
 -- the value of n bytes at an offset

@@ -9,7 +9,8 @@ use Rattle.rv_base.specs.Limits.{ram_base}
 use Rattle.rv_isa.specs.declared.kind.Kind.{Kind}
 use Rattle.rv_isa.specs.declared.kind.Kind.TheVariants.{Load, Store, Jalr, Csr, CsrImm, Ecall, Ebreak, Mret, Wfi}
 use Rattle.rv_isa.specs.Support.Meaning.{means}
-use Rattle.rv_isa.specs.Width.{bytes_of, load_of}
+use Rattle.rv_isa.specs.Alu.{load_of}
+use Rattle.rv_isa.specs.Width.{bytes_of}
 use Rattle.rv_pmp.specs.Mode.{level}
 use Rattle.rv_pmp.specs.Pmp.{PmpState, grants, matches}
 use Rattle.rv_pmp.specs.declared.access.Access.{Access}

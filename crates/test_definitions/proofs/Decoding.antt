@@ -3,10 +3,11 @@ use Rattle.std.proofs.Common.{◌≡◌, refl, subst, true, false, ℕ, List, Bo
 use Rattle.std.specs.Prelude.{ℤ, pos, negsuc, ◌==◌, ◌&&◌, ◌^◌, nat_lt, [], ◌∷◌, Option, Some, None, if◌then◌else◌}
 use Rattle.std.proofs.lemmas.Bool.{ltb-true, and_parts, eqb-true}
 use Rattle.std.proofs.lemmas.Option.{same_Some, none-some}
-use Rattle.rv_isa.specs.Number.{unsigned, modulo, IsWithin, IsDistance}
+use Rattle.rv_isa.specs.Number.{to_word, modulo, IsWithin, IsDistance}
 use Rattle.rv_isa.specs.Table.{row, Encoding, R, Amount, I, Number, S, B, U, J, Whole}
 use Rattle.rv_isa.specs.Fields.{kind_of}
-use Rattle.rv_isa.specs.Word.{encoded, HasImmediate, AreInRange, Means}
+use Rattle.rv_isa.specs.Formats.{in_format}
+use Rattle.rv_isa.specs.Word.{encoded, AreInRange, Means}
 use Rattle.rv_isa.specs.declared.kind.Kind.{Kind}
 use Rattle.rv_isa.specs.declared.fields.Fields.{Fields}
 use Rattle.test_definitions.specs.Support.Runs.{Row, fields}
@@ -20,12 +21,12 @@ abbrev is_distance : ℕ → ℤ → Bool
 is_distance b z = is_within b z && (modulo z 2 == 0)
 
 abbrev has_immediate : Encoding → ℤ → Bool
-has_immediate (Amount _ _ _ _) imm = nat_lt (unsigned imm) (2 ^ 5)
+has_immediate (Amount _ _ _ _) imm = nat_lt (to_word imm) (2 ^ 5)
 has_immediate (I _ _ _) imm = is_within (2 ^ 11) imm
-has_immediate (Number _ _ _) imm = nat_lt (unsigned imm) (2 ^ 12)
+has_immediate (Number _ _ _) imm = nat_lt (to_word imm) (2 ^ 12)
 has_immediate (S _ _ _) imm = is_within (2 ^ 11) imm
 has_immediate (B _ _ _) imm = is_distance (2 ^ 12) imm
-has_immediate (U _ _) imm = nat_lt (unsigned imm) (2 ^ 20)
+has_immediate (U _ _) imm = nat_lt (to_word imm) (2 ^ 20)
 has_immediate (J _ _) imm = is_distance (2 ^ 20) imm
 has_immediate _ imm = true
 
@@ -36,16 +37,16 @@ within b (negsuc n) e = ltb-true n b e
 distance : (b : ℕ) (z : ℤ) → is_distance b z ≡ true → IsDistance b z
 distance b z e = (within b z (and_parts _ _ e).0, eqb-true _ _ (and_parts _ _ e).1)
 
-immediate : (e : Encoding) (z : ℤ) → has_immediate e z ≡ true → HasImmediate e z
-immediate (Amount _ _ _ _) z h = ltb-true _ _ h
-immediate (I _ _ _) z h = within _ z h
-immediate (Number _ _ _) z h = ltb-true _ _ h
-immediate (S _ _ _) z h = within _ z h
-immediate (B _ _ _) z h = distance _ z h
-immediate (U _ _) z h = ltb-true _ _ h
-immediate (J _ _) z h = distance _ z h
-immediate (R _ _ _ _) z h = tt
-immediate (Whole _ _) z h = tt
+immediate : (e : Encoding) (f : Fields) → has_immediate e f.imm ≡ true → (in_format e f).HasImmediate
+immediate (Amount _ _ _ _) f h = ltb-true _ _ h
+immediate (I _ _ _) f h = within _ f.imm h
+immediate (Number _ _ _) f h = ltb-true _ _ h
+immediate (S _ _ _) f h = within _ f.imm h
+immediate (B _ _ _) f h = distance _ f.imm h
+immediate (U _ _) f h = ltb-true _ _ h
+immediate (J _ _) f h = distance _ f.imm h
+immediate (R _ _ _ _) f h = tt
+immediate (Whole _ _) f h = tt
 
 abbrev are_in_range : Fields → Bool
 are_in_range f = nat_lt f.rd 32 && (nat_lt f.rs1 32 && (nat_lt f.rs2 32 && has_immediate (row f.operation).1 f.imm))
@@ -53,7 +54,7 @@ are_in_range f = nat_lt f.rd 32 && (nat_lt f.rs1 32 && (nat_lt f.rs2 32 && has_i
 in_range : (f : Fields) → are_in_range f ≡ true → AreInRange f
 in_range f e =
     let one = and_parts _ _ e in let two = and_parts _ _ one.1 in let three = and_parts _ _ two.1 in
-    (ltb-true _ _ one.0, ltb-true _ _ two.0, ltb-true _ _ three.0, immediate _ _ three.1)
+    (ltb-true _ _ one.0, ltb-true _ _ two.0, ltb-true _ _ three.0, immediate _ f three.1)
 
 -- ---- the kind of a word, by the rows
 abbrev pub decoded : List Row → ℕ → Option Kind

@@ -7,7 +7,7 @@ use Rattle.rv_isa.specs.Names.{csr_names}
 use Rattle.rv_pmp.specs.Pmp.{grants, read_register, write_register, is_locked_tor}
 use Rattle.rv_pmp.specs.Entry.{config_byte, configured, matching_of, addressed}
 use Rattle.rv_csr.specs.Registers.{read, write, table, number_of, row_at, status_word, with_status, lines_word, word_lines}
-use Rattle.rv_csr.specs.Traps.{entered, left, trap_pc, pending}
+use Rattle.rv_csr.specs.Traps.{entered, after_return, trap_pc, next_interrupt}
 use Rattle.test_definitions.specs.Support.Registers.{is_kept, is_right, is_granted}
 use Rattle.test_definitions.specs.Support.Devices.{is_time}
 use Rattle.test_definitions.specs.Support.Traps.{is_trap, is_interrupt}
@@ -32,9 +32,9 @@ pub each_time : list_all is_time TIMES ≡ true
 each_time = refl
 
 pub each_trap : list_all is_trap TRAPS ≡ true
-unfolding read write table number_of row_at status_word with_status csr_names digits read_register write_register entered left trap_pc
+unfolding read write table number_of row_at status_word with_status csr_names digits read_register write_register entered after_return trap_pc
 each_trap = refl
 
 pub each_interrupt : list_all is_interrupt INTERRUPTS ≡ true
-unfolding read write table number_of row_at status_word with_status lines_word word_lines csr_names digits read_register write_register pending
+unfolding read write table number_of row_at status_word with_status lines_word word_lines csr_names digits read_register write_register next_interrupt
 each_interrupt = refl

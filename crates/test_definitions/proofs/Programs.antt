@@ -10,7 +10,7 @@ use Rattle.rv_isa.specs.Word.{OneMeaning}
 use Rattle.rv_pmp.specs.Pmp.{grants, read_register, write_register, is_locked_tor}
 use Rattle.rv_pmp.specs.Entry.{config_byte, configured, matching_of, addressed}
 use Rattle.rv_csr.specs.Registers.{read, write, table, number_of, row_at, status_word, with_status, lines_word, word_lines}
-use Rattle.rv_csr.specs.Traps.{entered, left, trap_pc, pending}
+use Rattle.rv_csr.specs.Traps.{entered, after_return, trap_pc, next_interrupt}
 use Rattle.rv_plic.specs.Gateways.{asking_sources}
 use Rattle.rv_plic.specs.Sources.{sources}
 use Rattle.rv_plic.specs.Plic.{is_notified}
@@ -29,7 +29,7 @@ use Rattle.test_definitions.proofs.Running.{run_is}
 
 -- what a run computes by
 computes : ℕ
-unfolding alu_value is_taken kind_of csr_names grants read_register write_register is_locked_tor config_byte configured matching_of addressed read write table number_of row_at status_word with_status lines_word word_lines entered left trap_pc pending asking_sources sources is_notified value_at put zeros load store fetch execute csr_written counts enter board_at_reset digits reg_at location_of
+unfolding alu_value is_taken kind_of csr_names grants read_register write_register is_locked_tor config_byte configured matching_of addressed read write table number_of row_at status_word with_status lines_word word_lines entered after_return trap_pc next_interrupt asking_sources sources is_notified value_at put zeros load store fetch execute csr_written counts enter board_at_reset digits reg_at location_of
 computes = 0
 
 pub hello : OneMeaning → leaves HELLO 0x8000001c HELLO_ENDS (72 ∷ []) (ran_for HELLO 7) ≡ true

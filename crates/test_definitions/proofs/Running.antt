@@ -24,7 +24,7 @@ use Rattle.rv_plic.proofs.Rows.{loaded, loads, stores}
 use Rattle.rv_pmp.specs.Pmp.{grants}
 use Rattle.rv_pmp.specs.declared.access.Access.TheVariants.{Execute}
 use Rattle.rv_pmp.specs.declared.access.Access.TheVariants as access
-use Rattle.rv_csr.specs.Traps.{pending}
+use Rattle.rv_csr.specs.Traps.{next_interrupt}
 use Rattle.rv_bus.specs.Access.{fetch, lines_of}
 use Rattle.rv_bus.specs.State.{BusState}
 use Rattle.rv_bus.specs.Support.AtLocation.{load_at, location, store_at}
@@ -273,7 +273,7 @@ lines_are p m is i =
 
 abbrev fetched_by : List Row → OfLists → Machine → Result Kind Trap
 fetched_by rows p m =
-    option_map_or (λ cause. trap cause 0) (pending m.csrs m.mode (lines_by p m))
+    option_map_or (λ cause. trap cause 0) (next_interrupt m.csrs m.mode (lines_by p m))
     (require 1 m.pc (grants m.csrs.pmp m.mode Execute m.pc 4)
     (given 1 m.pc (λ w. given 2 w Ok (decoded rows w)) (fetch m.bus.ram m.pc)))
 
@@ -286,7 +286,7 @@ known_fetch : (rows : List Row) (p : OfLists) (m : Machine) → OneMeaning
     → fetched m ≡ fetched_by rows p m
 unfolding fetch_result
 known_fetch rows p m one known is i =
-    option_map_or (λ cause. trap cause 0) (pending m.csrs m.mode (lines_are p m is i))
+    option_map_or (λ cause. trap cause 0) (next_interrupt m.csrs m.mode (lines_are p m is i))
     (require 1 m.pc (grants m.csrs.pmp m.mode Execute m.pc 4)
     (known_word rows m.pc (fetch m.bus.ram m.pc) one known i))
 

@@ -2,7 +2,7 @@
 -- The codes of an encoding, and the places of codes and fields in a word, as the code computes them.
 use Rattle.std.specs.Prelude.{◌≡◌, ◌⊎◌, ℕ, ℤ, pos, negsuc, nat_lt, if◌then◌else◌, ◌+◌, ◌-◌, ◌*◌, ◌/◌, ◌%◌, ◌^◌, ◌<◌, Option, Some, None}
 use Rattle.rv_isa.specs.Fields.{with_fields}
-use Rattle.rv_isa.specs.Number.{unsigned}
+use Rattle.rv_isa.specs.Number.{to_word}
 use Rattle.rv_isa.specs.Table.{row, Encoding, R, Amount, I, Number, S, B, U, J, Whole}
 use Rattle.rv_isa.specs.declared.fields.Fields.{Fields}
 use Rattle.rv_isa.specs.declared.format.Format.{Format}
@@ -54,7 +54,7 @@ place format.Whole c f u = c.opcode
 place _ c f u = c.opcode + f.rd * 2 ^ 7 + c.funct3 * 2 ^ 12 + f.rs1 * 2 ^ 15 + u % 2 ^ 12 * 2 ^ 20
 
 abbrev pub placed : Codes → Fields → ℕ
-placed c f = place c.format c f (unsigned f.imm)
+placed c f = place c.format c f (to_word f.imm)
 
 -- ---- the codes and the fields of a word
 

@@ -2,27 +2,19 @@
 -- cited by private contracts and proofs alone.
 -- The operation, the fields and the word of each kind: the table of instructions read backwards.
 use Rattle.std.specs.Prelude.{◌≡◌, ◌≢◌, ℕ, ◌^◌, ◌<◌, pos, List, [], ◌∷◌, Option, Some, None}
-use Rattle.rv_isa.specs.Encoded.{encoded}
-use Rattle.rv_isa.specs.Fields.{with_fields}
+use Rattle.rv_isa.specs.Fields.{encoded, with_fields}
 use Rattle.rv_isa.specs.Number.{IsWithin, IsDistance}
 use Rattle.rv_isa.specs.declared.fields.Fields.{Fields}
 use Rattle.rv_isa.specs.declared.op.Operation.{Operation}
 use Rattle.rv_isa.specs.declared.op.Operation.TheVariants.{Lui, Auipc, Jal, Jalr, Beq, Bne, Blt, Bge, Bltu, Bgeu, Lb, Lh, Lw, Lbu, Lhu, Sb, Sh, Sw, Addi, Slti, Sltiu, Xori, Ori, Andi, Slli, Srli, Srai, Add, Sll, Slt, Sltu, Xor, Srl, Or, And, Sub, Sra, Mul, Mulh, Mulhsu, Mulhu, Div, Divu, Rem, Remu, Fence, FenceI, Csrrw, Csrrs, Csrrc, Csrrwi, Csrrsi, Csrrci, Ecall, Ebreak, Mret, Wfi}
 use Rattle.rv_isa.specs.declared.kind.Kind.{Kind}
 use Rattle.rv_isa.specs.declared.kind.Kind.TheVariants as kind
-use Rattle.rv_isa.specs.declared.op.Cond.{Cond}
 use Rattle.rv_isa.specs.declared.op.Cond.TheVariants as cond
-use Rattle.rv_isa.specs.declared.op.LoadOp.{LoadOp}
 use Rattle.rv_isa.specs.declared.op.LoadOp.TheVariants as loads
-use Rattle.rv_isa.specs.declared.op.Width.{Width}
 use Rattle.rv_isa.specs.declared.op.Width.TheVariants as width
-use Rattle.rv_isa.specs.declared.op.ImmOp.{ImmOp}
 use Rattle.rv_isa.specs.declared.op.ImmOp.TheVariants as immediate
-use Rattle.rv_isa.specs.declared.op.ShiftOp.{ShiftOp}
 use Rattle.rv_isa.specs.declared.op.ShiftOp.TheVariants as shift
-use Rattle.rv_isa.specs.declared.op.AluOp.{AluOp}
 use Rattle.rv_isa.specs.declared.op.AluOp.TheVariants as alu
-use Rattle.rv_isa.specs.declared.op.CsrOp.{CsrOp}
 use Rattle.rv_isa.specs.declared.op.CsrOp.TheVariants as csr
 
 -- every operation once

@@ -1,7 +1,7 @@
 -- Not to audit: proofs alone cite this.
 -- The columns of the table of loads.
 use Rattle.std.specs.Prelude.{ℕ}
-use Rattle.rv_isa.specs.Width.{load_of}
+use Rattle.rv_isa.specs.Alu.{load_of}
 use Rattle.rv_isa.specs.declared.op.LoadOp.{LoadOp}
 use Rattle.rv_isa.specs.declared.op.Width.{Width}
 

@@ -6,8 +6,7 @@ use Rattle.std.specs.List.{list_all}
 use Rattle.std.specs.Str.{bytes_eq}
 use Rattle.rv_isa.specs.declared.op.Operation.{Operation}
 use Rattle.rv_isa.specs.declared.fields.Fields.{Fields}
-use Rattle.rv_isa.specs.Encoded.{encoded}
-use Rattle.rv_isa.specs.Fields.{with_fields}
+use Rattle.rv_isa.specs.Fields.{encoded, with_fields}
 use Rattle.std.specs.Option.{option_map_or}
 use Rattle.rv_board.specs.BoardState.{BoardState, csr_of}
 use Rattle.rv_board.specs.Boot.{board_at_reset}

@@ -7,7 +7,7 @@ use Rattle.rv_pmp.specs.declared.mode.Mode.TheVariants.{Machine}
 use Rattle.rv_pmp.specs.Mode.{level}
 use Rattle.rv_csr.specs.Registers.{write, status_word}
 use Rattle.rv_csr.specs.State.{csrs_at_reset, CsrState}
-use Rattle.rv_csr.specs.Traps.{entered, left, trap_pc, pending}
+use Rattle.rv_csr.specs.Traps.{entered, after_return, trap_pc, next_interrupt}
 
 -- the control registers after machine mode wrote a word to a register that is there
 abbrev pub with_word : CsrState → ℕ → ℕ → CsrState
@@ -23,7 +23,7 @@ abbrev pub is_trap : List ℕ × Mode × ℕ × ℕ × List ℕ × ℕ × Mode �
 is_trap row =
     let s = inside row in
     (status_word s.mstatus == slice_index row.4 0) && (s.mepc == slice_index row.4 1) && (s.mcause == row.2)
-    && (trap_pc s row.2 == slice_index row.4 2) && (status_word (left s).mstatus == row.5)
+    && (trap_pc s row.2 == slice_index row.4 2) && (status_word (after_return s).mstatus == row.5)
     && (level s.mstatus.mpp == level row.6)
 
 -- the levels of lines, the software interrupt's first
@@ -38,4 +38,4 @@ lines_of levels = record {
 abbrev pub is_interrupt : List ℕ × Mode × List Bool × ℕ → Bool
 is_interrupt row =
     let s = with_word (with_word csrs_at_reset 0x300 (slice_index row.0 0)) 0x304 (slice_index row.0 1) in
-    unwrap_or (pending s row.1 (lines_of row.2)) 0 == row.3
+    unwrap_or (next_interrupt s row.1 (lines_of row.2)) 0 == row.3

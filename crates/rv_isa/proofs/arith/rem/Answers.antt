@@ -1,6 +1,6 @@
 use Rattle.std.proofs.Common.{ne_eqb, SFits, w32}
 use Rattle.std.specs.Prelude.{int_rem}
-use Rattle.rv_isa.specs.Number.{unsigned}
+use Rattle.rv_isa.specs.Number.{to_word}
 use Rattle.rv_isa.specs.Alu.{alu_value}
 use Rattle.rv_isa.proofs.Signed.{word_of, remainder_word}
 use Rattle.rv_isa.proofs.arith.rem.Goals as goal
@@ -13,6 +13,6 @@ returns-else-b-eq0 c =
     record { sfits = c.cast_signed-else-b-eq0.type_inv } in
     let h : SFits w32 c.wrapping_rem.result = record { sfits = c.wrapping_rem.type_inv } in
     rw (ne_eqb c.args.b 0 c.if-b-eq0.false)
-    (word_of int_rem (λ x y. unsigned (int_rem x y)) _ _ _ _ _ _ f g h c.cast_signed.ensures
+    (word_of int_rem (λ x y. to_word (int_rem x y)) _ _ _ _ _ _ f g h c.cast_signed.ensures
     c.cast_signed-else-b-eq0.ensures c.wrapping_rem.ensures c.cast_unsigned.ensures
     (remainder_word c.cast_signed.result c.cast_signed-else-b-eq0.result f))
