@@ -7,15 +7,15 @@ use Rattle.rv_source.specs.declared.line.Label.{Label}
 use Rattle.rv_source.specs.declared.line.Label.TheVariants as label
 use Rattle.rv_asm.specs.declared.locals.LocalLabel.{LocalLabel}
 use Rattle.rv_base.specs.Tables.{lookup}
-use Rattle.rv_asm.specs.Layout.{names_in, locals_in, redefines, line_at, row_at, row_on, phase_two_fault, definitions}
+use Rattle.rv_asm.specs.Layout.{names_in, locals_in, redefines, line_at, emitted_at, emitted_on, phase_two_fault, definitions}
 use Rattle.rv_asm.specs.Support.Steps.{relabels, address, names, known_on, fault_on, joined, all_faults, faults_at, new_among, LaysOut, Known, values_of, labelled, stated, known_before, Item, item_bytes, item_listed, item_faults, Adds, AddsLine, bytes_by, listed, Writes, blank, phase_one_fault, phase_three_fault, unread_kind, located, start, with_line, Written, cleared, known_after, judged}
 use Rattle.std.proofs.lemmas.Bool.Decides.{nat_tests}
 use Rattle.rv_source.specs.Reading.{Parsed}
 use Rattle.rv_source.specs.declared.statement.Statement.{Statement}
 use Rattle.rv_program.specs.declared.fault.FaultKind.{FaultKind}
 use Rattle.rv_program.specs.declared.fault.FaultKind.TheVariants.{DuplicateSymbol}
-use Rattle.rv_asm.specs.Listing.{row}
-use Rattle.rv_asm.specs.Support.Statements.{row_by, fault_by, image_end}
+use Rattle.rv_asm.specs.Listing.{emitted}
+use Rattle.rv_asm.specs.Support.Statements.{emitted_by, fault_by, image_end}
 use Rattle.std.specs.Result.{result_err}
 use Rattle.std.proofs.lemmas.Grind.{flat_map-append}
 use Rattle.rv_asm.specs.Symbols.{Definitions, operand_value}
@@ -89,7 +89,7 @@ up_to_labelled k known ls h =
 -- ---- a line by its labels and its statement
 
 pub not_stated : (k : ℕ) (known : Known) → stated k known None ≡ known
-unfolding row
+unfolding emitted
 not_stated k known = rw (append-nil, add-zero) refl
 
 -- ---- the fault of a line in phase two
@@ -102,9 +102,9 @@ pub phase_two_is : (lines : List Parsed) (n : ℕ) →
     phase_two_fault lines n ≡ fault_on n (known_before lines n) (line_at lines n)
 unfolding phase_two_fault fault_on
 phase_two_is lines n =
-    rw (redefines-append (names lines n) (names_in (address lines n) (line_at lines n).labels) (row_on lines n).defines)
+    rw (redefines-append (names lines n) (names_in (address lines n) (line_at lines n).labels) (emitted_on lines n).defines)
     (either_cond (relabels (known_before lines n) (line_at lines n).labels)
-    (redefines (known_on lines n).definitions.names (row_on lines n).defines) _ _)
+    (redefines (known_on lines n).definitions.names (emitted_on lines n).defines) _ _)
 
 -- ---- local labels are in order of lines
 
@@ -120,7 +120,7 @@ up_to_before lines (suc n) =
 
 -- a line without a statement
 pub adds_none : (k : ℕ) (known : Known) (items : List Item) (ds : Definitions) → Adds k known None items items ds
-unfolding row
+unfolding emitted
 adds_none k known items ds = record {
   bytes = sym (append-nil (flat_map (item_listed ds) items));
   faults = sym (append-nil (flat_map (item_faults ds) items));
@@ -135,7 +135,7 @@ pushed f items item =
 pub adds_pushed : (k : ℕ) (known : Known) (statement : Statement) (items : List Item) (item : Item) →
     item.line ≡ k
     → ((ds : Definitions) → item_bytes ds item
-    ≡ (row (values_of k known) known.address statement).contents (operand_value ds k known.address))
+    ≡ (emitted (values_of k known) known.address statement).contents (operand_value ds k known.address))
     → (ds : Definitions) → Adds k known (Some statement) items (items ++ item ∷ []) ds
 adds_pushed k known statement items item at is ds = record {
   bytes = pushed (item_listed ds) items item ∙ ap (λ r. flat_map (item_listed ds) items ++ listed r) (is ds);
@@ -176,13 +176,13 @@ module _ (k : ℕ) (known : Known) (line : Parsed) (items : List Item) where
     same = is ∙ ap (labelled k known) (all_new k known line.labels e)
 
     by : (fault : Option FaultKind) (after : Known) (more : List Item)
-        → fault_by on.definitions.names on.address (row_at k on line.statement) ≡ fault
+        → fault_by on.definitions.names on.address (emitted_at k on line.statement) ≡ fault
         → after ≡ cond (is_some fault) on (stated k on line.statement)
         → (fault ≡ None → AddsLine k known line items more) → LaysOut k known line fault after items more
     unfolding fault_on
     by fault after more g is_after adds =
         let here : fault_by (labelled k known line.labels).definitions.names known.address
-        (row_at k (labelled k known line.labels) line.statement) ≡ fault = rw same at g in
+        (emitted_at k (labelled k known line.labels) line.statement) ≡ fault = rw same at g in
         record {
           fault_is = rw (e, here) refl;
           known_is = is_after ∙ (rw (same, all_new k known line.labels e) refl);
@@ -190,7 +190,7 @@ module _ (k : ℕ) (known : Known) (line : Parsed) (items : List Item) where
         }
 
     pub lays_nothing : line.statement ≡ None → known.address ≤ image_end → LaysOut k known line None on items items
-    unfolding row
+    unfolding emitted
     lays_nothing none within =
         let past : nat_lt image_end (on.address + 0) ≡ false = rw same (grind (arith, nat_tests, within)) in
         let aligned : on.address % 1 ≡ 0 = omega arith in
@@ -199,21 +199,21 @@ module _ (k : ℕ) (known : Known) (line : Parsed) (items : List Item) where
 
     module _ (statement : Statement) (has : line.statement ≡ Some statement) where
       pub lays_fault : (kind : FaultKind)
-          → Some kind ≡ fault_by on.definitions.names on.address (row (values_of k on) on.address statement)
+          → Some kind ≡ fault_by on.definitions.names on.address (emitted (values_of k on) on.address statement)
           → LaysOut k known line (Some kind) on items items
       lays_fault kind h = by (Some kind) on items (rw has (sym h)) refl (λ h. absurd cc)
 
       pub lays : (c : ℤ) (after : Known) (item : Item)
-          → None ≡ fault_by on.definitions.names on.address (row (values_of k on) on.address statement)
-          → row (values_of k on) on.address statement ≡ row_by c on.address statement
+          → None ≡ fault_by on.definitions.names on.address (emitted (values_of k on) on.address statement)
+          → emitted (values_of k on) on.address statement ≡ emitted_by c on.address statement
           → after ≡ record {
-            address = on.address + (row_by c on.address statement).size;
+            address = on.address + (emitted_by c on.address statement).size;
             definitions = record {
-              names = on.definitions.names ++ (row_by c on.address statement).defines;
+              names = on.definitions.names ++ (emitted_by c on.address statement).defines;
               locals = on.definitions.locals;
             };
           } → item.line ≡ k → ((ds : Definitions)
-          → item_bytes ds item ≡ (row_by c on.address statement).contents (operand_value ds k on.address))
+          → item_bytes ds item ≡ (emitted_by c on.address statement).contents (operand_value ds k on.address))
           → LaysOut k known line None after items (items ++ item ∷ [])
       lays c after item none is_row is_after at bytes =
           by None after (items ++ item ∷ []) (rw has (sym none)) (is_after ∙ rw (has, ← is_row) refl)

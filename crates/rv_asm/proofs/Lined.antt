@@ -11,7 +11,7 @@ use Rattle.rv_source.specs.declared.statement.Statement.TheVariants.{Marker}
 use Rattle.rv_program.specs.declared.fault.FaultKind.{FaultKind}
 use Rattle.rv_asm.specs.Symbols.{Definitions, operand_value}
 use Rattle.rv_base.specs.Limits.{ram_base}
-use Rattle.rv_asm.specs.Layout.{line_at, row_at, phase_two_fault, definitions, labels_in}
+use Rattle.rv_asm.specs.Layout.{line_at, emitted_at, phase_two_fault, definitions, labels_in}
 use Rattle.rv_asm.specs.Support.Steps.{address, known_on, joined, all_faults, phase_one_fault, phase_three_fault, up_to, labels, LabelsRise, LieInOrder, AreLinesOf, located, noted_with, Known, values_of, stated, known_before, stated_bytes, bytes_by, listed as listed_of}
 use Rattle.rv_asm.proofs.Counting.{joined_none, joined_more, none_last, none_before, answer, first_found, image_by, assembled_is, joined_before, joined_same, up_to_more}
 use Rattle.rv_asm.proofs.Rows.{statement_size}
@@ -40,7 +40,7 @@ module _ (ds : Definitions) (k : ℕ) (known : Known) where
   size_line : (statement : Option Statement) → result_err (stated_bytes ds k known statement) ≡ None
       → (stated k known statement).address ≡ known.address + length (listed_of (stated_bytes ds k known statement))
   size_line statement e = ap (λ n. known.address + n)
-      (sym (sized_answer (stated_bytes ds k known statement) (row_at k known statement).size
+      (sym (sized_answer (stated_bytes ds k known statement) (emitted_at k known statement).size
       (λ bs. statement_size (values_of k known) (operand_value ds k known.address) known.address bs
       (unwrap_or statement Marker)) e))
 

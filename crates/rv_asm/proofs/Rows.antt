@@ -11,8 +11,8 @@ use Rattle.rv_isa.specs.declared.op.Width.TheVariants.{One, Two, Four}
 use Rattle.rv_source.specs.declared.operand.Operand.{Operand}
 use Rattle.rv_program.specs.declared.fault.FaultKind.{FaultKind}
 use Rattle.rv_program.specs.declared.fault.FaultKind.TheVariants.{Undefined, OutOfRange, OutOfMemory, TooLarge}
-use Rattle.rv_asm.specs.Listing.{placed, code, Row, bytes, bytes_in, filled, padding, space, row}
-use Rattle.rv_asm.specs.Support.Statements.{Valuation, KindFails, has_unknown, placed_by, wanted, value_by, with_value, byte, IsKnown, row_by, fault_by, image_end}
+use Rattle.rv_asm.specs.Listing.{placed, code, Emitted, bytes, bytes_in, filled, padding, space, emitted}
+use Rattle.rv_asm.specs.Support.Statements.{Valuation, KindFails, has_unknown, placed_by, wanted, value_by, with_value, byte, IsKnown, emitted_by, fault_by, image_end}
 use Rattle.rv_asm.specs.Support.Steps.{appended, IsSum, expression_of, kept_bytes, sums_bytes}
 use Rattle.rv_isa.specs.declared.kind.Kind.{Kind}
 use Rattle.rv_source.specs.Operands.{terms_of}
@@ -24,7 +24,7 @@ use Rattle.rv_source.specs.declared.operand.Form.TheVariants as f
 use Rattle.rv_source.specs.declared.operand.Part.{Part}
 use Rattle.rv_source.specs.declared.operand.Part.TheVariants.{Whole, High, Low}
 use Rattle.rv_asm.specs.Symbols.{Definitions, operand_value, sum_value}
-use Rattle.rv_asm.specs.Values.{part_value, fits, far, hi, lo, is_between}
+use Rattle.rv_asm.specs.Values.{part_value, fits, far_distance, hi, lo, is_between}
 use Rattle.rv_asm.specs.declared.fixup.Waiting.{Waiting}
 use Rattle.rv_asm.specs.declared.fixup.Waiting.TheVariants as w
 use Rattle.rv_asm.specs.declared.kept.Kept.{Kept}
@@ -245,8 +245,8 @@ padded n m e h = rw (length_padding, ← e) (omega arith)
 -- ---- the value that must be known is all that a row takes from the symbols of its line
 
 pub row_is : (early : Valuation) (c : ℤ) (here : ℕ) (statement : Statement) → IsKnown early c statement →
-    row early here statement ≡ row_by c here statement
-unfolding IsKnown row
+    emitted early here statement ≡ emitted_by c here statement
+unfolding IsKnown emitted
 row_is early c here (s.Li rd e) k = rw k refl
 row_is early c here (s.Space size fill) k = rw k refl
 row_is early c here (s.Align power) k = rw k refl
@@ -279,20 +279,20 @@ module _ (early late : Valuation) (here : ℕ) (bs : List ℕ) where
   space_counted n (Some x) h = placed_counted late _ n
       (mapped_counted (replicate n) byte n (λ b. length-replicate n b)) (x ∷ []) bs h
 
-  pub statement_size : (statement : Statement) → (row early here statement).contents late ≡ Ok bs →
-      length bs ≡ (row early here statement).size
-  unfolding row
+  pub statement_size : (statement : Statement) → (emitted early here statement).contents late ≡ Ok bs →
+      length bs ≡ (emitted early here statement).size
+  unfolding emitted
   statement_size (s.WithValue kind x) h =
       placed_counted late _ 4 (then_counted _ (part_value x.form) 4 (code_counted here [] kind)) (x ∷ []) bs h
   statement_size (s.Far scratch kind x) h = placed_counted late _ 8
-      (then_counted _ (far here) 8 (λ d. code_counted here (Auipc scratch (hi d) ∷ []) kind (lo d))) (x ∷ []) bs h
+      (then_counted _ (far_distance here) 8 (λ d. code_counted here (Auipc scratch (hi d) ∷ []) kind (lo d))) (x ∷ []) bs h
   statement_size (s.Data width xs) h = placed_counted late (bytes_in width) (bytes_of width) (bytes_counted width) xs bs h
   statement_size (s.Space size fill) h = space_counted _ fill h
   statement_size statement h = ready_counted _ bs h
 
 -- ---- the last test of a statement in phase two
 
-module _ (known : List (List ℕ × ℤ)) (here : ℕ) (r : Row) (is_new : redefines known r.defines ≡ false)
+module _ (known : List (List ℕ × ℤ)) (here : ℕ) (r : Emitted) (is_new : redefines known r.defines ≡ false)
     (is_known : r.is_known ≡ true) (placed : (here % r.alignment == 0) ≡ true) where
   pub past : image_end < here + r.size → Some TooLarge ≡ fault_by known here r
   past h =

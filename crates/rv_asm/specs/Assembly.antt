@@ -12,7 +12,7 @@ use Rattle.rv_program.specs.declared.fault.FaultKind.{FaultKind}
 use Rattle.rv_program.specs.declared.fault.AsmFault.{AsmFault}
 use Rattle.rv_program.specs.Faults.{kind_of}
 use Rattle.rv_asm.specs.Symbols.{operand_value}
-use Rattle.rv_asm.specs.Layout.{address, row_on, definitions, phase_two_fault}
+use Rattle.rv_asm.specs.Layout.{address, emitted_on, definitions, phase_two_fault}
 
 -- ---- a line
 
@@ -22,7 +22,7 @@ all_parsed = map (λ text. result_unwrap_or (parsed text) (record { labels = [];
 
 -- the bytes of line k, once all symbols are known, or its fault in phase three
 abbrev pub line_bytes : List Parsed → ℕ → Result (List ℕ) FaultKind
-line_bytes lines k = (row_on lines k).contents (operand_value (definitions lines) k (address lines k))
+line_bytes lines k = (emitted_on lines k).contents (operand_value (definitions lines) k (address lines k))
 
 -- ---- all lines
 

@@ -15,7 +15,7 @@ use Rattle.rv_program.specs.declared.fault.FaultKind.{FaultKind}
 use Rattle.rv_program.specs.declared.fault.FaultKind.TheVariants.{DuplicateSymbol, NotConstant, Misplaced, TooLarge}
 use Rattle.rv_asm.specs.declared.locals.LocalLabel.{LocalLabel}
 use Rattle.rv_asm.specs.Symbols.{Definitions, followed, operand_value}
-use Rattle.rv_asm.specs.Listing.{Row, row}
+use Rattle.rv_asm.specs.Listing.{Emitted, emitted}
 
 -- ---- the labels of a line at an address
 
@@ -50,14 +50,14 @@ abbrev pub labelled : ℕ → Known → List Label → Known
 labelled k known ls = record known
     { definitions = followed known.definitions (names_in known.address ls) (locals_in k known.address ls) }
 
--- the row of the statement of line k; a line without one stands for as little as a marker
-abbrev pub row_at : ℕ → Known → Option Statement → Row
-row_at k known statement =
-    row (operand_value known.definitions k known.address) known.address (unwrap_or statement Marker)
+-- what the statement of line k stands for; a line without one stands for as little as a marker
+abbrev pub emitted_at : ℕ → Known → Option Statement → Emitted
+emitted_at k known statement =
+    emitted (operand_value known.definitions k known.address) known.address (unwrap_or statement Marker)
 
 -- following that statement
 abbrev pub stated : ℕ → Known → Option Statement → Known
-stated k known statement = let r = row_at k known statement in record {
+stated k known statement = let r = emitted_at k known statement in record {
   address = known.address + r.size;
   definitions = record known.definitions { names = known.definitions.names ++ r.defines };
 }
@@ -72,9 +72,9 @@ known_before lines (suc k) =
 abbrev pub address : List Parsed → ℕ → ℕ
 address lines k = (known_before lines k).address
 
--- the row of its statement, once its labels are defined
-abbrev pub row_on : List Parsed → ℕ → Row
-row_on ls k = row_at k (labelled k (known_before ls k) (line_at ls k).labels) (line_at ls k).statement
+-- what its statement stands for, once its labels are defined
+abbrev pub emitted_on : List Parsed → ℕ → Emitted
+emitted_on ls k = emitted_at k (labelled k (known_before ls k) (line_at ls k).labels) (line_at ls k).statement
 
 -- all symbols
 abbrev pub definitions : List Parsed → Definitions
@@ -90,7 +90,7 @@ redefines known (d ∷ ds) = is_some (lookup d.0 known) || redefines (known ++ d
 -- the fault of line k in phase two
 unfoldable pub phase_two_fault : List Parsed → ℕ → Option FaultKind
 phase_two_fault lines k =
-    let known = known_before lines k in let r = row_on lines k in
+    let known = known_before lines k in let r = emitted_on lines k in
     let new = names_in known.address (line_at lines k).labels ++ r.defines in
     if redefines known.definitions.names new then Some DuplicateSymbol
     else (if not r.is_known then Some NotConstant

@@ -19,7 +19,7 @@ use Rattle.rv_source.specs.declared.statement.Statement.{Statement}
 use Rattle.rv_source.specs.declared.statement.Statement.TheVariants as s
 use Rattle.rv_program.specs.declared.fault.FaultKind.{FaultKind}
 use Rattle.rv_program.specs.declared.fault.FaultKind.TheVariants.{Undefined, OutOfRange}
-use Rattle.rv_asm.specs.Values.{is_between, is_word, fits, immediate, field, distance, hi, lo, part_value, far, loading, gap}
+use Rattle.rv_asm.specs.Values.{is_between, is_word, fits, immediate, field, distance, hi, lo, part_value, far_distance, loading, gap}
 
 -- ---- instructions
 
@@ -68,7 +68,7 @@ is_multiple v = is_between (pos 1) (pos 4096) v && (4096 % modulo v (2 ^ 32) == 
 -- What a statement stands for at an address: whether the values are known, and in their ranges, that its size
 -- or a name depends on; of what its address has to be a multiple; the name that it defines, with its value;
 -- the number of its bytes; and the bytes, once all symbols are known, or its fault in phase three.
-pub record Row : Type 0 where
+pub record Emitted : Type 0 where
   pub is_known : Bool
   pub alignment : ℕ
   pub defines : List (List ℕ × ℤ)
@@ -76,7 +76,7 @@ pub record Row : Type 0 where
   pub contents : (Operand → Option ℤ) → Result (List ℕ) FaultKind
 
 -- bytes that wait for nothing
-abbrev pub ready : ℕ → List ℕ → Row
+abbrev pub ready : ℕ → List ℕ → Emitted
 ready alignment bs = record
     { is_known = true; alignment = alignment; defines = []; size = length bs; contents = λ late. Ok bs }
 
@@ -90,32 +90,32 @@ placed place xs value =
     else Ok (flat_map (λ x. unwrap_or (bytes x) []) xs))
 
 -- n bytes for each operand, by its value
-abbrev pub waiting : ℕ → ℕ → (ℤ → Option (List ℕ)) → List Operand → Row
+abbrev pub waiting : ℕ → ℕ → (ℤ → Option (List ℕ)) → List Operand → Emitted
 waiting alignment n place xs = record (ready alignment []) { size = n * length xs; contents = placed place xs }
 
 -- n times the byte that fills a space, which is 0 if none is given
-abbrev pub space : ℕ → Option Operand → Row
+abbrev pub space : ℕ → Option Operand → Emitted
 space n None = ready 1 (replicate n 0)
 space n (Some fill) = waiting 1 n (λ v. option_map (replicate n) (field (negsuc 127) (pos 255) 8 v)) (fill ∷ [])
 
 -- what depends on a value, as a word, that must be known on the line of the statement and pass a test
-abbrev pub asking : Option ℤ → (ℤ → Bool) → (ℕ → Row) → Row
-asking v test row = record (row (modulo (unwrap_or v (pos 0)) (2 ^ 32))) { is_known = option_map_or test v false }
+abbrev pub asking : Option ℤ → (ℤ → Bool) → (ℕ → Emitted) → Emitted
+asking v test of_word = record (of_word (modulo (unwrap_or v (pos 0)) (2 ^ 32))) { is_known = option_map_or test v false }
 
 -- each statement by the values that its operands have on its line
-unfoldable pub row : (Operand → Option ℤ) → ℕ → Statement → Row
-row early here (s.Instruction kind) = ready 4 (bytes (kind ∷ []))
-row early here (s.WithValue kind x) =
+unfoldable pub emitted : (Operand → Option ℤ) → ℕ → Statement → Emitted
+emitted early here (s.Instruction kind) = ready 4 (bytes (kind ∷ []))
+emitted early here (s.WithValue kind x) =
     waiting 4 4 (λ v. option_and_then (code here [] kind) (part_value x.form v)) (x ∷ [])
-row early here (s.Far scratch kind x) = waiting 4 8
-    (λ v. option_and_then (λ d. code here (Auipc scratch (hi d) ∷ []) kind (lo d)) (far here v)) (x ∷ [])
-row early here (s.Li rd x) = asking (early x) is_word (λ w. ready 4 (bytes (loading rd w)))
-row early here (s.Data width xs) = waiting 1 (bytes_of width) (bytes_in width) xs
-row early here (s.Bytes bs) = ready 1 bs
-row early here (s.Space size fill) = asking (early size) (is_between (pos 0) (pos image_limit)) (λ n. space n fill)
-row early here (s.Align power) =
+emitted early here (s.Far scratch kind x) = waiting 4 8
+    (λ v. option_and_then (λ d. code here (Auipc scratch (hi d) ∷ []) kind (lo d)) (far_distance here v)) (x ∷ [])
+emitted early here (s.Li rd x) = asking (early x) is_word (λ w. ready 4 (bytes (loading rd w)))
+emitted early here (s.Data width xs) = waiting 1 (bytes_of width) (bytes_in width) xs
+emitted early here (s.Bytes bs) = ready 1 bs
+emitted early here (s.Space size fill) = asking (early size) (is_between (pos 0) (pos image_limit)) (λ n. space n fill)
+emitted early here (s.Align power) =
     asking (early power) (is_between (pos 0) (pos 12)) (λ n. ready 1 (padding (gap here (2 ^ n))))
-row early here (s.Balign multiple) = asking (early multiple) is_multiple (λ n. ready 1 (padding (gap here n)))
-row early here (s.Constant name x) =
+emitted early here (s.Balign multiple) = asking (early multiple) is_multiple (λ n. ready 1 (padding (gap here n)))
+emitted early here (s.Constant name x) =
     asking (early x) is_word (λ w. record (ready 1 []) { defines = (name, unwrap_or (early x) (pos 0)) ∷ [] })
-row early here s.Marker = ready 1 []
+emitted early here s.Marker = ready 1 []

@@ -54,8 +54,8 @@ part_value (f.Value Low e base) v = if is_word v then Some (lo (modulo v (2 ^ 32
 part_value _ v = Some v
 
 -- the distance from `here` to a target that fits into 32 bits, modulo 2 ^ 32
-abbrev pub far : ℕ → ℤ → Option ℕ
-far here target = if is_word target then Some (modulo (target -ℤ pos here) (2 ^ 32)) else None
+abbrev pub far_distance : ℕ → ℤ → Option ℕ
+far_distance here target = if is_word target then Some (modulo (target -ℤ pos here) (2 ^ 32)) else None
 
 -- the instructions that load the word w: `addi rd,x0,w` if it is an immediate,
 -- else `lui rd,hi`, followed by `addi rd,rd,lo` unless lo is 0

@@ -3,8 +3,8 @@ ghost use Rattle.std.specs.Prelude.{◌≡◌, ◌≤◌, ◌<◌, ◌+◌, ◌*
 ghost use Rattle.std.specs.Result.{result_err};
 ghost use Rattle.rv_isa.specs.Width.{bytes_of};
 ghost use Rattle.rv_asm.specs.Layout.{redefines};
-ghost use Rattle.rv_asm.specs.Listing.{row};
-ghost use Rattle.rv_asm.specs.Support.Statements.{Valuation, IsKnown, values_in, row_by, fault_by, image_end};
+ghost use Rattle.rv_asm.specs.Listing.{emitted};
+ghost use Rattle.rv_asm.specs.Support.Statements.{Valuation, IsKnown, values_in, emitted_by, fault_by, image_end};
 
 use crate::FaultKind;
 use crate::instructions::loading;
@@ -24,9 +24,9 @@ pub struct Extent {
 }
 
 /// Returns whether a value is in the range of the constant of a statement.
-#[tactic(auto, unfolding(crate::specs::Listing::row))]
+#[tactic(auto, unfolding(crate::specs::Listing::emitted))]
 fn is_taken(statement: &Statement, value: i64) -> bool
-    ensures { (here : ℕ) → result ≡ (row_by value here statement.now).is_known }
+    ensures { (here : ℕ) → result ≡ (emitted_by value here statement.now).is_known }
 {
     match statement {
         Statement::Space { .. } => is_between(0, IMAGE_LIMIT as i64, value),
@@ -40,11 +40,11 @@ fn is_taken(statement: &Statement, value: i64) -> bool
 /// Returns the constant of a statement: the value that must be known on its line, because its size or a name
 /// depends on it. Other statements have the constant 0. None if the value isn't known there, or isn't in the
 /// range of the statement.
-#[tactic(auto, unfolding(crate::specs::Listing::row, crate::specs::Support::Statements::IsKnown))]
+#[tactic(auto, unfolding(crate::specs::Listing::emitted, crate::specs::Support::Statements::IsKnown))]
 fn constant(scope: Scope, statement: &Statement) -> Option<i64>
-    ensures some { (row (values_in scope.entry) scope.entry.here statement.now).is_known ≡ is_some result }
+    ensures some { (emitted (values_in scope.entry) scope.entry.here statement.now).is_known ≡ is_some result }
     ensures known { IfSome result (λ c. IsKnown (values_in scope.entry) c statement.now) }
-    ensures taken { IfSome result (λ c. (here : ℕ) → (row_by c here statement.now).is_known ≡ true) }
+    ensures taken { IfSome result (λ c. (here : ℕ) → (emitted_by c here statement.now).is_known ≡ true) }
 {
     let operand = match statement {
         Statement::Li { value, .. } | Statement::Constant { value, .. } => value.operand(),
@@ -66,10 +66,10 @@ fn data_size(width: Width, count: usize) -> u32
 }
 
 /// Returns the size in bytes of a statement at the address `here`, saturated at 2^32 - 1.
-#[tactic(auto, using(crate::proofs::Rows::length_bytes, crate::proofs::Rows::padded, crate::proofs::Rows::space_size), unfolding(crate::specs::Values::loading, crate::specs::Listing::row))]
+#[tactic(auto, using(crate::proofs::Rows::length_bytes, crate::proofs::Rows::padded, crate::proofs::Rows::space_size), unfolding(crate::specs::Values::loading, crate::specs::Listing::emitted))]
 fn size_of(here: u32, constant: i64, statement: &Statement) -> u32
-    requires { (row_by constant here statement.now).is_known ≡ true }
-    ensures { result ≡ min (row_by constant here statement.now).size 0xffffffff }
+    requires { (emitted_by constant here statement.now).is_known ≡ true }
+    ensures { result ≡ min (emitted_by constant here statement.now).size 0xffffffff }
 {
     match statement {
         Statement::Instruction(_) | Statement::WithValue { .. } => 4,
@@ -85,9 +85,9 @@ fn size_of(here: u32, constant: i64, statement: &Statement) -> u32
 }
 
 /// Returns of what the address of a statement has to be a multiple: 4 if it is assembled to instructions.
-#[tactic(auto, using(crate::proofs::Rows::row_steps), unfolding(crate::specs::Listing::row))]
+#[tactic(auto, using(crate::proofs::Rows::row_steps), unfolding(crate::specs::Listing::emitted))]
 fn alignment(statement: &Statement) -> u32
-    ensures value { (early : Valuation) → (here : ℕ) → result ≡ (row early here statement.now).alignment }
+    ensures value { (early : Valuation) → (here : ℕ) → result ≡ (emitted early here statement.now).alignment }
     ensures some { 0 < result }
 {
     match statement {
@@ -100,9 +100,9 @@ fn alignment(statement: &Statement) -> u32
 }
 
 /// Returns whether a statement is `.equ` of a name that is already defined.
-#[tactic(auto, using(crate::proofs::Rows::row_steps), unfolding(crate::specs::Listing::row))]
+#[tactic(auto, using(crate::proofs::Rows::row_steps), unfolding(crate::specs::Listing::emitted))]
 fn renames(symbols: &Symbols, statement: &Statement) -> bool
-    ensures { (early : Valuation) → (here : ℕ) → result ≡ redefines symbols.now.names (row early here statement.now).defines }
+    ensures { (early : Valuation) → (here : ℕ) → result ≡ redefines symbols.now.names (emitted early here statement.now).defines }
 {
     match statement {
         Statement::Constant { name, .. } => symbols.names.value(name.bytes()).is_some(),
@@ -113,11 +113,11 @@ fn renames(symbols: &Symbols, statement: &Statement) -> bool
 /// Returns the extent of a statement, or its fault in phase two.
 #[tactic(auto, using(crate::proofs::Rows::row_is, crate::proofs::Rows::past, crate::proofs::Rows::within))]
 pub fn extent_of(scope: Scope, statement: &Statement) -> Result<Extent, FaultKind>
-    ensures fault { result_err result ≡ fault_by scope.entry.symbols.now.names scope.entry.here (row (values_in scope.entry) scope.entry.here statement.now) }
-    ensures row { IfOk result (λ e. row (values_in scope.entry) scope.entry.here statement.now ≡ row_by e.constant scope.entry.here statement.now) }
-    ensures known { IfOk result (λ e. (here : ℕ) → (row_by e.constant here statement.now).is_known ≡ true) }
-    ensures new { IfOk result (λ e. (here : ℕ) → redefines scope.entry.symbols.now.names (row_by e.constant here statement.now).defines ≡ false) }
-    ensures end { IfOk result (λ e. e.end ≡ scope.entry.here + (row_by e.constant scope.entry.here statement.now).size) }
+    ensures fault { result_err result ≡ fault_by scope.entry.symbols.now.names scope.entry.here (emitted (values_in scope.entry) scope.entry.here statement.now) }
+    ensures row { IfOk result (λ e. emitted (values_in scope.entry) scope.entry.here statement.now ≡ emitted_by e.constant scope.entry.here statement.now) }
+    ensures known { IfOk result (λ e. (here : ℕ) → (emitted_by e.constant here statement.now).is_known ≡ true) }
+    ensures new { IfOk result (λ e. (here : ℕ) → redefines scope.entry.symbols.now.names (emitted_by e.constant here statement.now).defines ≡ false) }
+    ensures end { IfOk result (λ e. e.end ≡ scope.entry.here + (emitted_by e.constant scope.entry.here statement.now).size) }
     ensures within { IfOk result (λ e. e.end ≤ image_end) }
 {
     if renames(scope.symbols, statement) {

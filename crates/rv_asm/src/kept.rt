@@ -3,7 +3,7 @@ ghost use Rattle.std.specs.Prelude.{◌≡◌, ◌∷◌, [], ℕ, map, true, Ok
 ghost use Rattle.rv_source.specs.Operands.{terms_of};
 ghost use Rattle.rv_asm.specs.Symbols.{Definitions, operand_value};
 ghost use Rattle.rv_asm.specs.Listing.{padding, placed, space};
-ghost use Rattle.rv_asm.specs.Support.Statements.{row_by, with_value};
+ghost use Rattle.rv_asm.specs.Support.Statements.{emitted_by, with_value};
 ghost use Rattle.rv_asm.specs.Support.Steps.{IsNumber, IsSum, expression_of, kept_bytes};
 
 use crate::data::{fill, pad};
@@ -163,15 +163,15 @@ fn padding<'a>(alloc: Global, count: u32) -> Result<Kept<'a>, AllocError>
 }
 
 /// Returns what is kept of a statement at an address, with its constant.
-#[tactic(auto, using(crate::proofs::Rows::near_kept), unfolding(crate::specs::Listing::row, crate::specs::Support::Steps::kept_bytes))]
+#[tactic(auto, using(crate::proofs::Rows::near_kept), unfolding(crate::specs::Listing::emitted, crate::specs::Support::Steps::kept_bytes))]
 pub fn keep<'a>(
     alloc: Global,
     here: u32,
     constant: i64,
     statement: &Statement<'_, 'a>,
 ) -> Result<Kept<'a>, AllocError>
-    requires { (row_by constant here statement.now).is_known ≡ true }
-    ensures { IfOk result (λ k. (ds : Definitions) → (line : ℕ) → kept_bytes ds line here k ≡ (row_by constant here statement.now).contents (operand_value ds line here)) }
+    requires { (emitted_by constant here statement.now).is_known ≡ true }
+    ensures { IfOk result (λ k. (ds : Definitions) → (line : ℕ) → kept_bytes ds line here k ≡ (emitted_by constant here statement.now).contents (operand_value ds line here)) }
 {
     match statement {
         Statement::Instruction(instr) => Ok(Kept::Instructions(Instructions::One(*instr))),

@@ -63,7 +63,7 @@ impl<'a> Model for PlacedStatement<'a> {
 impl<'a> PlacedStatement<'a> {
     ghost use Rattle.std.specs.Prelude.{◌≡◌, ◌<◌, IfOk, true};
     ghost use Rattle.rv_asm.specs.Symbols.{Definitions, operand_value};
-    ghost use Rattle.rv_asm.specs.Support.Statements.{KindBecomes, row_by};
+    ghost use Rattle.rv_asm.specs.Support.Statements.{KindBecomes, emitted_by};
     ghost use Rattle.rv_asm.specs.Support.Steps.{item_bytes, appended};
 
     /// Makes the statement of a line, with its constant, at an address.
@@ -75,9 +75,9 @@ impl<'a> PlacedStatement<'a> {
         statement: &Statement<'_, 'a>,
     ) -> Result<PlacedStatement<'a>, AllocError>
         requires counted { line < 0xffffffffffffffff }
-        requires known { (row_by constant address statement.now).is_known ≡ true }
+        requires known { (emitted_by constant address statement.now).is_known ≡ true }
         ensures at { IfOk result (λ p. p.line ≡ line) }
-        ensures bytes { IfOk result (λ p. (ds : Definitions) → item_bytes ds p ≡ (row_by constant address statement.now).contents (operand_value ds line address)) }
+        ensures bytes { IfOk result (λ p. (ds : Definitions) → item_bytes ds p ≡ (emitted_by constant address statement.now).contents (operand_value ds line address)) }
     {
         let kept = keep(alloc, address, constant, statement)?;
         Ok(PlacedStatement {

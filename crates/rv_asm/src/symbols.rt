@@ -2,7 +2,7 @@
 ghost use Rattle.std.specs.Prelude.{◌≡◌, ◌<◌, ◌+◌, ℕ, ◌*◌, ◌^◌, ◌++◌, ◌∷◌, true, false, [], length, IfSome, OnOk};
 ghost use Rattle.rv_asm.specs.Symbols.{atom_value, sum_value};
 ghost use Rattle.rv_asm.specs.Layout.{redefines};
-ghost use Rattle.rv_asm.specs.Support.Statements.{row_by, IsNear, added, values_in};
+ghost use Rattle.rv_asm.specs.Support.Statements.{emitted_by, IsNear, added, values_in};
 ghost use Rattle.rv_asm.specs.Values.{is_word};
 
 use crate::locals::Locals;
@@ -37,16 +37,16 @@ impl Symbols {
     }
 
     /// Defines the name of `.equ` with its value; nothing for any other statement.
-    #[tactic(auto, using(crate::proofs::Rows::row_steps), unfolding(crate::specs::Listing::row))]
+    #[tactic(auto, using(crate::proofs::Rows::row_steps), unfolding(crate::specs::Listing::emitted))]
     pub fn define_constant(
         &mut self,
         alloc: Global,
         constant: i64,
         statement: &Statement,
     ) -> Result<(), AllocError>
-        requires known { (here : ℕ) → (row_by constant here statement.now).is_known ≡ true }
-        requires new { (here : ℕ) → redefines self.old.names (row_by constant here statement.now).defines ≡ false }
-        ensures { OnOk result ((here : ℕ) → self.new ≡ record { names = self.old.names ++ (row_by constant here statement.now).defines; locals = self.old.locals }) }
+        requires known { (here : ℕ) → (emitted_by constant here statement.now).is_known ≡ true }
+        requires new { (here : ℕ) → redefines self.old.names (emitted_by constant here statement.now).defines ≡ false }
+        ensures { OnOk result ((here : ℕ) → self.new ≡ record { names = self.old.names ++ (emitted_by constant here statement.now).defines; locals = self.old.locals }) }
     {
         if let Statement::Constant { name, .. } = statement {
             self.names.define(alloc, name.bytes(), constant)?;

@@ -1,7 +1,7 @@
 //! Conversions of the value of an expression to the field that it fills.
 ghost use Rattle.std.specs.Prelude.{◌≡◌, ◌==◌, ◌&&◌, ◌<◌, ◌≤◌, ◌^◌, true, Some, None, IfSome, if◌then◌else◌};
 ghost use Rattle.rv_isa.specs.Number.{IsWithin, IsDistance, modulo};
-ghost use Rattle.rv_asm.specs.Values.{is_between, is_word, fits, immediate, distance, hi, lo, far, gap};
+ghost use Rattle.rv_asm.specs.Values.{is_between, is_word, fits, immediate, distance, hi, lo, far_distance, gap};
 ghost use Rattle.rv_asm.specs.Listing.{is_multiple};
 ghost use Rattle.rv_asm.specs.Support.Statements.{byte, upper_immediate, five_bits, value_by};
 
@@ -144,7 +144,7 @@ pub fn part_value(part: Part, value: i64) -> Option<i64>
 
 /// Returns the distance from `here` to a target that fits into 32 bits, modulo 2^32.
 pub fn far(here: u32, target: i64) -> Option<u32>
-    ensures { result ≡ far here target }
+    ensures { result ≡ far_distance here target }
 {
     is_word(target).then(|| bits(target - i64::from(here)))
 }

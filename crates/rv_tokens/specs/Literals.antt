@@ -59,8 +59,8 @@ between left right text =
     then Some (drop 1 (take (length text - 1) text))
     else None
 
--- the bytes of a string after the first n bytes of the text between its quotes: the longest part from there
--- that spells a byte is one, and the others follow
+-- the bytes of a string, by the text between its quotes without its first n bytes. The longest part there that spells
+-- a byte gives the first, and the text without that part gives the others; n counts what is left of the part
 unfoldable pub bytes_after : List ℕ → ℕ → Option (List ℕ)
 bytes_after [] n = Some []
 bytes_after (b ∷ bs) (suc n) = bytes_after bs n

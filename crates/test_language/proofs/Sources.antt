@@ -28,9 +28,9 @@ use Rattle.test_language.specs.Support.Sources.{has_fault, has_image}
 use Rattle.test_language.specs.declared.TheConstants.{FAULTS, IMAGES}
 
 pub each_image : list_all has_image IMAGES ≡ true
-unfolding digits split number_in hex_digit register_names csr_names kind_of zeroed mnemonic longest number short_decimal escape spelled bytes_after local word token_of token_in with_tokens tokens_after tokens fence_sets in_role in_roles instruction form_of operands operands_of strings further sum expression form line_form parsed sum_value loading known_before phase_two_fault value_of assembled table.of_template table.of_kind table.pseudo_instructions table.directives table.markers table.meaning listing.filled listing.padding listing.row kinds.word kinds.operations kinds.fields_of
+unfolding digits split number_in hex_digit register_names csr_names kind_of zeroed mnemonic longest number short_decimal escape spelled bytes_after local word token_of token_in with_tokens tokens_after tokens fence_sets in_role in_roles instruction form_of operands operands_of strings further sum expression form line_form parsed sum_value loading known_before phase_two_fault value_of assembled table.of_template table.of_kind table.pseudo_instructions table.directives table.markers table.meaning listing.filled listing.padding listing.emitted kinds.word kinds.operations kinds.fields_of
 each_image = refl
 
 pub each_fault : list_all has_fault FAULTS ≡ true
-unfolding digits split number_in hex_digit register_names csr_names kind_of zeroed mnemonic longest number short_decimal escape spelled bytes_after local word token_of token_in with_tokens tokens_after tokens fence_sets in_role in_roles instruction form_of operands operands_of strings further sum expression form line_form parsed sum_value loading known_before phase_two_fault value_of assembled table.of_template table.of_kind table.pseudo_instructions table.directives table.markers table.meaning listing.filled listing.padding listing.row kinds.word kinds.operations kinds.fields_of
+unfolding digits split number_in hex_digit register_names csr_names kind_of zeroed mnemonic longest number short_decimal escape spelled bytes_after local word token_of token_in with_tokens tokens_after tokens fence_sets in_role in_roles instruction form_of operands operands_of strings further sum expression form line_form parsed sum_value loading known_before phase_two_fault value_of assembled table.of_template table.of_kind table.pseudo_instructions table.directives table.markers table.meaning listing.filled listing.padding listing.emitted kinds.word kinds.operations kinds.fields_of
 each_fault = refl

@@ -10,8 +10,8 @@ use Rattle.rv_source.specs.declared.operand.Operand.{Operand}
 use Rattle.rv_source.specs.declared.statement.Statement.{Statement}
 use Rattle.rv_source.specs.declared.statement.Statement.TheVariants as s
 use Rattle.rv_program.specs.declared.fault.FaultKind.{FaultKind}
-use Rattle.rv_asm.specs.Values.{is_word, field, far, hi, lo}
-use Rattle.rv_asm.specs.Listing.{◌>>=◌, Row, bytes_in, row, code}
+use Rattle.rv_asm.specs.Values.{is_word, field, far_distance, hi, lo}
+use Rattle.rv_asm.specs.Listing.{◌>>=◌, Emitted, bytes_in, emitted, code}
 use Rattle.rv_asm.specs.Layout.{redefines}
 use Rattle.std.specs.List.{list_any, flat_map}
 use Rattle.rv_source.specs.declared.expression.Term.{Term}
@@ -90,7 +90,7 @@ near here kind part v = option_and_then (code here [] kind) (value_by part v)
 
 -- those of two, for the distance to a target
 abbrev pub pair : ℕ → ℕ → Kind → ℤ → Option (List ℕ)
-pair here scratch kind v = option_and_then (λ d. code here (Auipc scratch (hi d) ∷ []) kind (lo d)) (far here v)
+pair here scratch kind v = option_and_then (λ d. code here (Auipc scratch (hi d) ∷ []) kind (lo d)) (far_distance here v)
 
 abbrev pub with_value : ℕ → Waiting → ℤ → Option (List ℕ)
 with_value here (w.Near kind part) v = near here kind part v
@@ -137,12 +137,12 @@ asked statement = None
 unfoldable pub IsKnown : Valuation → ℤ → Statement → Type 0
 IsKnown early c statement = elim (asked statement) as (λ _. Type 0) [ None ↦ c ≡ pos 0 | Some x ↦ early x ≡ Some c ]
 
--- the row of a statement by it
-abbrev pub row_by : ℤ → ℕ → Statement → Row
-row_by c here statement = row (λ x. Some c) here statement
+-- what a statement stands for by it
+abbrev pub emitted_by : ℤ → ℕ → Statement → Emitted
+emitted_by c here statement = emitted (λ x. Some c) here statement
 
--- the fault in phase two of what has a row, at an address, by the names that are defined before it
-abbrev pub fault_by : List (List ℕ × ℤ) → ℕ → Row → Option FaultKind
+-- the fault in phase two of what a statement stands for, at an address, by the names that are defined before it
+abbrev pub fault_by : List (List ℕ × ℤ) → ℕ → Emitted → Option FaultKind
 fault_by known here r =
     if redefines known r.defines then Some DuplicateSymbol
     else (if not r.is_known then Some NotConstant

@@ -13,7 +13,7 @@ use Rattle.rv_program.specs.declared.fault.FaultKind.TheVariants.{DuplicateSymbo
 use Rattle.rv_asm.specs.Support.Statements.{fault_by, Valuation, added, wanted, kinds, with_value, placed_by}
 use Rattle.rv_program.specs.declared.fault.FaultKind.{FaultKind}
 use Rattle.rv_program.specs.declared.fault.AsmFault.{AsmFault}
-use Rattle.rv_asm.specs.Layout.{line_at, row_at, labels_in, names_in, redefines, phase_two_fault}
+use Rattle.rv_asm.specs.Layout.{line_at, emitted_at, labels_in, names_in, redefines, phase_two_fault}
 pub use Rattle.rv_asm.specs.Layout.{address, Known, labelled, stated}
 use Rattle.rv_program.specs.Faults.{kind_of}
 use Rattle.rv_asm.specs.Assembly.{all_parsed, line_bytes, faults_in}
@@ -83,7 +83,7 @@ unfoldable pub fault_on : ℕ → Known → Parsed → Option FaultKind
 fault_on k known line =
     let on = labelled k known line.labels in
     if relabels known line.labels then Some DuplicateSymbol
-    else fault_by on.definitions.names known.address (row_at k on line.statement)
+    else fault_by on.definitions.names known.address (emitted_at k on line.statement)
 
 -- the fault of line k, if it has one
 abbrev pub faults_at : ℕ → Option FaultKind → List AsmFault
@@ -197,7 +197,7 @@ with_line k known line = stated k (labelled k known line.labels) line.statement
 
 -- the bytes of the statement of line k, once all symbols are known
 abbrev pub stated_bytes : Definitions → ℕ → Known → Option Statement → Result (List ℕ) FaultKind
-stated_bytes ds k known statement = (row_at k known statement).contents (operand_value ds k known.address)
+stated_bytes ds k known statement = (emitted_at k known statement).contents (operand_value ds k known.address)
 
 -- items have, in addition, the bytes of a statement of line k, or its fault
 pub record Adds (k : ℕ) (known : Known) (statement : Option Statement) (old new : List Item) (ds : Definitions) :
