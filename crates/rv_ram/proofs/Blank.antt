@@ -1,7 +1,5 @@
 -- Pages of zeros.
-use Rattle.std.proofs.Common.{◌≡◌, ℕ, zero, suc, ◌+◌, ◌*◌, ◌/◌, ◌<◌, true, List, [], ◌∷◌, ◌++◌, length, get_or, take, drop, arith, refl, ap, ◌∙◌}
-use Rattle.std.specs.Prelude.{◌==◌}
-use Rattle.std.specs.List.{list_all}
+use Rattle.std.proofs.Common.{◌≡◌, ℕ, zero, suc, ◌+◌, ◌*◌, ◌/◌, ◌<◌, true, List, [], ◌∷◌, ◌++◌, length, get_or, take, drop, arith, ap, rules}
 use Rattle.std.proofs.lemmas.List.{take_at}
 use Rattle.rv_ram.specs.Bytes.{zeros}
 use Rattle.rv_ram.specs.Pages.{is_zero_page}
@@ -17,17 +15,9 @@ page_of_all : (ps : List PageState) (d : PageState) (i : ℕ) → HasWholePages 
     → take 4096 (drop (4096 * i) (all_bytes ps)) ≡ (get_or ps i d).bytes
 page_of_all [] d i w l = absurd (omega arith)
 page_of_all (p ∷ ps) d zero w l = take_at p.bytes (all_bytes ps) 4096 w.0
-page_of_all (p ∷ ps) d (suc i) w l =
-    ap (take 4096) (drop_front p.bytes (all_bytes ps) (4096 * i) (4096 * suc i) (omega (arith, w.0)))
-    ∙ page_of_all ps d i w.1 (omega arith)
-
-all_zeros : (n : ℕ) → list_all (λ byte. byte == 0) (zeros n) ≡ true
-unfolding zeros
-all_zeros zero = refl
-all_zeros (suc n) = all_zeros n
+page_of_all (p ∷ ps) d (suc i) w l = search (rules, drop_front, page_of_all ps d i w.1 (omega arith))
 
 pub blank_page : (ps : List PageState) (off : ℕ) (d : PageState) → HasWholePages ps → off / 4096 < length ps
     → (get_or ps (off / 4096) d).bytes ≡ zeros 4096 → is_zero_page (all_bytes ps) off ≡ true
-unfolding is_zero_page
-blank_page ps off d w l e =
-    ap (list_all (λ byte. byte == 0)) (page_of_all ps d (off / 4096) w l ∙ e) ∙ all_zeros 4096
+unfolding is_zero_page zeros
+blank_page ps off d w l e = search (rules, page_of_all)

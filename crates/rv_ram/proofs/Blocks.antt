@@ -1,15 +1,14 @@
 -- A memory as pages in a block.
-use Rattle.std.proofs.Common.{◌≡◌, ◌≢◌, ℕ, zero, suc, ◌+◌, ◌-◌, ◌*◌, ◌/◌, ◌%◌, ◌^◌, ◌<◌, ◌≤◌, ◌==◌, List, [], ◌∷◌, ◌++◌, Bool, true, false, length, take, drop, get_or, slice_index, slice_index_or, inl, inr, arith, refl, sym, ap, ◌∙◌, length-append, subst, replicate, leb}
-use Rattle.std.specs.Prelude.{not, ◌||◌}
+use Rattle.std.proofs.lemmas.Bool.Decides.{nat_tests}
+use Rattle.std.proofs.Common.{◌≡◌, ◌≢◌, ℕ, zero, suc, ◌+◌, ◌-◌, ◌*◌, ◌/◌, ◌%◌, ◌^◌, ◌<◌, ◌≤◌, ◌==◌, List, [], ◌∷◌, ◌++◌, Bool, true, false, length, take, drop, get_or, slice_index, slice_index_or, inl, inr, arith, refl, sym, ap, ◌∙◌, length-append, subst, replicate, leb, rules}
 use Rattle.std.proofs.Math.ListN.{set}
 use Rattle.std.proofs.lemmas.Bool.{eqb-true, cases_eq, cases_lt, false≢true, lt-leb, le-leb}
-use Rattle.std.proofs.lemmas.Grind.{replicate_next}
+use Rattle.std.proofs.lemmas.Grind.{replicate_next, common_steps}
 use Rattle.std.proofs.lemmas.List.{get_or-set_same, get_or-set_other, set-get_or, length-set, length-take-le, length-drop, take_all, length-take, get_or-take, get_or-drop, take-append-le, drop-append-le, take-set-le, drop-set-lt, drop-set-add}
 use Rattle.std.proofs.lemmas.List.Folds.{list_all_at}
 use Rattle.std.specs.List.{list_all}
 use Rattle.std.proofs.Math.Seq.{take-set-lt, drop-append_seam}
 use Rattle.rv_isa.specs.declared.op.Width.{Width}
-use Rattle.rv_isa.specs.declared.op.Width.TheVariants.{One, Two, Four}
 use Rattle.rv_isa.specs.Width.{bytes_of}
 use Rattle.rv_ram.specs.Bytes.{zeros, put, value_at}
 use Rattle.rv_ram.specs.Pages.{is_made, is_zero, is_zero_page, none_made, made_after}
@@ -29,19 +28,13 @@ start_at : (bs : List ℕ) (p i : ℕ) → i < length bs
     → slice_index (starts_from bs p) i ≡ (4096 * (p + i) + slice_index bs i) % 2 ^ 32
 start_at [] p i l = absurd (omega arith)
 start_at (b ∷ bs) p zero l = let e : p ≡ p + 0 = omega arith in ap (λ k. (4096 * k + b) % 2 ^ 32) e
-start_at (b ∷ bs) p (suc i) l =
-    let e : suc p + i ≡ p + suc i = omega arith in
-    start_at bs (suc p) i (omega arith) ∙ ap (λ k. (4096 * k + slice_index bs i) % 2 ^ 32) e
+start_at (b ∷ bs) p (suc i) l = search (rules, start_at bs (suc p) i (omega arith))
 
 starts_set : (bs : List ℕ) (p i b : ℕ)
     → starts_from (set bs i b) p ≡ set (starts_from bs p) i ((4096 * (p + i) + b) % 2 ^ 32)
 starts_set [] p i b = refl
-starts_set (c ∷ bs) p zero b =
-    let e : p ≡ p + 0 = omega arith in ap (λ k. (4096 * k + b) % 2 ^ 32 ∷ starts_from bs (suc p)) e
-starts_set (c ∷ bs) p (suc i) b =
-    let e : suc p + i ≡ p + suc i = omega arith in
-    ap (λ ss. (4096 * p + c) % 2 ^ 32 ∷ ss) (starts_set bs (suc p) i b
-    ∙ ap (λ k. set (starts_from bs (suc p)) i ((4096 * k + b) % 2 ^ 32)) e)
+starts_set (c ∷ bs) p zero b = search rules
+starts_set (c ∷ bs) p (suc i) b = search (rules, starts_set bs (suc p) i b)
 
 -- ---- the number of pages that exist
 count_at_most : (ss : List ℕ) → made_count ss ≤ length ss
@@ -91,20 +84,13 @@ is_made_at block (s ∷ ss) zero l = refl
 is_made_at block (s ∷ ss) (suc i) l = is_made_at block ss i (omega arith)
 
 not_made : (s : ℕ) → is_behind s ≡ false → s ≡ 0
-not_made zero e = refl
-not_made (suc s) e = absurd (false≢true (sym e))
-
-is_there : (s : ℕ) → is_behind s ≡ true → 0 < s
-is_there zero e = absurd (false≢true e)
-is_there (suc s) e = omega arith
+not_made s e = search (rules, false≢true)
 
 -- ---- a write to a block, and the pages in it
 take_put : (xs : List ℕ) (m o n v : ℕ) → o + n ≤ m → take m (put xs o n v) ≡ put (take m xs) o n v
 unfolding put
 take_put xs m o zero v l = refl
-take_put xs m o (suc n) v l =
-    take-set-lt m (put xs o n v) (o + n) _ (omega arith)
-    ∙ ap (λ ys. set ys (o + n) (v / 256 ^ n % 256)) (take_put xs m o n v (omega arith))
+take_put xs m o (suc n) v l = search (rules, take-set-lt, take_put xs m o n v (omega arith))
 
 drop_put : (xs : List ℕ) (s o n v : ℕ) → drop s (put xs (s + o) n v) ≡ put (drop s xs) o n v
 unfolding put
@@ -118,20 +104,17 @@ drop_put xs s o (suc n) v =
 take_before : (xs : List ℕ) (m at n v : ℕ) → m ≤ at → take m (put xs at n v) ≡ take m xs
 unfolding put
 take_before xs m at zero v l = refl
-take_before xs m at (suc n) v l =
-    take-set-le m (put xs at n v) (at + n) _ (omega arith) ∙ take_before xs m at n v l
+take_before xs m at (suc n) v l = search (rules, take-set-le, take_before xs m at n v l)
 
 drop_behind : (xs : List ℕ) (s at n v : ℕ) → at + n ≤ s → drop s (put xs at n v) ≡ drop s xs
 unfolding put
 drop_behind xs s at zero v l = refl
-drop_behind xs s at (suc n) v l =
-    drop-set-lt s (put xs at n v) (at + n) _ (omega arith) ∙ drop_behind xs s at n v (omega arith)
+drop_behind xs s at (suc n) v l = search (rules, drop-set-lt, drop_behind xs s at n v (omega arith))
 
 -- the bytes of a page after a write in it, or in another
 page_put : (block : List ℕ) (s o n v : ℕ) → o + n ≤ 4096
     → take 4096 (drop s (put block (s + o) n v)) ≡ put (take 4096 (drop s block)) o n v
-page_put block s o n v l =
-    ap (take 4096) (drop_put block s o n v) ∙ take_put (drop s block) 4096 o n v l
+page_put block s o n v l = search (rules, drop_put, take_put)
 
 page_kept : (block : List ℕ) (s t o n v : ℕ) → s % 4096 ≡ 0 → t % 4096 ≡ 0 → s ≢ t → o + n ≤ 4096
     → take 4096 (drop s (put block (t + o) n v)) ≡ take 4096 (drop s block)
@@ -200,40 +183,23 @@ apart_at block ss i a l h p m d e =
           ]
     ]
 
-small : (block ss : List ℕ) → AreStarts block ss → length block ≤ 16781312
-small block ss a = omega (arith, a.size, count_at_most ss, a.most)
-
 pages_whole : (block ss : List ℕ) → AreStarts block ss → HasWholePages (pages_at block ss)
 pages_whole block ss a = whole_pages block ss a.inside
-
-length_bytes : (block biases : List ℕ) → AreStarts block (starts_from biases 0)
-    → length (all_bytes (pages_at block (starts_from biases 0))) ≡ 4096 * length biases
-length_bytes block biases a =
-    omega (
-      arith,
-      length_all_bytes (pages_at block (starts_from biases 0))
-          (pages_whole block (starts_from biases 0) a),
-      length_pages block (starts_from biases 0),
-      length_starts biases 0,
-    )
 
 -- where a byte lies: at its page, as far from its beginning
 place_is : (block biases : List ℕ) (off : ℕ) → AreStarts block (starts_from biases 0)
     → off / 4096 < length biases
     → place_of biases off ≡ slice_index (starts_from biases 0) (off / 4096) + off % 4096
-place_is block biases off a l =
-    let s = start_at biases 0 (off / 4096) l in
-    let h = a.inside (off / 4096) (omega (arith, length_starts biases 0)) in
-    let b = small block (starts_from biases 0) a in omega (arith, s, h, b)
+place_is block biases off a l = search (rules, start_at, length_starts, count_at_most)
 
 index_at : (block biases : List ℕ) (off : ℕ) → AreStarts block (starts_from biases 0)
     → off < length (all_bytes (pages_at block (starts_from biases 0))) → off / 4096 < length biases
-index_at block biases off a l = omega (arith, length_bytes block biases a)
+index_at block biases off a l = search (rules, length_all_bytes, pages_whole, length_pages, length_starts)
 
 pub length_paged : (block biases : List ℕ) → IsPaged block biases
     → length (all_bytes (pages_in block biases)) ≡ 4096 * length biases
 unfolding IsPaged pages_in
-length_paged block biases a = length_bytes block biases a
+length_paged block biases a = search (rules, length_all_bytes, pages_whole, length_pages, length_starts)
 
 pub some_pages : (block biases : List ℕ) → IsPaged block biases → 1 ≤ length biases
 unfolding IsPaged
@@ -245,7 +211,7 @@ most_pages block biases a = omega (arith, a.most, length_starts biases 0)
 
 pub block_small : (block biases : List ℕ) → IsPaged block biases → length block < 2 ^ 32
 unfolding IsPaged
-block_small block biases a = omega (arith, small block (starts_from biases 0) a)
+block_small block biases a = search (rules, count_at_most)
 
 -- ---- reads
 pub index_in : (block biases : List ℕ) (off : ℕ) → IsPaged block biases
@@ -254,16 +220,12 @@ unfolding IsPaged pages_in
 index_in block biases off a l = index_at block biases off a l
 
 pub range_in : (w : Width) (off n : ℕ) → off + bytes_of w ≤ n → off < n
-range_in One off n l = omega arith
-range_in Two off n l = omega arith
-range_in Four off n l = omega arith
+range_in w off n l = search rules
 
 pub place_in : (block biases : List ℕ) (off n : ℕ) → IsPaged block biases
     → off / 4096 < length biases → off % 4096 + n ≤ 4096 → place_of biases off + n ≤ length block
 unfolding IsPaged
-place_in block biases off n a l m =
-    let h = a.inside (off / 4096) (omega (arith, length_starts biases 0)) in
-    omega (arith, place_is block biases off a l, h)
+place_in block biases off n a l m = search (rules, length_starts, place_is)
 
 pub byte_in : (block biases : List ℕ) (off : ℕ) → IsPaged block biases
     → off < length (all_bytes (pages_in block biases)) → place_of biases off < length block
@@ -279,18 +241,13 @@ word_in block biases off a l m =
 pub range_at : (block biases : List ℕ) (off : ℕ) (w : Width) → IsPaged block biases
     → off + bytes_of w ≤ length (all_bytes (pages_in block biases)) → off % bytes_of w ≡ 0
     → place_of biases off + bytes_of w ≤ length block
-range_at block biases off w a l m =
-    place_in block biases off (bytes_of w) a
-    (index_in block biases off a (range_in w off (length (all_bytes (pages_in block biases))) l)) (in_page w off m)
+range_at block biases off w a l m = search (rules, place_in, index_in, range_in, in_page)
 
 -- a byte of a page is one of the block
 byte_at : (block ss : List ℕ) (off o : ℕ) (d : PageState) → off / 4096 < length ss → o < 4096
     → get_or (get_or (pages_at block ss) (off / 4096) d).bytes o 0
     ≡ slice_index block (slice_index ss (off / 4096) + o)
-byte_at block ss off o d l m =
-    ap (λ p. get_or p.bytes o 0) (page_is block ss (off / 4096) d l)
-    ∙ (get_or-take 4096 (drop (slice_index ss (off / 4096)) block) o 0 m
-    ∙ get_or-drop (slice_index ss (off / 4096)) block o 0)
+byte_at block ss off o d l m = search (rules, page_is, get_or-take, get_or-drop)
 
 pub byte_of : (block biases : List ℕ) (off k : ℕ) → IsPaged block biases
     → off < length (all_bytes (pages_in block biases)) → k ≡ place_of biases off
@@ -340,16 +297,12 @@ unmade_start : (block biases : List ℕ) (off : ℕ) → AreStarts block (starts
     → off / 4096 < length biases
     → is_made (made_of (pages_at block (starts_from biases 0))) off ≡ false
     → slice_index (starts_from biases 0) (off / 4096) ≡ 0
-unmade_start block biases off a l u =
-    let ss = starts_from biases 0 in
-    not_made (slice_index ss (off / 4096))
-    (sym (is_made_at block ss (off / 4096) (omega (arith, length_starts biases 0))) ∙ u)
+unmade_start block biases off a l u = search (rules, not_made, is_made_at, length_starts)
 
 -- the bytes of a page that doesn't exist
 unmade_bytes : (block ss : List ℕ) (i : ℕ) (d : PageState) → AreStarts block ss → i < length ss
     → slice_index ss i ≡ 0 → (get_or (pages_at block ss) i d).bytes ≡ zeros 4096
-unmade_bytes block ss i d a l e =
-    ap (λ p. p.bytes) (page_is block ss i d l) ∙ (ap (λ s. take 4096 (drop s block)) e ∙ a.blank)
+unmade_bytes block ss i d a l e = search (rules, page_is)
 
 pub blank : (block biases : List ℕ) (off : ℕ) → IsPaged block biases
     → off < length (all_bytes (pages_in block biases))
@@ -366,11 +319,7 @@ blank block biases off a l u =
 
 -- zeros that are written in a page of zeros change nothing
 zero_byte : (bs : List ℕ) (i : ℕ) → i < length bs → list_all (λ byte. byte == 0) bs ≡ true → get_or bs i 0 ≡ 0
-zero_byte bs i l h = by_test (get_or bs i 0 == 0) refl
-  where
-    by_test : (b : Bool) → (get_or bs i 0 == 0) ≡ b → get_or bs i 0 ≡ 0
-    by_test true e = eqb-true (get_or bs i 0) 0 e
-    by_test false e = absurd (false≢true (sym (list_all_at (λ byte. byte == 0) bs i 0 l e) ∙ h))
+zero_byte bs i l h = search (rules, eqb-true, false≢true, list_all_at)
 
 zero_at : (bs : List ℕ) (off j : ℕ) → off / 4096 ≡ j / 4096 → j < length bs → is_zero_page bs off ≡ true
     → slice_index bs j ≡ 0
@@ -386,19 +335,14 @@ zero_at bs off j e l z =
 
 pub zeros_put : (bs : List ℕ) (off v : ℕ) (w : Width) → off + bytes_of w ≤ length bs → off % bytes_of w ≡ 0
     → is_zero_page bs off ≡ true → is_zero w v ≡ true → bs ≡ put bs off (bytes_of w) v
-zeros_put bs off v w l a z e =
-    sym (put_zeros bs off v w (λ k m. zero_at bs off (off + k) (omega (arith, in_page w off a))
-    (omega arith) z) e)
+zeros_put bs off v w l a z e = search (rules, put_zeros, zero_at, in_page)
 
 -- ---- writes in a page that exists
 there : (block biases : List ℕ) (off : ℕ) → AreStarts block (starts_from biases 0)
     → off / 4096 < length biases
     → is_made (made_of (pages_at block (starts_from biases 0))) off ≡ true
     → 0 < slice_index (starts_from biases 0) (off / 4096)
-there block biases off a l u =
-    let ss = starts_from biases 0 in
-    is_there (slice_index ss (off / 4096))
-    (sym (is_made_at block ss (off / 4096) (omega (arith, length_starts biases 0))) ∙ u)
+there block biases off a l u = search (rules, is_made_at, length_starts, false≢true)
 
 pub bytes_put : (block biases : List ℕ) (off k v : ℕ) (w : Width) → IsPaged block biases
     → off + bytes_of w ≤ length (all_bytes (pages_in block biases)) → off % bytes_of w ≡ 0
@@ -424,17 +368,7 @@ unfolding pages_in
 made_put xs ys biases = same_pages xs ys (starts_from biases 0)
 
 starts_put : (block ss : List ℕ) (at n v : ℕ) → AreStarts block ss → 4096 ≤ at → AreStarts (put block at n v) ss
-starts_put block ss at n v a l =
-    let k = length_put block at n v in
-    record {
-      some = a.some;
-      most = a.most;
-      size = k ∙ a.size;
-      blank = take_before block 4096 at n v l ∙ a.blank;
-      inside = λ p m. omega (arith, k, a.inside p m);
-      whole = a.whole;
-      apart = a.apart;
-    }
+starts_put block ss at n v a l = search (rules, length_put, take_before)
 
 pub paged_put : (block biases : List ℕ) (off k v : ℕ) (w : Width) → IsPaged block biases
     → off + bytes_of w ≤ length (all_bytes (pages_in block biases))
@@ -481,8 +415,7 @@ pages_set block (t ∷ ss) zero s = refl
 pages_set block (t ∷ ss) (suc i) s = ap (λ ps. page_at block t ∷ ps) (pages_set block ss i s)
 
 new_bytes : (block : List ℕ) → take 4096 (drop (length block) (block ++ zeros 4096)) ≡ zeros 4096
-new_bytes block =
-    ap (take 4096) (drop-append_seam block (zeros 4096)) ∙ take_all 4096 (zeros 4096) (omega (arith, length_zeros 4096))
+new_bytes block = search (rules, drop-append_seam, take_all, length_zeros)
 
 -- a bias leads to the end of the block
 pub bias_leads : (p n b : ℕ) → n < 2 ^ 32 → b ≡ (n + (2 ^ 32 - 4096 * p)) % 2 ^ 32 → p < 1048576
@@ -546,9 +479,7 @@ set_starts biases i n b e = starts_set biases 0 i b ∙ ap (set (starts_from bia
 made_pages : (block ss : List ℕ) (i : ℕ) → AreStarts block ss
     → pages_at (block ++ zeros 4096) (set ss i (length block))
     ≡ set (pages_at block ss) i (page_at (block ++ zeros 4096) (length block))
-made_pages block ss i a =
-    pages_set (block ++ zeros 4096) ss i (length block)
-    ∙ ap (λ ps. set ps i (page_at (block ++ zeros 4096) (length block))) (pages_before block ss a.inside)
+made_pages block ss i a = search (rules, pages_set, pages_before)
 
 -- pages of which one changes to the same bytes
 all_bytes_same : (ps : List PageState) (i : ℕ) (q d : PageState) → i < length ps
@@ -558,8 +489,7 @@ all_bytes_same (p ∷ ps) zero q d l e = ap (λ bs. bs ++ all_bytes ps) e
 all_bytes_same (p ∷ ps) (suc i) q d l e = ap (λ bs. p.bytes ++ bs) (all_bytes_same ps i q d (omega arith) e)
 
 exists : (n : ℕ) → 4096 ≤ n → is_behind n ≡ true
-exists zero l = absurd (omega arith)
-exists (suc n) l = refl
+exists n l = search rules
 
 pub bytes_made : (block biases : List ℕ) (off b : ℕ) → IsPaged block biases
     → off < length (all_bytes (pages_in block biases))
@@ -583,12 +513,7 @@ pub made_made : (block biases : List ℕ) (off b : ℕ) → IsPaged block biases
     → made_of (pages_in (block ++ zeros 4096) (set biases (off / 4096) b))
     ≡ set (made_of (pages_in block biases)) (off / 4096) true
 unfolding IsPaged pages_in
-made_made block biases off b a e =
-    let ss = starts_from biases 0 in
-    ap (λ ts. made_of (pages_at (block ++ zeros 4096) ts)) (set_starts biases (off / 4096) (length block) b e)
-    ∙ (ap made_of (made_pages block ss (off / 4096) a)
-    ∙ (made_of_set (pages_at block ss) (off / 4096) (page_at (block ++ zeros 4096) (length block))
-    ∙ ap (set (made_of (pages_at block ss)) (off / 4096)) (exists (length block) (omega (arith, a.size)))))
+made_made block biases off b a e = search (rules, set_starts, made_pages, made_of_set, exists)
 
 pub made_there : (block biases : List ℕ) (off b : ℕ) → IsPaged block biases
     → off < length (all_bytes (pages_in block biases))
@@ -619,24 +544,17 @@ paged_made block biases off b a l u e =
     (unmade_start block biases off a i u))
 
 -- ---- which pages exist after a write
-after_same : (made : List Bool) (off v : ℕ) (w : Width) (b : Bool) → is_made made off ≡ b
-    → (b || not (is_zero w v)) ≡ b → made ≡ made_after made off w v
-after_same made off v w b e f =
-    sym (ap (λ c. set made (off / 4096) (c || not (is_zero w v))) e
-    ∙ (ap (set made (off / 4096)) (f ∙ sym e) ∙ set-get_or made (off / 4096) false))
-
 pub made_after_put : (made : List Bool) (off v : ℕ) (w : Width) → is_made made off ≡ true
     → made ≡ made_after made off w v
-made_after_put made off v w e = after_same made off v w true e refl
+made_after_put made off v w e = search (rules, set-get_or)
 
 pub made_after_zeros : (made : List Bool) (off v : ℕ) (w : Width) → is_made made off ≡ false
     → is_zero w v ≡ true → made ≡ made_after made off w v
-made_after_zeros made off v w e z = after_same made off v w false e (ap not z)
+made_after_zeros made off v w e z = search (rules, set-get_or)
 
 pub made_after_page : (made : List Bool) (off v : ℕ) (w : Width) → is_made made off ≡ false
     → is_zero w v ≡ false → set made (off / 4096) true ≡ made_after made off w v
-made_after_page made off v w e z =
-    sym (ap (λ c. set made (off / 4096) (c || not (is_zero w v))) e ∙ ap (λ c. set made (off / 4096) (not c)) z)
+made_after_page made off v w e z = search rules
 
 -- ---- a new memory
 pub biases_zero : blank_biases 0 ≡ []
@@ -646,23 +564,17 @@ biases_zero = refl
 pub biases_more : (n b : ℕ) → b ≡ (2 ^ 32 - 4096 * n) % 2 ^ 32
     → blank_biases (n + 1) ≡ blank_biases n ++ b ∷ []
 unfolding blank_biases
-biases_more n b e =
-    let k : n + 1 ≡ suc n = omega arith in
-    ap blank_biases k ∙ ap (λ c. blank_biases n ++ c ∷ []) (sym e)
+biases_more n b e = search rules
 
 starts_push : (bs : List ℕ) (p b : ℕ)
     → starts_from (bs ++ b ∷ []) p ≡ starts_from bs p ++ (4096 * (p + length bs) + b) % 2 ^ 32 ∷ []
 starts_push [] p b = let e : p ≡ p + 0 = omega arith in ap (λ k. (4096 * k + b) % 2 ^ 32 ∷ []) e
-starts_push (c ∷ bs) p b =
-    let e : suc p + length bs ≡ p + suc (length bs) = omega arith in
-    ap (λ ss. (4096 * p + c) % 2 ^ 32 ∷ ss)
-    (starts_push bs (suc p) b ∙ ap (λ k. starts_from bs (suc p) ++ (4096 * k + b) % 2 ^ 32 ∷ []) e)
+starts_push (c ∷ bs) p b = search (rules, starts_push bs (suc p) b)
 
 length_blank : (n : ℕ) → length (blank_biases n) ≡ n
 unfolding blank_biases
 length_blank zero = refl
-length_blank (suc n) =
-    omega (arith, length-append (blank_biases n) ((2 ^ 32 - 4096 * n) % 2 ^ 32 ∷ []), length_blank n)
+length_blank (suc n) = search (rules, length-append, length_blank n)
 
 zero_start : (n b : ℕ) → b ≡ (2 ^ 32 - 4096 * n) % 2 ^ 32 → n ≤ 4096 → (4096 * (0 + n) + b) % 2 ^ 32 ≡ 0
 zero_start n b e l = omega (arith, e)
@@ -686,10 +598,7 @@ zeros_page = take_all 4096 (zeros 4096) (omega (arith, length_zeros 4096))
 
 all_zeros : (n : ℕ) → all_bytes (pages_at (zeros 4096) (replicate n 0)) ≡ zeros (4096 * n)
 all_zeros zero = sym no_zeros
-all_zeros (suc n) =
-    let e : 4096 + 4096 * n ≡ 4096 * suc n = omega arith in
-    ap (λ bs. bs ++ all_bytes (pages_at (zeros 4096) (replicate n 0))) zeros_page
-    ∙ (ap (λ bs. zeros 4096 ++ bs) (all_zeros n) ∙ (append_zeros 4096 (4096 * n) ∙ ap zeros e))
+all_zeros (suc n) = search (rules, zeros_page, append_zeros, all_zeros n)
 
 none_there : (n : ℕ) → made_of (pages_at (zeros 4096) (replicate n 0)) ≡ none_made n
 unfolding none_made
@@ -700,32 +609,14 @@ none_count : (n : ℕ) → made_count (replicate n 0) ≡ 0
 none_count zero = refl
 none_count (suc n) = none_count n
 
-start_zero : (n p : ℕ) → slice_index (replicate n 0) p ≡ 0
-start_zero zero p = refl
-start_zero (suc n) zero = refl
-start_zero (suc n) (suc p) = start_zero n p
-
 starts_new : (n : ℕ) → 1 ≤ n → n ≤ 4096 → AreStarts (zeros 4096) (zeros n)
 unfolding zeros
-starts_new n l m =
-    let k : length (zeros n) ≡ n = length_zeros n in
-    record {
-      some = omega (arith, k);
-      most = omega (arith, k);
-      size = omega (arith, length_zeros 4096, none_count n);
-      blank = zeros_page;
-      inside = λ p h. omega (arith, length_zeros 4096, start_zero n p);
-      whole = λ p h. omega (arith, start_zero n p);
-      apart = λ p q h j e. start_zero n p;
-    }
+starts_new n l m = grind (arith, nat_tests, common_steps, length_zeros, none_count, zeros_page)
 
 pub bytes_new : (block biases : List ℕ) (n : ℕ) → block ≡ zeros 4096 → biases ≡ blank_biases n → n ≤ 4096
     → all_bytes (pages_in block biases) ≡ zeros (4096 * n)
 unfolding pages_in
-bytes_new block biases n z e m =
-    ap (λ bs. all_bytes (pages_at bs (starts_from biases 0))) z
-    ∙ (ap (λ bs. all_bytes (pages_at (zeros 4096) (starts_from bs 0))) e
-    ∙ (ap (λ ss. all_bytes (pages_at (zeros 4096) ss)) (blank_starts n m) ∙ all_zeros n))
+bytes_new block biases n z e m = search (rules, blank_starts, all_zeros)
 
 pub made_new : (block biases : List ℕ) (n : ℕ) → biases ≡ blank_biases n → n ≤ 4096
     → made_of (pages_in block biases) ≡ none_made n

@@ -1,10 +1,9 @@
 -- Writes of values to lists of bytes.
-use Rattle.std.proofs.Common.{◌≡◌, ℕ, zero, suc, ◌+◌, ◌-◌, ◌/◌, ◌%◌, ◌^◌, ◌≤◌, List, ◌++◌, true, length, slice_index, slice_set, ◌<◌, sym, arith, refl, ap, ◌∙◌}
+use Rattle.std.proofs.Common.{◌≡◌, ℕ, zero, suc, ◌+◌, ◌-◌, ◌/◌, ◌%◌, ◌^◌, ◌≤◌, List, ◌++◌, true, length, slice_index, slice_set, ◌<◌, arith, refl, ap, ◌∙◌, rules}
 use Rattle.std.proofs.Math.ListN.{set}
 use Rattle.std.proofs.lemmas.Bool.{eqb-true}
 use Rattle.std.proofs.lemmas.List.{set-append_left, set-append_right, set-get_or, length-set}
 use Rattle.rv_isa.specs.declared.op.Width.{Width}
-use Rattle.rv_isa.specs.declared.op.Width.TheVariants.{One, Two, Four}
 use Rattle.rv_isa.specs.Width.{bytes_of}
 use Rattle.rv_ram.specs.Bytes.{put}
 use Rattle.rv_ram.specs.Pages.{is_zero}
@@ -14,9 +13,7 @@ use Rattle.rv_ram.specs.Pages.{is_zero}
 one_more : (bs : List ℕ) (i k v : ℕ) → v / 256 ^ k % 256 ≡ 0 → slice_index bs (i + k) ≡ 0 → put bs i k v ≡ bs
     → put bs i (suc k) v ≡ bs
 unfolding put
-one_more bs i k v z h e =
-    ap (λ xs. slice_set xs (i + k) (v / 256 ^ k % 256)) e
-    ∙ (ap (slice_set bs (i + k)) (z ∙ sym h) ∙ set-get_or bs (i + k) 0)
+one_more bs i k v z h e = search (rules, set-get_or)
 
 none : (bs : List ℕ) (i v : ℕ) → put bs i 0 v ≡ bs
 unfolding put
@@ -25,49 +22,23 @@ none bs i v = refl
 pub put_zeros : (bs : List ℕ) (i v : ℕ) (w : Width)
     → ((k : ℕ) → k < bytes_of w → slice_index bs (i + k) ≡ 0) → is_zero w v ≡ true
     → put bs i (bytes_of w) v ≡ bs
-put_zeros bs i v One h z =
-    let e : v % 256 ≡ 0 = eqb-true (v % 256) 0 z in
-    one_more bs i 0 v (omega arith) (h 0 (omega arith)) (none bs i v)
-put_zeros bs i v Two h z =
-    let e : v % 65536 ≡ 0 = eqb-true (v % 65536) 0 z in
-    one_more bs i 1 v (omega arith) (h 1 (omega arith))
-    (one_more bs i 0 v (omega arith) (h 0 (omega arith)) (none bs i v))
-put_zeros bs i v Four h z =
-    let e : v ≡ 0 = eqb-true v 0 z in
-    one_more bs i 3 v (omega arith) (h 3 (omega arith)) (one_more bs i 2 v (omega arith) (h 2 (omega arith))
-    (one_more bs i 1 v (omega arith) (h 1 (omega arith))
-    (one_more bs i 0 v (omega arith) (h 0 (omega arith)) (none bs i v))))
+put_zeros bs i v w h z = search (rules, eqb-true, one_more, none)
 
 -- ---- writes by their bytes
 
-first : (bs : List ℕ) (i v : ℕ) → slice_set bs i (v % 256) ≡ slice_set bs (i + 0) (v / 1 % 256)
-first bs i v =
-    let e : i ≡ i + 0 = omega arith in
-    let b : v % 256 ≡ v / 1 % 256 = omega arith in
-    ap (λ j. slice_set bs j (v % 256)) e ∙ ap (slice_set bs (i + 0)) b
-
 pub put_byte : (bs : List ℕ) (i v : ℕ) → slice_set bs i (v % 256) ≡ put bs i 1 v
 unfolding put
-put_byte bs i v = first bs i v
+put_byte bs i v = search rules
 
 pub put_half : (bs : List ℕ) (i v : ℕ)
     → slice_set (slice_set bs i (v % 256)) (i + 1) (v / 256 % 256) ≡ put bs i 2 v
 unfolding put
-put_half bs i v = ap (λ xs. slice_set xs (i + 1) (v / 256 % 256)) (first bs i v)
+put_half bs i v = search rules
 
 -- a write of a word is one of its low half and one of its high half
 pub put_halves : (bs : List ℕ) (i v : ℕ) → put (put bs i 2 v) (i + 2) 2 (v / 65536) ≡ put bs i 4 v
 unfolding put
-put_halves bs i v =
-    let half = put bs i 2 v in
-    let j : i + 2 + 0 ≡ i + 2 = omega arith in
-    let k : i + 2 + 1 ≡ i + 3 = omega arith in
-    let a : v / 65536 / 1 % 256 ≡ v / 65536 % 256 = omega arith in
-    let b : v / 65536 / 256 % 256 ≡ v / 16777216 % 256 = omega arith in
-    ap (λ x. set (set half x (v / 65536 / 1 % 256)) (i + 2 + 1) (v / 65536 / 256 % 256)) j
-    ∙ (ap (λ x. set (set half (i + 2) x) (i + 2 + 1) (v / 65536 / 256 % 256)) a
-    ∙ (ap (λ x. set (set half (i + 2) (v / 65536 % 256)) x (v / 65536 / 256 % 256)) k
-    ∙ ap (λ x. set (set half (i + 2) (v / 65536 % 256)) (i + 3) x) b))
+put_halves bs i v = search rules
 
 -- ---- what a write does to the bytes round it
 
@@ -80,9 +51,7 @@ length_put bs i (suc n) v = length-set (put bs i n v) (i + n) _ ∙ length_put b
 pub put_left : (xs ys : List ℕ) (i n v : ℕ) → i + n ≤ length xs → put (xs ++ ys) i n v ≡ put xs i n v ++ ys
 unfolding put
 put_left xs ys i zero v l = refl
-put_left xs ys i (suc n) v l =
-    ap (λ bs. set bs (i + n) (v / 256 ^ n % 256)) (put_left xs ys i n v (omega arith))
-    ∙ set-append_left (put xs i n v) ys (i + n) _ (omega (arith, length_put xs i n v))
+put_left xs ys i (suc n) v l = search (rules, set-append_left, length_put, put_left xs ys i n v (omega arith))
 
 set_right : (xs ys : List ℕ) (n k j x : ℕ) → length xs ≡ n → j ≡ n + k → set (xs ++ ys) j x ≡ xs ++ set ys k x
 set_right xs ys n k j x e q =
@@ -93,6 +62,4 @@ set_right xs ys n k j x e q =
 pub put_right : (xs ys : List ℕ) (k i n v : ℕ) → length xs ≡ k → put (xs ++ ys) (k + i) n v ≡ xs ++ put ys i n v
 unfolding put
 put_right xs ys k i zero v e = refl
-put_right xs ys k i (suc n) v e =
-    ap (λ bs. set bs (k + i + n) (v / 256 ^ n % 256)) (put_right xs ys k i n v e)
-    ∙ set_right xs (put ys i n v) k (i + n) (k + i + n) _ e (omega arith)
+put_right xs ys k i (suc n) v e = search (rules, set_right, put_right xs ys k i n v e)

@@ -1,5 +1,7 @@
 -- Lists of zeros.
-use Rattle.std.proofs.Common.{◌≡◌, ℕ, zero, suc, ◌+◌, ◌-◌, [], ◌++◌, length, drop, slice_index, refl}
+use Rattle.std.proofs.lemmas.Bool.Decides.{nat_tests}
+use Rattle.std.proofs.lemmas.Grind.{common_steps}
+use Rattle.std.proofs.Common.{◌≡◌, ℕ, ◌+◌, ◌-◌, [], ◌++◌, length, drop, slice_index, refl, arith}
 use Rattle.std.proofs.lemmas.List.{length-replicate, drop-replicate, replicate-append-replicate}
 use Rattle.rv_ram.specs.Bytes.{zeros}
 
@@ -21,6 +23,4 @@ no_zeros = refl
 
 pub get_zeros : (n i : ℕ) → slice_index (zeros n) i ≡ 0
 unfolding zeros
-get_zeros zero i = refl
-get_zeros (suc n) zero = refl
-get_zeros (suc n) (suc i) = get_zeros n i
+get_zeros n i = grind (arith, nat_tests, common_steps)
