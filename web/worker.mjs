@@ -52,6 +52,12 @@ function goOn() {
     return answer;
 }
 
+/**
+ * The text of a piece of a trace, which tells its steps. Any other run tells its end alone.
+ * @param {{ answer: { kind: string }, text: string }} reply
+ */
+const traceOf = ({ answer, text }) => (answer.kind === "traced" ? text : "");
+
 /** @type {Record<string, (...words: any[]) => unknown>} */
 const acts = {
     /** @param {Uint8Array} bytes */
@@ -84,6 +90,7 @@ const acts = {
         decoder = new TextDecoder();
         let reply = lab.command(encode(line)), reported = performance.now();
         const sent = [reply.sent];
+        let trace = traceOf(reply);
         while (reply.next === RUNNING && !paused) {
             if (performance.now() - reported > PROGRESS) {
                 report();
@@ -92,8 +99,10 @@ const acts = {
             await breathe();
             reply = goOn();
             sent.push(reply.sent);
+            trace += traceOf(reply);
         }
-        const isPaused = reply.next === RUNNING, text = isPaused ? `paused\n${lab.ask("w")}` : reply.text;
+        const isPaused = reply.next === RUNNING;
+        const text = isPaused ? `${trace}paused\n${lab.ask("w")}` : trace || reply.text;
         return { answer: reply.answer, text, sent: decode(joinBytes(sent)), isPaused, isLeft: reply.next === QUIT };
     },
 

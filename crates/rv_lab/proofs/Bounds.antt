@@ -1,5 +1,5 @@
 -- How many steps a call takes.
-use Rattle.std.proofs.Common.{◌≡◌, ◌∙◌, ℕ, zero, suc, Bool, true, ◌+◌, ◌-◌, ◌≤◌, false, List, [], ◌∷◌, refl, sym, ap, arith, inl, inr}
+use Rattle.std.proofs.Common.{◌≡◌, ◌∙◌, ℕ, Bool, true, ◌+◌, ◌-◌, ◌≤◌, false, List, [], ◌∷◌, refl, sym, ap, arith, inl, inr}
 use Rattle.std.specs.Prelude.{fold, if◌then◌else◌, max, min, MatchOption, Option, Some, None}
 use Rattle.rv_commands.specs.declared.command.Command as commands
 use Rattle.rv_commands.specs.declared.command.Command.TheVariants as monitored_by
@@ -11,7 +11,7 @@ use Rattle.rv_recording.specs.Recording.{RecordingState, with_timed}
 use Rattle.rv_monitor.specs.Stops.{may_step}
 use Rattle.rv_recording.proofs.Counting.{steps_within}
 use Rattle.rv_lab.specs.Runs.{Leaves}
-use Rattle.rv_lab.specs.Commands.{IsWithin, begun, call_limit, monitored_run, piece_steps, planned, run_ends, run_of, stepped, stepped_by, with_session}
+use Rattle.rv_lab.specs.Commands.{IsWithin, begun, monitored_run, piece_most, piece_steps, planned, run_ends, run_of, stepped, with_session}
 use Rattle.rv_lab.specs.Support.Short.{GoesOnWith, Starts, Steps}
 use Rattle.rv_lab.specs.Refusals.{Leads, RunsOut, StopsShort, by_hand, due, nowhere, steps}
 use Rattle.rv_asm.specs.Lines.{Located}
@@ -54,7 +54,7 @@ unmoved n old new e = same_taken n old new (ap (λ (l : LabState). (timed l).tak
 goes : (p : Plan) (old new : LabState) → GoesOnWith p old new → IsWithin (max old.piece 1) old new
 goes p old new g =
     let most : piece_steps p old ≤ min p.left (max old.piece 1) =
-    steps_within (run_ends p.goal old.recording.session) (min p.left (max old.piece 1)) in
+    steps_within (run_ends p.goal old.recording.session) (piece_most p old) in
     let now = ap (λ (l : LabState). (timed l).taken) g ∙ taken_after (timed old) (piece_steps p old) in
     omega (arith, most, now)
 
@@ -68,27 +68,13 @@ step_within : (b : Bool) (r : RecordingState)
 step_within true r = omega (arith, taken_after r.session.timed 1)
 step_within false r = omega arith
 
-stepped_within : (n : ℕ) (r : RecordingState) → (stepped_by n r).session.timed.taken ≤ r.session.timed.taken + n
-stepped_within zero r = omega arith
-stepped_within (suc n) r =
-    let one : (stepped r).session.timed.taken ≤ r.session.timed.taken + 1 = step_within (may_step r.session) r in
-    let rest : (stepped_by n (stepped r)).session.timed.taken ≤ (stepped r).session.timed.taken + n =
-    stepped_within n (stepped r) in
-    omega (arith, one, rest)
-
-stepped_setup : (n : ℕ) (l : LabState) → setup (record l { recording = stepped_by n l.recording }) ≡ setup l
-stepped_setup n l = by_steps n l.recording
+step_setup : (l : LabState) → setup (record l { recording = stepped l.recording }) ≡ setup l
+step_setup l = by_may (may_step l.recording.session)
   where
-    by_may : (b : Bool) (r : RecordingState) → (P : RecordingState → Type 0) → P (with_timed r (after r.session.timed 1)) → P r
-        → P (if b then with_timed r (after r.session.timed 1) else r)
-    by_may true r P a b = a
-    by_may false r P a b = b
-
-    by_steps : (n : ℕ) (r : RecordingState) → setup (record l { recording = stepped_by n r }) ≡ setup (record l { recording = r })
-    by_steps zero r = refl
-    by_steps (suc n) r =
-        by_steps n (stepped r) ∙ by_may (may_step r.session) r
-        (λ q. setup (record l { recording = q }) ≡ setup (record l { recording = r })) refl refl
+    by_may : (b : Bool)
+        → setup (record l { recording = if b then with_timed l.recording (after (timed l) 1) else l.recording }) ≡ setup l
+    by_may true = refl
+    by_may false = refl
 
 -- ---- a command of the monitor
 
@@ -123,7 +109,7 @@ monitors_setup c limit (Some p) old new e w = ap setup w
 
 -- ---- an order
 
-pub within : (o : Order) (old new : LabState) → Leaves o old new → IsWithin (call_limit o old.piece) old new
+pub within : (o : Order) (old new : LabState) → Leaves o old new → IsWithin (max old.piece 1) old new
 within (orders.Steps n) old new w = counted n old new w
 within (orders.Run p) old new w = goes p (begun old) new w
 within orders.Once old new w =
@@ -131,9 +117,6 @@ within orders.Once old new w =
     step_within (may_step old.recording.session) old.recording in
     let now : (timed new).taken ≡ (stepped old.recording).session.timed.taken = ap (λ (l : LabState). (timed l).taken) w in
     omega (arith, one, now)
-within (orders.Trace n) old new w =
-    let now : (timed new).taken ≡ (stepped_by n old.recording).session.timed.taken =
-    ap (λ (l : LabState). (timed l).taken) w in omega (arith, stepped_within n old.recording, now)
 within (orders.Back n) old new w =
     let is = ap (λ (l : LabState). (timed l).taken) w ∙ taken_after _ ((timed old).taken - n) in omega (arith, is)
 within (orders.List e follows) old new w = same_taken _ old new (ap (λ (l : LabState). (timed l).taken) w)
@@ -151,8 +134,7 @@ pub left_setup_by : (o : Order) (old new : LabState) → Leaves o old new → se
 left_setup_by (orders.Monitor line) old new w =
     monitors_setup (command_in line old.recording.session) old.recording.session.limit
     (monitored_run line old.recording.session) old new refl w
-left_setup_by orders.Once old new w = ap setup w ∙ stepped_setup 1 old
-left_setup_by (orders.Trace n) old new w = ap setup w ∙ stepped_setup n old
+left_setup_by orders.Once old new w = ap setup w ∙ step_setup old
 left_setup_by (orders.Steps n) old new w = ap setup w
 left_setup_by _ old new w = ap setup w
 
@@ -177,7 +159,7 @@ out_setup_by o old new (inr (inr s)) =
 -- ---- the calls
 
 pub short_within : (o : Order) (old new : LabState) → RunsOut (Leaves o) old new
-    → IsWithin (call_limit o old.piece) old new
+    → IsWithin (max old.piece 1) old new
 short_within o old new s = out _ (Leaves o) old new (λ d w. within o old d w) s
 
 pub piece_within : (p : Plan) (old new : LabState) → GoesOnWith p old new → IsWithin (max old.piece 1) old new

@@ -8,7 +8,7 @@ use Rattle.rv_operands.specs.Operands.{operand_text}
 use Rattle.rv_answers.specs.declared.answer.Answer.{Answer}
 use Rattle.rv_answers.specs.declared.answer.Answer.TheVariants as answers
 use Rattle.rv_answers.specs.declared.command.Command.{Command}
-use Rattle.rv_lab.specs.Commands.{IsWithin, call_limit, next_of, ready}
+use Rattle.rv_lab.specs.Commands.{IsWithin, next_of, ready}
 use Rattle.rv_lab.specs.Orders.{command_order, order_of, ordered}
 use Rattle.rv_lab.specs.Refusals.{RunsOut, StopsShort}
 use Rattle.rv_lab.specs.Runs.{Leaves, does, line_does, reply_on, reply_to, run_answer}
@@ -102,12 +102,12 @@ pub out_setup : (line : List ℕ) (old new : LabState)
 out_setup line old new w = out_setup_by (ordered line old) (ready (line_command line) old) new w
 
 pub is_within : (line : List ℕ) (old new : LabState) → Leaves (ordered line old) (ready (line_command line) old) new
-    → IsWithin (call_limit (ordered line old) old.piece) old new
+    → IsWithin (max old.piece 1) old new
 is_within line old new w = within (ordered line old) (ready (line_command line) old) new w
 
 pub is_within_short : (line : List ℕ) (old new : LabState)
     → RunsOut (Leaves (ordered line old)) (ready (line_command line) old) new
-    → IsWithin (call_limit (ordered line old) old.piece) old new
+    → IsWithin (max old.piece 1) old new
 is_within_short line old new w = short_within (ordered line old) (ready (line_command line) old) new w
 
 -- ---- replies, by their parts

@@ -15,7 +15,7 @@ use Rattle.rv_recording.specs.declared.until.Condition.{Condition}
 use Rattle.rv_recording.specs.declared.until.End.{End}
 use Rattle.rv_recording.proofs.Counting.{joins, joins_over, over_or_all, same_steps, steps_within}
 use Rattle.rv_lab.specs.State.{LabState, sent, timed}
-use Rattle.rv_lab.specs.Commands.{InPieces, cut, ended, goal_after, gone_on, piece_steps, plan_after, run_ends, with_console, with_steps}
+use Rattle.rv_lab.specs.Commands.{InPieces, cut, ended, goal_after, gone_on, piece_steps, plan_after, run_ends, tells_last, with_console, with_steps}
 use Rattle.rv_lab.specs.declared.plan.Plan.{Plan}
 use Rattle.rv_lab.specs.declared.plan.Goal.{Goal}
 use Rattle.rv_lab.specs.declared.plan.Goal.TheVariants as goal
@@ -89,6 +89,7 @@ module _ (s : SessionState) (k : ℕ) (h : IsInTime s.timed) where
   ends_later : (g : Goal) → is_some (run_ends g s k) ≡ false → (i : ℕ)
       → is_some (run_ends (goal_after g s.timed k) mid i) ≡ is_some (run_ends g s (k + i))
   ends_later goal.Count e i = rest_is (λ n. false) (λ n. false) set.empty (λ j. refl) e i
+  ends_later goal.Trace e i = rest_is (λ n. false) (λ n. false) set.empty (λ j. refl) e i
   ends_later goal.Break e i = rest_is (λ n. false) (λ n. false) s.breakpoints.addresses (λ j. refl) e i
   ends_later (goal.Out calls) e i =
       rest_is (λ n. open_at calls s.timed n == 0) (λ n. open_at (open_at calls s.timed k) mid.timed n == 0)
@@ -201,7 +202,7 @@ at_last p l n none =
     let k = piece_steps p (record l { piece = n }) in
     let done = with_steps k l in
     ap (λ (x : ℕ). record done { plan = plan_after p s k; piece = 0; told = x })
-    (told_all p.is_monitored (plan_after p s k) l.told (sent done) none)
+    (told_all (tells_last p) (plan_after p s k) l.told (sent done) none)
     ∙ (ap (λ (o : Option Plan). record done { plan = o; piece = 0; told = sent done }) none
     ∙ ap (λ (j : ℕ). record (with_console (with_steps j l)) { plan = None; piece = 0 })
     (sym (all_steps p s (max n 1) none)))

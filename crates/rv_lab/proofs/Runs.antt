@@ -5,18 +5,18 @@ use Rattle.std.specs.FinSet as set
 use Rattle.std.specs.Prelude.{◌&&◌, nat_lt, is_none, is_some, max, min, if◌then◌else◌, unwrap_or, Option, Some, None, Result, Ok, Err, OnOk}
 use Rattle.rv_base.specs.declared.memory.NoMemory.{NoMemory}
 use Rattle.rv_board.specs.Support.State.{halted_of, pc_of}
-use Rattle.rv_monitor.specs.State.{SessionState, TimedState, after}
+use Rattle.rv_monitor.specs.State.{IsInTime, SessionState, TimedState, after}
 use Rattle.rv_monitor.specs.Stops.{may_step, steps_between}
 use Rattle.rv_monitor.proofs.Sets.{no_member}
-use Rattle.rv_recording.specs.Recording.{RecordingState}
+use Rattle.rv_monitor.proofs.Steps.{after_more, after_none}
+use Rattle.rv_recording.specs.Recording.{RecordingState, with_timed}
 use Rattle.rv_recording.specs.Until.{HasRun, step_ends, steps_of}
 use Rattle.rv_recording.specs.declared.until.End.{End}
 use Rattle.rv_recording.specs.declared.until.End.TheVariants.{Halted, Reached, Breakpoint, Limit, Stuck}
 use Rattle.rv_timeline.specs.declared.input.Input.{Input}
 use Rattle.rv_lab.specs.State.{LabState, sent, timed}
-use Rattle.rv_lab.specs.Commands.{begun, goal_after, stepped, stepped_by, gone_on, next_of, piece_steps, plan_after, run_ends, with_console, with_inputs, with_piece, with_session, with_steps}
-use Rattle.rv_lab.specs.Support.Short.{Traced, Traces, rest_of}
-use Rattle.rv_lab.specs.declared.lab.Next.TheVariants as next
+use Rattle.rv_lab.specs.Commands.{goal_after, gone_on, plan_after, run_ends, stepped, tells_last, with_inputs, with_piece, with_session, with_steps}
+use Rattle.rv_lab.specs.Support.Short.{Traced, end_now, rest_of, stepped_by}
 use Rattle.rv_lab.specs.declared.plan.Plan.{Plan}
 use Rattle.rv_lab.specs.declared.plan.Goal.{Goal}
 use Rattle.rv_lab.specs.declared.plan.Goal.TheVariants as goal
@@ -41,6 +41,7 @@ rest_is : (p : Plan) (g : Goal) (s : SessionState) (n : ℕ)
     ≡ (if is_none (run_ends g s n) && nat_lt n p.left
     then Some (record p { goal = goal_after p.goal s.timed n; left = p.left - n }) else None)
 rest_is p goal.Count s n = rest_by p (goal_after p.goal s.timed n) n (halted_of (after s.timed n).board) _ _ _
+rest_is p goal.Trace s n = rest_by p (goal_after p.goal s.timed n) n (halted_of (after s.timed n).board) _ _ _
 rest_is p goal.Break s n = rest_by p (goal_after p.goal s.timed n) n (halted_of (after s.timed n).board) _ _ _
 rest_is p (goal.Out calls) s n = rest_by p (goal_after p.goal s.timed n) n (halted_of (after s.timed n).board) _ _ _
 rest_is p (goal.Until condition) s n = rest_by p (goal_after p.goal s.timed n) n (halted_of (after s.timed n).board) _ _ _
@@ -99,68 +100,13 @@ took_piece p g end old at_first mid new most done is run goal_is others most_is 
 
 -- ---- the console
 
-monitored_as : (p rest : Plan) (s : SessionState) (n : ℕ) → plan_after p s n ≡ Some rest
-    → rest.is_monitored ≡ p.is_monitored
-unfolding plan_after
-monitored_as p rest s n e = as_planned (is_none (run_ends p.goal s n) && nat_lt n p.left) e
-  where
-    as_planned : (b : Bool) → (if b
-        then Some (record p { goal = goal_after p.goal s.timed n; left = p.left - n }) else None) ≡ Some rest
-        → rest.is_monitored ≡ p.is_monitored
-    as_planned true h = cc
-    as_planned false h = absurd cc
-
-kept_told : (m b : Bool) (o : Option Plan) (x : LabState) (t : ℕ) → m ≡ b → is_some o ≡ true → t ≡ x.told
-    → (if b then x else with_console x) ≡ record x { told = if m && is_some o then t else sent x }
-kept_told m b None x t e s h = absurd (false≢true s)
-kept_told true true (Some r) x t e s h = ap (λ n. record x { told = n }) (sym h)
-kept_told false false (Some r) x t e s h = refl
-kept_told true false (Some r) x t e s h = absurd (false≢true (sym e))
-kept_told false true (Some r) x t e s h = absurd (false≢true e)
-
-all_told : (m : Bool) (o : Option Plan) (x : LabState) (t : ℕ) → is_some o ≡ false
-    → with_console x ≡ record x { told = if m && is_some o then t else sent x }
-all_told m (Some r) x t s = absurd (false≢true (sym s))
-all_told true None x t s = refl
-all_told false None x t s = refl
-
-pub told_piece : (p rest : Plan) (kept : Option Plan) (old mid new : LabState) → mid ≡ with_piece p old
-    → kept ≡ mid.plan → kept ≡ Some rest → new ≡ (if rest.is_monitored then mid else with_console mid)
-    → new ≡ gone_on p old
-told_piece p rest kept old mid new is now e told =
-    let plan_now : (with_piece p old).plan ≡ Some rest = sym (ap (λ (l : LabState). l.plan) is) ∙ (sym now ∙ e) in
-    let same : rest.is_monitored ≡ p.is_monitored =
-    monitored_as p rest old.recording.session (piece_steps p old) plan_now in
-    told ∙ (ap (λ (l : LabState). if rest.is_monitored then l else with_console l) is
-    ∙ kept_told p.is_monitored rest.is_monitored (with_piece p old).plan (with_piece p old) old.told (sym same)
-    (ap is_some plan_now) refl)
-
-pub told_end : (p : Plan) (kept : Option Plan) (old mid new : LabState) → mid ≡ with_piece p old
-    → kept ≡ mid.plan → kept ≡ None → new ≡ with_console mid → new ≡ gone_on p old
-told_end p kept old mid new is now e told =
-    let none : (with_piece p old).plan ≡ None = sym (ap (λ (l : LabState). l.plan) is) ∙ (sym now ∙ e) in
-    told ∙ (ap with_console is ∙ all_told p.is_monitored (with_piece p old).plan (with_piece p old) old.told (ap is_some none))
-
--- ---- what follows
-
-pub more_next : (l : LabState) → l.plan ≡ None → next.More ≡ next_of l
-more_next l e = rw e refl
-
-plan_told : (b : Bool) (mid : LabState) → (if b then mid else with_console mid).plan ≡ mid.plan
-plan_told true mid = refl
-plan_told false mid = refl
-
-pub running_next : (kept : Option Plan) (rest : Plan) (mid new : LabState) → kept ≡ mid.plan → kept ≡ Some rest
-    → new ≡ (if rest.is_monitored then mid else with_console mid) → next.Running ≡ next_of new
-running_next kept rest mid new now e told =
-    let is : new.plan ≡ Some rest =
-    ap (λ (l : LabState). l.plan) told ∙ (plan_told rest.is_monitored mid ∙ (sym now ∙ e)) in
-    rw is refl
-
-pub ended_next : (kept : Option Plan) (mid new : LabState) → kept ≡ mid.plan → kept ≡ None
-    → new ≡ with_console mid → next.More ≡ next_of new
-ended_next kept mid new now e told =
-    more_next new (ap (λ (l : LabState). l.plan) told ∙ (sym now ∙ e))
+pub told_call : (p : Plan) (waits : Bool) (old mid new : LabState) → mid ≡ with_piece p old → waits ≡ tells_last p
+    → new ≡ record mid { told = if waits && is_some mid.plan then mid.told else sent mid } → new ≡ gone_on p old
+told_call p waits old mid new is w e =
+    e ∙ (ap (λ (l : LabState). record l { told = if waits && is_some l.plan then l.told else sent l }) is
+    ∙ ap (λ (b : Bool). record (with_piece p old) {
+      told = if b && is_some (with_piece p old).plan then old.told else sent (with_piece p old);
+    }) w)
 
 -- ---- a trace
 
@@ -217,10 +163,57 @@ goes_while s n =
     step_end_is (set.contains set.empty (pc_of b)) (halted_of b) (nat_lt 0 n) (nat_lt (after s.timed n).taken s.limit)
     (sym (no_member (pc_of b)))
 
-pub trace_runs : (n : ℕ) (old mid new told : LabState) → mid ≡ begun old → Traced n mid new
-    → told ≡ with_console new → Traces n old told
-trace_runs n old mid new told is t same =
-    same ∙ ap with_console (t ∙ ap (λ (l : LabState). record l { recording = stepped_by n l.recording }) is)
+-- n steps and one more
+one_later : (n : ℕ) (r : RecordingState) → stepped_by (suc n) r ≡ stepped (stepped_by n r)
+one_later zero r = refl
+one_later (suc n) r = one_later n (stepped r)
+
+next_by : (r : RecordingState) (k : ℕ) (o : Option End) (b : Bool) → IsInTime r.session.timed → is_none o ≡ b
+    → (if b then with_timed r (after (after r.session.timed k) 1) else with_timed r (after r.session.timed k))
+    ≡ with_timed r (after r.session.timed (if is_some o then k else suc k))
+next_by r k None true h e =
+    let more : k + 1 ≡ suc k = omega arith in
+    ap (with_timed r) (after_more r.session.timed k 1 h.rising ∙ ap (after r.session.timed) more)
+next_by r k None false h e = absurd (false≢true (sym e))
+next_by r k (Some end) true h e = absurd (false≢true e)
+next_by r k (Some end) false h e = refl
+
+-- they are those of a run of steps past any breakpoint
+pub all_stepped : (n : ℕ) (r : RecordingState) → IsInTime r.session.timed
+    → stepped_by n r ≡ with_timed r (after r.session.timed (steps_of (step_ends r.session) n))
+unfolding steps_of
+all_stepped zero r h = ap (with_timed r) (sym (after_none r.session.timed h))
+all_stepped (suc n) r h =
+    let k = steps_of (step_ends r.session) n in
+    one_later n r ∙ (ap stepped (all_stepped n r h)
+    ∙ next_by r k (step_ends r.session k) (may_step (record r.session { timed = after r.session.timed k })) h
+    (goes_while r.session k))
+
+ended_by : (b : Bool) (h : Option ℕ) (z l : Bool) → b ≡ false
+    → unwrap_or (end_is h (z && false) (z && b) l) Limit ≡ (if is_some h then Halted else (if l then Limit else Stuck))
+ended_by b (Some code) z l e = refl
+ended_by b None true true e = rw e refl
+ended_by b None true false e = rw e refl
+ended_by b None false true e = refl
+ended_by b None false false e = refl
+
+ends_now : (s : SessionState) (n : ℕ) → unwrap_or (step_ends s n) Limit ≡ end_now (record s { timed = after s.timed n })
+ends_now s n =
+    let b = (after s.timed n).board in
+    ended_by (set.contains set.empty (pc_of b)) (halted_of b) (nat_lt 0 n) (nat_lt (after s.timed n).taken s.limit)
+    (sym (no_member (pc_of b)))
+
+pub traced_run : (n : ℕ) (old new : LabState) (end : End) → IsInTime (timed old) → Traced n old new
+    → end ≡ end_now new.recording.session
+    → HasRun (step_ends old.recording.session) n old.recording.session new.recording.session end
+traced_run n old new end h t ended =
+    let now : new.recording.session ≡ record old.recording.session {
+      timed = after (timed old) (steps_of (step_ends old.recording.session) n);
+    } = ap (λ (l : LabState). l.recording.session) t ∙ ap (λ (r : RecordingState). r.session) (all_stepped n old.recording h) in
+    record {
+      state = now;
+      ended = ended ∙ (ap end_now now ∙ sym (ends_now old.recording.session (steps_of (step_ends old.recording.session) n)));
+    }
 
 -- ---- inputs
 

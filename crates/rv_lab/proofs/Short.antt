@@ -1,25 +1,27 @@
 -- Calls that stopped short, for memory, of what they do.
 use Rattle.std.proofs.Common.{◌≡◌, ◌∙◌, ℕ, zero, suc, ◌+◌, ◌-◌, ◌<◌, ◌≤◌, true, List, [], ◌∷◌, length, take, drop, get_or, refl, sym, ap, subst, arith, inr}
 use Rattle.std.proofs.lemmas.List.{take_all}
-use Rattle.std.specs.Prelude.{min, fold, Bool, false, if◌then◌else◌, Option, Some, None, Result, Ok, Err, OnErr, MatchOption, max}
+use Rattle.std.specs.Prelude.{fold, Bool, false, if◌then◌else◌, Option, Some, None, Result, Ok, Err, OnErr, MatchOption}
 use Rattle.rv_base.specs.declared.memory.NoMemory.{NoMemory}
 use Rattle.rv_timeline.specs.Timed.{never_falls}
 use Rattle.rv_timeline.specs.declared.input.Input.{Input}
-use Rattle.rv_monitor.specs.State.{SessionState, TimedState, after, given, with_due}
+use Rattle.rv_monitor.specs.State.{IsInTime, SessionState, TimedState, after, given, with_due}
 use Rattle.rv_monitor.specs.Stops.{TakesStep, may_step, steps_between}
 use Rattle.rv_monitor.proofs.Steps.{after_due, after_more, after_rises}
 use Rattle.rv_recording.specs.Recording.{RecordingState, with_timed}
 use Rattle.rv_recording.specs.Refused.{IsRefusedIn}
+use Rattle.rv_recording.specs.Until.{step_ends, steps_of}
+use Rattle.rv_recording.specs.declared.until.End.{End}
 use Rattle.rv_lab.specs.Commands as lab
 use Rattle.rv_lab.specs.Runs.{Leaves}
-use Rattle.rv_lab.specs.Commands.{begun, monitored_run, planned, run_ends, stepped, stepped_by, with_console, with_inputs, with_session}
+use Rattle.rv_lab.specs.Commands.{begun, monitored_run, piece_most, planned, run_ends, stepped, with_console, with_inputs, with_session}
 use Rattle.rv_lab.specs.Refusals.{Leads, RunsOut, StopsShort, by_hand, due, nowhere, steps}
-use Rattle.rv_lab.specs.Support.Short.{Gives, GoesOnWith, IsOnWay, Looks, Monitors, Starts, Steps, Traced, Traces}
+use Rattle.rv_lab.specs.Support.Short.{Gives, GoesOnWith, IsOnWay, Looks, Monitors, Starts, Steps, StopsIn, Traced, stepped_by}
 use Rattle.rv_lab.specs.State.{LabState, timed}
 use Rattle.rv_lab.specs.declared.order.Order.TheVariants as orders
 use Rattle.rv_lab.specs.declared.plan.Plan.{Plan}
 use Rattle.rv_lab.specs.declared.plan.Goal.TheVariants as goal
-use Rattle.rv_lab.proofs.Runs.{one_and_more, traced_more}
+use Rattle.rv_lab.proofs.Runs.{all_stepped, one_and_more}
 
 -- what holds in any case holds where memory ran out
 pub on_err : {A : Type 0} (r : Result A NoMemory) (P : Type 0) → P → OnErr r P
@@ -56,45 +58,42 @@ from_due s k m l rising =
 
 -- ---- runs
 
-module _ (p : Plan) (old new : LabState) (rising : never_falls (timed old).inputs ≡ true) where
+module _ (ends : ℕ → Option End) (most : ℕ) (old new : LabState) (rising : never_falls (timed old).inputs ≡ true)
+    (r : IsRefusedIn ends most old.recording.session new.recording.session)
+    (others : new ≡ with_session old new.recording.session) where
   abbrev count : ℕ
   count = steps_between (timed old) (timed new)
 
-  module _ (r : IsRefusedIn (run_ends p.goal old.recording.session) (min p.left (max old.piece 1))
-      old.recording.session new.recording.session)
-      (others : new ≡ with_session (record old { plan = None }) new.recording.session) where
-    timed_due : timed new ≡ with_due (after (timed old) count)
-    timed_due = ap (λ (s : SessionState). s.timed) r.state
+  timed_due : timed new ≡ with_due (after (timed old) count)
+  timed_due = ap (λ (s : SessionState). s.timed) r.state
 
-    session_is : new.recording.session ≡ record old.recording.session { timed = timed new }
-    session_is = r.state ∙ ap (λ (t : TimedState). record old.recording.session { timed = t }) (sym timed_due)
+  session_is : new.recording.session ≡ record old.recording.session { timed = timed new }
+  session_is = r.state ∙ ap (λ (t : TimedState). record old.recording.session { timed = t }) (sym timed_due)
 
-    told_is : old.told ≡ new.told
-    told_is = sym (ap (λ (l : LabState). l.told) others)
-
-    piece_short : StopsShort (GoesOnWith p) old new
-    piece_short = (
-      lab.gone_on p old,
-      refl,
-      subst (Leads (timed old)) (sym timed_due) (to_due (timed old) count),
-      subst (λ (t : TimedState). Leads t (after (timed old) (lab.piece_steps p old))) (sym timed_due)
-          (from_due (timed old) count (lab.piece_steps p old) r.within rising),
-      others ∙ (ap (λ (u : SessionState). with_session (record old { plan = None }) u) session_is
-          ∙ ap (λ (n : ℕ). record old { recording = with_timed old.recording (timed new); plan = None; told = n }) told_is),
-    )
+  pub refused_stops : StopsIn ends most old new
+  refused_stops = (
+    subst (Leads (timed old)) (sym timed_due) (to_due (timed old) count),
+    subst (λ (t : TimedState). Leads t (after (timed old) (steps_of ends most))) (sym timed_due)
+        (from_due (timed old) count (steps_of ends most) r.within rising),
+    others ∙ ap (λ (u : SessionState). with_session old u) session_is,
+  )
 
 pub piece_err : {A : Type 0} (r : Result A NoMemory) (p : Plan) (most : ℕ) (old at_first new : LabState)
-    → never_falls (timed old).inputs ≡ true → most ≡ min p.left (max old.piece 1)
-    → at_first ≡ record old { plan = None }
-    → IsRefusedIn (run_ends p.goal at_first.recording.session) most at_first.recording.session new.recording.session
-    → new ≡ with_session at_first new.recording.session → OnErr r (StopsShort (GoesOnWith p) old new)
-piece_err r p most old at_first new rising most_is is refused others =
-    let same : at_first.recording ≡ old.recording = ap (λ (l : LabState). l.recording) is in
-    on_err r (StopsShort (GoesOnWith p) old new)
-    (piece_short p old new rising
-    (subst (λ (n : ℕ). IsRefusedIn (run_ends p.goal old.recording.session) n old.recording.session new.recording.session) most_is
-    (subst (λ (q : RecordingState). IsRefusedIn (run_ends p.goal q.session) most q.session new.recording.session) same refused))
-    (others ∙ ap (λ (l : LabState). with_session l new.recording.session) is))
+    → most ≡ piece_most p old → at_first ≡ record old { plan = None }
+    → StopsIn (run_ends p.goal at_first.recording.session) most at_first new
+    → OnErr r (StopsShort (GoesOnWith p) old new)
+piece_err r p most old at_first new most_is is short =
+    let s : StopsIn (run_ends p.goal old.recording.session) (piece_most p old) (record old { plan = None }) new =
+    subst (λ (n : ℕ). StopsIn (run_ends p.goal old.recording.session) n (record old { plan = None }) new) most_is
+    (subst (λ (l : LabState). StopsIn (run_ends p.goal l.recording.session) most l new) is short) in
+    on_err r (StopsShort (GoesOnWith p) old new) (
+      lab.gone_on p old,
+      refl,
+      s.0,
+      s.1,
+      s.2 ∙ ap (λ (n : ℕ). record old { recording = with_timed old.recording (timed new); plan = None; told = n })
+          (sym (ap (λ (l : LabState). l.told) s.2)),
+    )
 
 pub starts_short : {A : Type 0} (r : Result A NoMemory) (p : Plan) (old mid new : LabState) → mid ≡ begun old
     → OnErr r (StopsShort (GoesOnWith p) mid new) → OnErr r (StopsShort (Starts p) old new)
@@ -178,11 +177,6 @@ leads_steps (suc k) r =
     joined r.session.timed (stepped r).session.timed (stepped_by k (stepped r)).session.timed (leads_step r)
     (leads_steps k (stepped r))
 
-same_others : (b : Bool) (r : RecordingState) (t : TimedState)
-    → with_timed (if b then with_timed r (after r.session.timed 1) else r) t ≡ with_timed r t
-same_others true r t = refl
-same_others false r t = refl
-
 pub traced_short : (n : ℕ) (old new : LabState) → 0 < n → old.plan ≡ None
     → IsOnWay old.recording new.recording (stepped old.recording)
     → new ≡ record old { recording = new.recording } → StopsShort (Traced n) old new
@@ -200,33 +194,50 @@ traced_short n old new h none way others = (
       (sym (ap (λ (l : LabState). l.told) others)))),
 )
 
-further_short : (n : ℕ) (old mid new : LabState) → 0 < n
-    → mid ≡ record old { recording = stepped old.recording } → StopsShort (Traced (n - 1)) mid new
-    → StopsShort (Traced n) old new
-further_short n old mid new h e s = (
-  s.0,
-  traced_more n old mid s.0 h e s.1,
-  joined (timed old) (timed mid) (timed new)
-      (subst (λ (l : LabState). Leads (timed old) (timed l)) (sym e) (leads_step old.recording)) s.2,
-  s.3,
-  s.4 ∙ ap (λ (r : RecordingState). record s.0 { recording = r; plan = None; told = new.told })
-      (ap (λ (l : LabState). with_timed l.recording (timed new)) e
-      ∙ same_others (may_step old.recording.session) old.recording (timed new)),
+same_others : (b : Bool) (r : RecordingState) (t : TimedState)
+    → with_timed (if b then with_timed r (after r.session.timed 1) else r) t ≡ with_timed r t
+same_others true r t = refl
+same_others false r t = refl
+
+-- what is on the way to the next step is on the way to n of them
+pub first_on_way : (n : ℕ) (old new : RecordingState) → 0 < n → IsOnWay old new (stepped old)
+    → IsOnWay old new (stepped_by n old)
+first_on_way n old new h way = (
+  way.0,
+  subst (λ (r : RecordingState). Leads new.session.timed r.session.timed) (sym (one_and_more n old h))
+      (joined new.session.timed (stepped old).session.timed (stepped_by (n - 1) (stepped old)).session.timed way.1
+      (leads_steps (n - 1) (stepped old))),
+  way.2,
+)
+
+further_on_way : (n : ℕ) (old new : RecordingState) → 0 < n
+    → IsOnWay (stepped old) new (stepped_by (n - 1) (stepped old)) → IsOnWay old new (stepped_by n old)
+further_on_way n old new h way = (
+  joined old.session.timed (stepped old).session.timed new.session.timed (leads_step old) way.0,
+  subst (λ (r : RecordingState). Leads new.session.timed r.session.timed) (sym (one_and_more n old h)) way.1,
+  way.2 ∙ same_others (may_step old.session) old new.session.timed,
 )
 
 pub traced_further : {A : Type 0} (r : Result A NoMemory) (n : ℕ) (old mid new : LabState) → 0 < n
-    → mid ≡ record old { recording = stepped old.recording } → OnErr r (StopsShort (Traced (n - 1)) mid new)
-    → OnErr r (StopsShort (Traced n) old new)
+    → mid ≡ record old { recording = stepped old.recording }
+    → OnErr r (IsOnWay mid.recording new.recording (stepped_by (n - 1) mid.recording))
+    → OnErr r (IsOnWay old.recording new.recording (stepped_by n old.recording))
 traced_further (Ok a) n old mid new h e s = tt
-traced_further (Err why) n old mid new h e s = further_short n old mid new h e s
+traced_further (Err why) n old mid new h e s =
+    further_on_way n old.recording new.recording h
+    (subst (λ (r : RecordingState). IsOnWay r new.recording (stepped_by (n - 1) r)) (ap (λ (l : LabState). l.recording) e) s)
 
--- a trace, and a single step
-pub trace_short : {A : Type 0} (r : Result A NoMemory) (n : ℕ) (old mid new : LabState) → mid ≡ begun old
-    → StopsShort (Traced n) mid new → OnErr r (StopsShort (Traces n) old new)
-trace_short r n old mid new is s =
-    let t = subst (λ (l : LabState). StopsShort (Traced n) l new) is s in
-    on_err r (StopsShort (Traces n) old new) (with_console t.0, ap with_console t.1, t.2, t.3, t.4)
+-- steps past any breakpoint stopped short
+pub traced_stops : (n : ℕ) (old new : LabState) → IsInTime (timed old)
+    → IsOnWay old.recording new.recording (stepped_by n old.recording) → new ≡ record old { recording = new.recording }
+    → StopsIn (step_ends old.recording.session) n old new
+traced_stops n old new h way others = (
+  way.0,
+  subst (λ (r : RecordingState). Leads (timed new) r.session.timed) (all_stepped n old.recording h) way.1,
+  others ∙ ap (λ (r : RecordingState). record old { recording = r }) way.2,
+)
 
+-- a single step
 pub once_short : {A : Type 0} (r : Result A NoMemory) (old counted mid new : LabState) → counted ≡ record old { count = 1 }
     → mid ≡ begun counted → old.plan ≡ None → IsOnWay mid.recording new.recording (stepped mid.recording)
     → new ≡ record mid { recording = new.recording } → OnErr r (StopsShort (Leaves orders.Once) old new)

@@ -1,6 +1,6 @@
 -- What commands answered.
 use Rattle.std.proofs.Common.{◌≡◌, ◌∙◌, ℕ, zero, suc, ◌-◌, ◌<◌, Bool, true, false, List, [], ◌∷◌, ◌++◌, refl, sym, ap, subst, append-nil, append_assoc, arith}
-use Rattle.std.specs.Prelude.{Option, Some, None, IfOk, OnOk, OnErr, Result, Ok, Err, if◌then◌else◌}
+use Rattle.std.specs.Prelude.{Option, Some, None, ◌&&◌, is_some, IfOk, OnOk, OnErr, Result, Ok, Err, if◌then◌else◌}
 use Rattle.std.specs.Option.{option_map_or}
 use Rattle.rv_base.specs.declared.memory.NoMemory.{NoMemory}
 use Rattle.rv_hart.specs.declared.trap.Outcome.{Outcome}
@@ -21,54 +21,48 @@ use Rattle.rv_answers.specs.declared.values.Trap.{Trap}
 use Rattle.rv_monitor.specs.Commands as monitor
 use Rattle.rv_monitor.specs.Commands.{command_in}
 use Rattle.rv_lab.specs.Answers.{place_of, standing}
-use Rattle.rv_lab.specs.Commands.{begun, gone_on, monitored_run, planned, stepped, with_console, with_piece, with_steps}
+use Rattle.rv_lab.specs.Commands.{begun, gone_on, is_traced, monitored_run, piece_most, planned, stepped, tells_last, with_piece, with_steps}
 use Rattle.rv_lab.specs.Refusals.{StopsShort, nowhere}
-use Rattle.rv_lab.specs.Runs.{aim_of, changes, end_of, ending_of, monitor_answer, next_step, next_steps, over_answer, run_answer, step_answer, step_value, trace_answer, trace_ending, trap_in}
-use Rattle.rv_lab.specs.State.{LabState, board, registers_of, timed}
-use Rattle.rv_lab.specs.Support.Short.{GoesOnWith, IsOnWay, Traced}
+use Rattle.rv_lab.specs.Runs.{aim_of, changes, end_of, ending_of, monitor_answer, next_step, next_steps, over_answer, run_answer, step_answer, step_value, trap_in}
+use Rattle.rv_lab.specs.State.{LabState, board, registers_of, sent, timed}
+use Rattle.rv_lab.specs.Support.Short.{GoesOnWith, IsOnWay, Traced, call_answer, told_steps}
 use Rattle.rv_lab.specs.declared.lab.Done.{Done}
 use Rattle.rv_lab.specs.declared.plan.Goal.{Goal}
 use Rattle.rv_lab.specs.declared.plan.Goal.TheVariants as goal
 use Rattle.rv_lab.specs.declared.plan.Plan.{Plan}
-use Rattle.rv_lab.proofs.Runs.{told_end, traced_last}
+use Rattle.rv_lab.proofs.Runs.{told_call, traced_last}
 use Rattle.rv_lab.proofs.Short.{on_err, to_steps}
 
 -- ---- runs
 
-plan_kept : (b : Bool) (mid : LabState) → (if b then mid else with_console mid).plan ≡ mid.plan
-plan_kept true mid = refl
-plan_kept false mid = refl
+answer_by : (b : Bool) (f : List Step → Answer) (xs : List Step) (a : Answer)
+    → (if b then f (if b then xs else []) else a) ≡ (if b then f xs else a)
+answer_by true f xs a = refl
+answer_by false f xs a = refl
 
-pub running : (p rest : Plan) (kept : Option Plan) (old mid new : LabState) (n : ℕ) → kept ≡ mid.plan
-    → kept ≡ Some rest → new ≡ (if rest.is_monitored then mid else with_console mid) → n ≡ (timed new).taken
-    → answers.Running n ≡ run_answer p old new
+pub answered : (p : Plan) (end : End) (steps : List Step) (old new : LabState) (a : Answer) → end ≡ end_of p old
+    → steps ≡ told_steps p.goal (piece_most p old) old → a ≡ call_answer p end steps new → a ≡ run_answer p old new
 unfolding run_answer
-running p rest kept old mid new n now e told is =
-    let some : new.plan ≡ Some rest =
-    ap (λ (l : LabState). l.plan) told ∙ (plan_kept rest.is_monitored mid ∙ (sym now ∙ e)) in
-    ap (λ (k : ℕ). answers.Running k) is ∙ sym (rw some refl)
-
-pub over : (p : Plan) (end : End) (kept : Option Plan) (old mid new : LabState) (a : Answer) → kept ≡ mid.plan
-    → kept ≡ None → new ≡ with_console mid → end ≡ end_of p old → a ≡ over_answer p.is_monitored p.goal end new
-    → a ≡ run_answer p old new
-unfolding run_answer
-over p end kept old mid new a now e told ended h =
-    let none : new.plan ≡ None = ap (λ (l : LabState). l.plan) told ∙ (sym now ∙ e) in
-    h ∙ (ap (λ (x : End). over_answer p.is_monitored p.goal x new) ended ∙ sym (rw none refl))
+answered p end steps old new a ended rows h =
+    h ∙ (ap (λ (e : End). call_answer p e steps new) ended ∙ (ap (λ (xs : List Step). call_answer p (end_of p old) xs new) rows
+    ∙ answer_by (is_traced p.goal)
+    (λ xs. answers.Traced (record { steps = xs; ending = ending_of (end_of p old); standing = standing new }))
+    (next_steps (piece_most p old) old) _))
 
 -- memory ran out after a whole run
-pub over_short : {A : Type 0} (r : Result A NoMemory) (p : Plan) (kept : Option Plan) (old mid new : LabState)
-    → mid ≡ with_piece p old → kept ≡ mid.plan → kept ≡ None → new ≡ with_console mid
-    → OnErr r (StopsShort (GoesOnWith p) old new)
-over_short r p kept old mid new is now e told =
-    let all : new ≡ gone_on p old = told_end p kept old mid new is now e told in
-    let none : (gone_on p old).plan ≡ None = sym (ap (λ (l : LabState). l.plan) is) ∙ (sym now ∙ e) in
+pub over_short : {A : Type 0} (r : Result A NoMemory) (p : Plan) (waits : Bool) (old mid new : LabState)
+    → mid ≡ with_piece p old → waits ≡ tells_last p
+    → new ≡ record mid { told = if waits && is_some mid.plan then mid.told else sent mid }
+    → new.plan ≡ None → OnErr r (StopsShort (GoesOnWith p) old new)
+over_short r p waits old mid new is w told none =
+    let all : new ≡ gone_on p old = told_call p waits old mid new is w told in
+    let last : (gone_on p old).plan ≡ None = sym (ap (λ (l : LabState). l.plan) all) ∙ none in
     on_err r (StopsShort (GoesOnWith p) old new) (subst (StopsShort (GoesOnWith p) old) (sym all) (
       gone_on p old,
       refl,
       to_steps (timed old) _,
       nowhere,
-      ap (λ (q : Option Plan). record (gone_on p old) { plan = q }) none,
+      ap (λ (q : Option Plan). record (gone_on p old) { plan = q }) last,
     ))
 
 -- ---- a step
@@ -282,15 +276,12 @@ more_steps (Ok x) (suc n) old mid v xs ys zs h e some g f =
     ∙ (ap (λ (l : LabState). v ∷ next_steps n l) at
     ∙ (ap (λ (w : Step). w ∷ next_steps n (with_steps 1 old)) may.1 ∙ sym (rw may.0 refl))))))
 
-pub traced : (n : ℕ) (old mid new : LabState) (steps : List Step) (en : Ending) (st : Standing) → mid ≡ begun old
-    → steps ≡ [] ++ next_steps n mid → en ≡ trace_ending new → st ≡ standing new
-    → answers.Traced (record { steps = steps; ending = en; standing = st }) ≡ trace_answer n old new
-unfolding trace_answer
-traced n old mid new steps en st e is ends stands =
-    ap (λ (x : Standing). answers.Traced (record { steps = steps; ending = en; standing = x })) stands
-    ∙ (ap (λ (x : Ending). answers.Traced (record { steps = steps; ending = x; standing = standing new })) ends
-    ∙ ap (λ (vs : List Step). answers.Traced (record { steps = vs; ending = trace_ending new; standing = standing new }))
-    (is ∙ (ap (next_steps n) e ∙ same_steps n old _ _ _ old.count old.plan)))
+-- the steps of a call that are told, without the plan
+pub told_of : (g : Goal) (n : ℕ) (old at_first : LabState) → at_first ≡ record old { plan = None }
+    → told_steps g n at_first ≡ told_steps g n old
+told_of g n old at_first e =
+    ap (told_steps g n) e
+    ∙ ap (λ (xs : List Step). if is_traced g then xs else []) (same_steps n old _ _ _ old.count None)
 
 -- ---- `s`
 

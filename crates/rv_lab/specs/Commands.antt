@@ -1,6 +1,6 @@
 -- To audit: public contracts cite this.
 -- What each order leaves of a lab, by which a command line asks for something (this project's own: docs/LAB.md).
-use Rattle.std.specs.Prelude.{◌≡◌, ℕ, zero, suc, ◌+◌, ◌-◌, ◌≤◌, ◌&&◌, true, false, if◌then◌else◌, is_none, is_some, max, min, nat_lt, List, fold, Option, Some, None, MatchOption, unwrap_or}
+use Rattle.std.specs.Prelude.{◌≡◌, ℕ, ◌+◌, ◌-◌, ◌≤◌, ◌&&◌, ◌||◌, Bool, true, false, if◌then◌else◌, is_none, is_some, max, min, nat_lt, List, fold, Option, Some, None, MatchOption, unwrap_or}
 use Rattle.rv_timeline.specs.declared.input.Input.{Input}
 use Rattle.rv_monitor.specs.Commands.{command_in}
 use Rattle.rv_commands.specs.declared.command.Command as commands
@@ -20,8 +20,6 @@ use Rattle.rv_lab.specs.declared.plan.Goal.{Goal}
 use Rattle.rv_lab.specs.declared.plan.Goal.TheVariants as goal
 use Rattle.rv_answers.specs.declared.command.Command.{Command}
 use Rattle.rv_answers.specs.declared.command.Command.TheVariants.{Why}
-use Rattle.rv_lab.specs.declared.order.Order.{Order}
-use Rattle.rv_lab.specs.declared.order.Order.TheVariants as orders
 use Rattle.rv_lab.specs.Words.{repeated}
 
 -- ---- changes of a session
@@ -39,6 +37,7 @@ planned goal most = record { goal = goal; left = most; is_monitored = false }
 -- why a run from a session on is over after some of its steps, if it is, by what it goes on for
 abbrev pub run_ends : Goal → SessionState → ℕ → Option End
 run_ends goal.Count s = step_ends s
+run_ends goal.Trace s = step_ends s
 run_ends goal.Break s = break_ends s
 run_ends (goal.Out calls) s = out_ends calls s
 run_ends (goal.Until condition) s = until_ends condition s
@@ -62,20 +61,32 @@ with_steps n l = record l { recording = with_timed l.recording (after (timed l) 
 abbrev pub with_console : LabState → LabState
 with_console l = record l { told = sent l }
 
--- the steps of a call of a run, which takes at most a piece
+-- the most steps of a call of a run, which is a piece, and those that it takes
+abbrev pub piece_most : Plan → LabState → ℕ
+piece_most p l = min p.left (max l.piece 1)
+
 abbrev pub piece_steps : Plan → LabState → ℕ
-piece_steps p l = steps_of (run_ends p.goal l.recording.session) (min p.left (max l.piece 1))
+piece_steps p l = steps_of (run_ends p.goal l.recording.session) (piece_most p l)
 
 -- the lab after that call, before its console is told
 abbrev pub with_piece : Plan → LabState → LabState
 with_piece p l =
     record (with_steps (piece_steps p l) l) { plan = plan_after p l.recording.session (piece_steps p l) }
 
--- the lab after it: the console was told, but for a run of the monitor, of which it is told at the end
+-- whether each step of a run is told
+abbrev pub is_traced : Goal → Bool
+is_traced goal.Trace = true
+is_traced other = false
+
+-- whether the console is told at the end of a run alone: of one of the monitor, and of a trace
+abbrev pub tells_last : Plan → Bool
+tells_last p = p.is_monitored || is_traced p.goal
+
+-- the lab after it: the console was told, unless that waits for the end
 abbrev pub gone_on : Plan → LabState → LabState
 gone_on p l =
     let done = with_piece p l in
-    record done { told = if p.is_monitored && is_some done.plan then l.told else sent done }
+    record done { told = if tells_last p && is_some done.plan then l.told else sent done }
 
 -- the run that isn't over went on for a call, if there is one
 abbrev pub GoesOn : LabState → LabState → Type 0
@@ -110,13 +121,9 @@ run_of _ limit = None
 abbrev pub monitored_run : List ℕ → SessionState → Option Plan
 monitored_run line s = run_of (command_in line s) s.limit
 
--- a recording after its next step, if one can be taken, and after n of them
+-- a recording after its next step, if one can be taken
 abbrev pub stepped : RecordingState → RecordingState
 stepped r = if may_step r.session then with_timed r (after r.session.timed 1) else r
-
-abbrev pub stepped_by : ℕ → RecordingState → RecordingState
-stepped_by zero r = r
-stepped_by (suc n) r = stepped_by n (stepped r)
 
 -- the lab before a command: it ends the run that isn't over, and what `why` follows, unless it is `why`
 abbrev pub trail_before : Command → Option Trail → Option Trail
@@ -139,11 +146,6 @@ monitor_next (Some monitored.Quit) new = next.Quit
 monitor_next c new = next_of new
 
 -- ---- the steps of a call
-
--- the most steps of a call for an order, of a lab with pieces of so many: a piece, or for `trace` all its steps
-abbrev pub call_limit : Order → ℕ → ℕ
-call_limit (orders.Trace n) piece = n
-call_limit order piece = max piece 1
 
 -- a call took n steps at most
 abbrev pub IsWithin : ℕ → LabState → LabState → Type 0

@@ -1,6 +1,6 @@
 -- To audit: public contracts cite this.
 -- The lines of a lab's source by their addresses, and which of them `l` lists (this project's own: docs/LAB.md).
-use Rattle.std.specs.Prelude.{ℕ, ◌-◌, ◌/◌, ◌==◌, ◌&&◌, false, find, get_or, if◌then◌else◌, length, nat_le, nat_lt, Option, None, option_and_then}
+use Rattle.std.specs.Prelude.{ℕ, ◌-◌, ◌==◌, ◌&&◌, false, find, get_or, if◌then◌else◌, length, nat_le, nat_lt, Option, None, option_and_then}
 use Rattle.std.specs.FinSet as set
 use Rattle.std.specs.List.{range_with_len}
 use Rattle.std.specs.Option.{option_map_or}

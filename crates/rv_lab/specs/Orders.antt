@@ -120,7 +120,7 @@ command_order Over word text l = orders.Run (planned (goal.Out 0) usual_steps)
 command_order (Moves Finish) word text l = orders.Run (planned (goal.Out 1) usual_steps)
 command_order (Moves Until) word text l = until_order text l
 command_order (Moves Trace) word text l = or_refused (count_of 10 1000 (words text))
-    (λ n. orders.Trace n) (refused (Moves Trace) text why.NoSteps)
+    (λ n. orders.Run (planned goal.Trace n)) (refused (Moves Trace) text why.NoSteps)
 command_order (Moves Back) word text l = back_order text (words text) l
 command_order command.List word text l = list_order (words text) l
 command_order Break word text l =

@@ -1,7 +1,7 @@
 -- To audit: public contracts cite this.
 -- What the commands that move the board, change breakpoints, give inputs or save answer, as values of the lab before
 -- and after (this project's own: docs/LAB.md).
-use Rattle.std.specs.Prelude.{◌≡◌, ℕ, zero, suc, ◌+◌, ◌-◌, ◌==◌, Bool, List, [], ◌∷◌, filter, if◌then◌else◌, is_some, length, map, max, min, nat_lt, not, codes, slice_get, slice_index, Option, Some, None, MatchOption, unwrap_or}
+use Rattle.std.specs.Prelude.{◌≡◌, ℕ, zero, suc, ◌+◌, ◌-◌, ◌==◌, Bool, List, [], ◌∷◌, filter, if◌then◌else◌, is_some, length, map, max, min, not, codes, slice_get, slice_index, Option, Some, None, MatchOption, unwrap_or}
 use Rattle.std.specs.FinSet as set
 use Rattle.std.specs.List.{range_with_len}
 use Rattle.std.specs.Option.{option_map, option_map_or}
@@ -36,7 +36,7 @@ use Rattle.rv_answers.specs.declared.values.Trap.{Trap}
 use Rattle.rv_why.specs.Why.{explanation}
 use Rattle.rv_why.specs.Origins.{origin, target_of}
 use Rattle.rv_lab.specs.Answers.{place_of, rows_answer, standing}
-use Rattle.rv_lab.specs.Commands.{begun, gone_on, monitor_next, monitored_run, next_of, piece_steps, planned, ready, run_ends, stepped, stepped_by, with_console, with_inputs, with_session, with_steps}
+use Rattle.rv_lab.specs.Commands.{begun, gone_on, monitor_next, monitored_run, is_traced, next_of, piece_most, piece_steps, planned, ready, run_ends, stepped, with_console, with_inputs, with_session, with_steps}
 use Rattle.rv_lab.specs.Orders.{ordered}
 use Rattle.rv_lab.specs.Saved.{steps_text}
 use Rattle.rv_lab.specs.State.{LabState, board, listing, registers_of, sent, timed}
@@ -118,6 +118,7 @@ until_aim l (condition.Compares watched cond exchanged value) = aim.Watch (watch
 
 abbrev pub aim_of : LabState → Goal → Aim
 aim_of l goal.Count = aim.Steps
+aim_of l goal.Trace = aim.Steps
 aim_of l goal.Break = aim.Breakpoint
 aim_of l (goal.Out calls) = aim.Return
 aim_of l (goal.Until c) = until_aim l c
@@ -139,10 +140,18 @@ over_answer is_monitored g end l =
       standing = standing l;
     })
 
+-- what a call of a trace answers: its steps
+abbrev pub trace_answer : Plan → (old new : LabState) → Answer
+trace_answer p old new = answers.Traced (record {
+  steps = next_steps (piece_most p old) old;
+  ending = ending_of (end_of p old);
+  standing = standing new;
+})
+
 -- what a call of a run answers
 unfoldable pub run_answer : Plan → (old new : LabState) → Answer
-run_answer p old new =
-    if is_some new.plan then answers.Running (timed new).taken else over_answer p.is_monitored p.goal (end_of p old) new
+run_answer p old new = if is_traced p.goal then trace_answer p old new
+    else (if is_some new.plan then answers.Running (timed new).taken else over_answer p.is_monitored p.goal (end_of p old) new)
 
 -- ---- commands that move the board
 
@@ -150,15 +159,6 @@ run_answer p old new =
 abbrev pub step_answer : (old new : LabState) → Answer
 step_answer old new = option_map_or (λ s. answers.Stepped (record { step = s; standing = standing new }))
     (next_step old) (answers.Stuck (standing new))
-
--- `trace`
-abbrev pub trace_ending : LabState → Ending
-trace_ending l = if is_some (board l).machine.bus.halt then ending.Halted
-    else (if nat_lt (timed l).taken l.recording.session.limit then ending.Limit else ending.Stuck)
-
-unfoldable pub trace_answer : ℕ → (old new : LabState) → Answer
-trace_answer n old new =
-    answers.Traced (record { steps = next_steps n old; ending = trace_ending new; standing = standing new })
 
 -- ---- other commands
 
@@ -224,8 +224,6 @@ does orders.Once old new =
     (step_answer old new)
 does (orders.Steps n) old new = runs (planned goal.Count n) (record old { count = n }) new
 does (orders.Run p) old new = runs p old new
-does (orders.Trace n) old new =
-    more (new ≡ with_console (record (begun old) { recording = stepped_by n old.recording })) (trace_answer n old new)
 does (orders.Back n) old new = let to = (timed old).taken - n in
     more (new ≡ with_console (record (begun old) { recording = gone_back old.recording to; before = to }))
     (answers.Back (standing new))

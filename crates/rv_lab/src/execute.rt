@@ -47,7 +47,6 @@ impl Lab {
             Order::Once => self.step_once(),
             Order::Steps(count) => self.run_steps(count),
             Order::Run(plan) => self.start(plan),
-            Order::Trace(count) => self.trace(count),
             Order::Back(count) => self.back(count),
             Order::List(excerpt, follows) => self.list(excerpt, follows),
             Order::Break(address) => self.set_break(address),

@@ -6,7 +6,7 @@ ghost use Rattle.rv_monitor.specs.Laws.{IsReached};
 ghost use Rattle.rv_recording.specs.Recording.{first_board};
 ghost use Rattle.rv_lab.specs.State.{listing, registers_of, setup};
 ghost use Rattle.rv_answers.specs.declared.command.Command.TheVariants.{StepOnce};
-ghost use Rattle.rv_lab.specs.Commands.{IsWithin, call_limit, ready};
+ghost use Rattle.rv_lab.specs.Commands.{IsWithin, ready};
 ghost use Rattle.rv_lab.specs.Refusals.{RunsOut};
 ghost use Rattle.rv_lab.specs.Support.Short.{Executes};
 ghost use Rattle.rv_lab.specs.Opening.{OpensLab};
@@ -274,8 +274,8 @@ impl Lab {
         }
     }
 
-    /// Executes a command line, and returns its answer. It takes at most a piece of steps, or for `trace` at
-    /// most 1,000: a longer run goes on by `go_on`.
+    /// Executes a command line, and returns its answer. It takes at most a piece of steps: a longer run goes on
+    /// by `go_on`.
     ///
     /// # Errors
     ///
@@ -287,7 +287,7 @@ impl Lab {
         ensures replies { IfOk result (λ r. r ≡ reply_to line.now self.old self.new) }
         ensures err { OnErr result (RunsOut (Leaves (ordered line.now self.old))
             (ready (line_command line.now) self.old) self.new) }
-        ensures bound { IsWithin (call_limit (ordered line.now self.old) self.old.piece) self.old self.new }
+        ensures bound { IsWithin (max self.old.piece 1) self.old self.new }
     {
         let from = self.board().console().len();
         let Done { next, answer } = self.obey(line)?;

@@ -33,8 +33,6 @@ pub(crate) enum Order {
     Steps(u64),
     /// To begin a run.
     Run(Plan),
-    /// To take some steps, and tell what each did.
-    Trace(u64),
     /// To go back by some steps.
     Back(u64),
     /// To list lines of the source, and whether they follow those that were listed last.
@@ -138,7 +136,7 @@ impl Lab {
         ensures { IfOk result (λ o. o ≡ command_order (command.Moves moves.Trace) [] operands.now self.now) }
     {
         match count_or(operands, USUAL_TRACED, MOST_TRACED) {
-            Some(count) => Ok(Order::Trace(count)),
+            Some(count) => Ok(run_order(Goal::Trace, count)),
             None => self.refuse(Command::Moves(Move::Trace), operands, Why::NoSteps),
         }
     }

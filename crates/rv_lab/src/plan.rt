@@ -1,4 +1,7 @@
 //! What goes on in later commands: a run that isn't over, and what `why` follows.
+ghost use Rattle.std.specs.Prelude.{◌≡◌};
+ghost use Rattle.rv_lab.specs.Commands as spec;
+
 use rv_recording::{Condition, Watched};
 
 /// What a run goes on for.
@@ -6,6 +9,8 @@ use rv_recording::{Condition, Watched};
 pub(crate) enum Goal {
     /// A number of steps.
     Count,
+    /// A number of steps, each of which is told.
+    Trace,
     /// A breakpoint.
     Break,
     /// The return from all of these open calls and handlers.
@@ -23,6 +28,24 @@ pub(crate) struct Plan {
     pub(crate) left: u64,
     /// Whether a command of the monitor asked for it, which then tells its end.
     pub(crate) is_monitored: bool,
+}
+
+impl Goal {
+    /// Returns whether each step of a run is told.
+    pub(crate) fn is_traced(&self) -> bool
+        ensures { result ≡ spec.is_traced self.now }
+    {
+        matches!(self, Goal::Trace)
+    }
+}
+
+impl Plan {
+    /// Returns whether the console is told at the end of the run alone.
+    pub(crate) fn tells_last(&self) -> bool
+        ensures { result ≡ spec.tells_last self.now }
+    {
+        self.is_monitored || self.goal.is_traced()
+    }
 }
 
 /// What `why` follows, and among how many of the first steps.

@@ -1,14 +1,14 @@
 //! Commands that move the board.
-ghost use Rattle.std.specs.Prelude.{◌≡◌, ◌≤◌, Ok, Some, None, IfOk, OnErr, OnOk, max, min};
+ghost use Rattle.std.specs.Prelude.{◌≡◌, ◌≤◌, ◌++◌, Ok, Some, None, IfOk, OnErr, OnOk, max, min};
 ghost use Rattle.rv_lab.specs.Answers.{standing};
 ghost use Rattle.rv_lab.specs.declared.lab.Next.TheVariants as after;
 ghost use Rattle.rv_lab.specs.declared.order.Order.TheVariants as orders;
 ghost use Rattle.rv_lab.specs.declared.plan.Goal.TheVariants as goal;
-ghost use Rattle.rv_lab.specs.Commands.{GoesOn, InPieces, IsWithin, begun, goal_after, next_of, planned, run_ends, with_piece, with_session};
+ghost use Rattle.rv_lab.specs.Commands.{GoesOn, InPieces, IsWithin, begun, goal_after, next_of, piece_most, planned, run_ends, with_piece, with_session};
 ghost use Rattle.rv_lab.specs.Refusals.{RunsOut, StopsShort};
 ghost use Rattle.rv_lab.specs.Runs.{Leaves, end_of, reply_on, run_answer};
 ghost use Rattle.rv_answers.specs.declared.answer.Answer.TheVariants as answers;
-ghost use Rattle.rv_lab.specs.Support.Short.{GoesOnWith, Starts, Steps, backed, rest_of};
+ghost use Rattle.rv_lab.specs.Support.Short.{GoesOnWith, Starts, Steps, StopsIn, backed, call_answer, rest_of, told_steps};
 ghost use Rattle.rv_monitor.specs.Stops.{steps_between};
 ghost use Rattle.rv_recording.specs.Until.{HasRun};
 ghost use Rattle.rv_recording.specs.Refused.{IsRefusedIn};
@@ -18,7 +18,8 @@ ghost use Rattle.rv_monitor.specs.State.{IsInTime};
 use crate::lab::{Done, Lab, Next, Reply};
 use crate::plan::{Goal, Plan};
 use crate::registers::registers_of;
-use rv_answers::Answer;
+use crate::tell::ending_of;
+use rv_answers::{Answer, Many, Step, Trace};
 use rv_base::NoMemory;
 use rv_recording::{End, Recording};
 
@@ -46,7 +47,7 @@ fn run_for(recording: &mut Recording, goal: &mut Goal, most: u64) -> Result<End,
     ensures others { recording.new ≡ record recording.old { session = recording.new.session } }
 {
     match *goal {
-        Goal::Count => recording.run_steps(most),
+        Goal::Count | Goal::Trace => recording.run_steps(most),
         Goal::Break => recording.run_to_break(most),
         Goal::Until(condition) => recording.run_until(condition, most),
         Goal::Out(open) => {
@@ -61,8 +62,8 @@ fn run_for(recording: &mut Recording, goal: &mut Goal, most: u64) -> Result<End,
 impl Plan {
     /// Returns the plan of the run after `done` steps of it that ended so, if the run isn't over. `goal` is what
     /// it goes on for then.
-    fn rest(self, goal: Goal, end: End, done: u64) -> Option<Plan>
-        ensures { result ≡ rest_of self goal end done }
+    fn rest(&self, goal: Goal, end: End, done: u64) -> Option<Plan>
+        ensures { result ≡ rest_of self.now goal end done }
     {
         if !matches!(end, End::Limit) || done >= self.left {
             return None;
@@ -107,7 +108,7 @@ impl Lab {
     }
 
     /// Goes on with a run.
-    #[tactic(auto, using(crate::proofs::Runs::told_end, crate::proofs::Runs::running_next, crate::proofs::Runs::ended_next, crate::proofs::Told::running, crate::proofs::Told::over, crate::proofs::Told::over_short))]
+    #[tactic(auto, using(crate::proofs::Runs::told_call, crate::proofs::Told::answered, crate::proofs::Told::over_short))]
     fn go_on_with(&mut self, plan: Plan) -> Result<Done, NoMemory>
         ensures setup { setup self.new ≡ setup self.old }
         ensures goes_on { OnOk result (GoesOnWith plan self.old self.new) }
@@ -115,23 +116,32 @@ impl Lab {
         ensures answers { IfOk result (λ d. d.answer ≡ run_answer plan self.old self.new) }
         ensures err { OnErr result (StopsShort (GoesOnWith plan) self.old self.new) }
     {
-        let goal = plan.goal;
-        let is_monitored = plan.is_monitored;
-        let end = self.take_piece(plan)?;
-        match self.plan() {
-            Some(rest) => {
-                self.tell_piece(rest.is_monitored);
-                Ok(Done {
-                    next: Next::Running,
-                    answer: Answer::Running(self.steps()),
-                })
-            }
-            None => {
-                self.tell_console();
-                let answer = self.over_answer(is_monitored, goal, end)?;
-                Ok(Done::more(answer))
-            }
+        let mut steps = Vec::new(self.alloc);
+        let end = self.take_piece(&plan, &mut steps)?;
+        self.tell_piece(plan.tells_last());
+        Ok(Done {
+            next: self.next(),
+            answer: self.call_answer(&plan, end, steps)?,
+        })
+    }
+
+    /// Answers a call of a run that ended so: what its steps did, if they are told, and else why the run is over, if it
+    /// is.
+    fn call_answer(&self, plan: &Plan, end: End, steps: Vec<Step>) -> Result<Answer, NoMemory>
+        ensures answers { IfOk result (λ a. a ≡ call_answer plan.now end steps.items self.now) }
+        ensures err { OnErr result (self.now.plan ≡ None) }
+    {
+        if plan.goal.is_traced() {
+            return Ok(Answer::Traced(Trace {
+                steps: Many::of(steps),
+                ending: ending_of(end),
+                standing: self.standing(),
+            }));
         }
+        if self.last.plan.is_some() {
+            return Ok(Answer::Running(self.steps()));
+        }
+        self.over_answer(plan.is_monitored, plan.goal, end)
     }
 
     /// Takes steps of a run, as `run_for` does.
@@ -140,11 +150,34 @@ impl Lab {
             self.old.recording.session self.new.recording.session) }
         ensures goal { OnOk result (goal.new
             ≡ goal_after goal.old (timed self.old) (steps_between (timed self.old) (timed self.new))) }
-        ensures err { OnErr result (IsRefusedIn (run_ends goal.old self.old.recording.session) most
-            self.old.recording.session self.new.recording.session) }
+        ensures err { OnErr result (StopsIn (run_ends goal.old self.old.recording.session) most self.old self.new) }
         ensures others { self.new ≡ with_session self.old self.new.recording.session }
     {
+        // It tells that the board is the run of the recorded events.
+        let _board = self.board();
         run_for(&mut self.recording, goal, most)
+    }
+
+    /// Takes steps of a run, as `run_for` does, and appends what each did if they are told.
+    #[tactic(auto, using(crate::proofs::Tracing::trace_ran, crate::proofs::Tracing::trace_aims, crate::proofs::Tracing::trace_told, crate::proofs::Tracing::trace_stops, crate::proofs::Tracing::none_told))]
+    fn take_steps(
+        &mut self,
+        goal: &mut Goal,
+        most: u64,
+        steps: &mut Vec<Step>,
+    ) -> Result<End, NoMemory>
+        ensures ok { IfOk result (HasRun (run_ends goal.old self.old.recording.session) most
+            self.old.recording.session self.new.recording.session) }
+        ensures goal { OnOk result (goal.new
+            ≡ goal_after goal.old (timed self.old) (steps_between (timed self.old) (timed self.new))) }
+        ensures steps { OnOk result (steps.new.items ≡ steps.old.items ++ told_steps goal.old most self.old) }
+        ensures err { OnErr result (StopsIn (run_ends goal.old self.old.recording.session) most self.old self.new) }
+        ensures others { self.new ≡ with_session self.old self.new.recording.session }
+    {
+        if goal.is_traced() {
+            return self.take_traced(most, steps);
+        }
+        self.run_board(goal, most)
     }
 
     /// Keeps the plan of the run that isn't over, if there is one.
@@ -154,23 +187,34 @@ impl Lab {
         self.last.plan = plan;
     }
 
-    /// Takes a piece of a run, and returns why it ended.
-    fn take_piece(&mut self, plan: Plan) -> Result<End, NoMemory>
+    /// Takes a piece of a run, appends what each step did if they are told, and returns why the piece ended.
+    fn take_piece(&mut self, plan: &Plan, steps: &mut Vec<Step>) -> Result<End, NoMemory>
         ensures setup { setup self.new ≡ setup self.old }
-        ensures piece { OnOk result (self.new ≡ with_piece plan self.old) }
-        ensures end { IfOk result (λ end. end ≡ end_of plan self.old) }
-        ensures err { OnErr result (StopsShort (GoesOnWith plan) self.old self.new) }
+        ensures piece { OnOk result (self.new ≡ with_piece plan.now self.old) }
+        ensures end { IfOk result (λ end. end ≡ end_of plan.now self.old) }
+        ensures steps { OnOk result
+            (steps.new.items ≡ steps.old.items ++ told_steps plan.now.goal (piece_most plan.now self.old) self.old) }
+        ensures err { OnErr result (StopsShort (GoesOnWith plan.now) self.old self.new) }
     {
-        // It tells that the board is the run of the recorded events.
-        let _board = self.board();
         let before = self.steps();
         let most = plan.left.min(self.piece.max(1));
         let mut goal = plan.goal;
         self.keep_plan(None);
-        let end = self.run_board(&mut goal, most)?;
+        let end = self.take_steps(&mut goal, most, steps)?;
         let done = self.steps().saturating_sub(before);
         self.keep_plan(plan.rest(goal, end, done));
         Ok(end)
+    }
+
+    /// Returns what follows: the run that isn't over, or another command.
+    fn next(&self) -> Next
+        ensures { result ≡ next_of self.now }
+    {
+        if self.last.plan.is_some() {
+            Next::Running
+        } else {
+            Next::More
+        }
     }
 
     /// Returns the run that isn't over, if there is one.

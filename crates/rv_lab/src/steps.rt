@@ -1,23 +1,23 @@
 //! Single steps and traces.
 ghost use Rattle.std.specs.Prelude.{◌≡◌, ◌<◌, ◌==◌, not, slice_index, ◌++◌, ◌∷◌, [], None, IfOk, OnErr, OnOk};
-ghost use Rattle.rv_lab.specs.Commands.{stepped};
+ghost use Rattle.rv_lab.specs.Commands.{stepped, with_session};
 ghost use Rattle.rv_lab.specs.Refusals.{StopsShort};
 ghost use Rattle.rv_lab.specs.Runs as spec;
-ghost use Rattle.rv_lab.specs.Runs.{Leaves, next_step, next_steps, step_answer, trace_answer};
+ghost use Rattle.rv_lab.specs.Runs.{Leaves, next_step, next_steps, step_answer};
+ghost use Rattle.rv_recording.specs.Until.{HasRun, step_ends};
 ghost use Rattle.rv_lab.specs.declared.lab.Next.TheVariants as after;
 ghost use Rattle.rv_lab.specs.declared.order.Order.TheVariants as orders;
 ghost use Rattle.rv_lab.specs.State.{board, registers_of, timed};
-ghost use Rattle.rv_lab.specs.Support.Short.{IsOnWay, Traced, Traces};
+ghost use Rattle.rv_lab.specs.Support.Short.{IsOnWay, StopsIn, Traced, end_now, stepped_by};
 
 use crate::lab::{Done, Lab};
 use crate::registers::registers_of;
-use rv_answers::{
-    Answer, Ending, Many, Place, RegisterValue, Registers, Step, Stepped, Trace, Trap, push,
-};
+use rv_answers::{Answer, Many, Place, RegisterValue, Registers, Step, Stepped, Trap, push};
 use rv_base::NoMemory;
 use rv_board::TrapRecord;
 use rv_hart::Outcome;
 use rv_isa::Reg;
+use rv_recording::End;
 use std::alloc::Global;
 
 /// Returns whether the values of a register differ.
@@ -137,10 +137,11 @@ impl Lab {
     /// Takes steps, at most `count`, and appends what each did.
     #[tactic(auto, using(crate::proofs::Runs::traced_none, crate::proofs::Told::trace_ends, crate::proofs::Told::no_steps, crate::proofs::Told::last_steps))]
     fn trace_steps(&mut self, count: u64, steps: &mut Vec<Step>) -> Result<(), NoMemory>
-        requires { self.old.plan ≡ None }
         ensures traced { OnOk result (Traced count self.old self.new) }
         ensures steps { OnOk result (steps.new.items ≡ steps.old.items ++ next_steps count self.old) }
-        ensures err { OnErr result (StopsShort (Traced count) self.old self.new) }
+        ensures err { OnErr result
+            (IsOnWay self.old.recording self.new.recording (stepped_by count self.old.recording)) }
+        ensures others { self.new ≡ record self.old { recording = self.new.recording } }
     {
         if count == 0 {
             return Ok(());
@@ -152,36 +153,30 @@ impl Lab {
         self.trace_steps(count - 1, steps)
     }
 
-    /// Returns why there are no more steps of a trace.
-    fn trace_ending(&self) -> Ending
-        ensures { result ≡ spec.trace_ending self.now }
+    /// Returns why steps past any breakpoint are over.
+    fn end_now(&self) -> End
+        ensures { result ≡ end_now self.now.recording.session }
     {
         if self.board().halted().is_some() {
-            Ending::Halted
+            End::Halted
         } else if self.steps() < self.recording.session().limit() {
-            Ending::Limit
+            End::Limit
         } else {
-            Ending::Stuck
+            End::Stuck
         }
     }
 
-    /// Takes some steps, and answers what each did.
-    pub(crate) fn trace(&mut self, count: u64) -> Result<Done, NoMemory>
-        requires { self.old.plan ≡ None }
-        ensures leaves { OnOk result (Traces count self.old self.new) }
-        ensures next { IfOk result (λ d. d.next ≡ after.More) }
-        ensures answers { IfOk result (λ d. d.answer ≡ trace_answer count self.old self.new) }
-        ensures err { OnErr result (StopsShort (Traces count) self.old self.new) }
+    /// Takes steps, at most `most`, appends what each did, and returns why they are over.
+    pub(crate) fn take_traced(&mut self, most: u64, steps: &mut Vec<Step>) -> Result<End, NoMemory>
+        ensures ok { IfOk result (HasRun (step_ends self.old.recording.session) most
+            self.old.recording.session self.new.recording.session) }
+        ensures steps { OnOk result (steps.new.items ≡ steps.old.items ++ next_steps most self.old) }
+        ensures err { OnErr result (StopsIn (step_ends self.old.recording.session) most self.old self.new) }
+        ensures others { self.new ≡ with_session self.old self.new.recording.session }
     {
-        self.begin();
-        let mut steps = Vec::new(self.alloc);
-        self.trace_steps(count, &mut steps)?;
-        self.tell_console();
-        let trace = Trace {
-            steps: Many::of(steps),
-            ending: self.trace_ending(),
-            standing: self.standing(),
-        };
-        Ok(Done::more(Answer::Traced(trace)))
+        // It tells that the board is the run of the recorded events.
+        let _board = self.board();
+        self.trace_steps(most, steps)?;
+        Ok(self.end_now())
     }
 }

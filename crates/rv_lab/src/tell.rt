@@ -1,10 +1,10 @@
 //! What the console got, and how a run ended.
-ghost use Rattle.std.specs.Prelude.{◌≡◌, ◌-◌, if◌then◌else◌, length, slice_get, IfOk};
+ghost use Rattle.std.specs.Prelude.{◌≡◌, ◌-◌, ◌&&◌, if◌then◌else◌, is_some, length, slice_get, IfOk};
 ghost use Rattle.rv_lab.specs.Commands.{with_console};
 ghost use Rattle.rv_lab.specs.Runs as spec;
 ghost use Rattle.rv_lab.specs.Runs.{ending_of, watch_of};
 ghost use Rattle.rv_monitor.specs.Views.{stop_text};
-ghost use Rattle.rv_lab.specs.State.{board};
+ghost use Rattle.rv_lab.specs.State.{board, sent};
 
 use crate::lab::Lab;
 use crate::plan::Goal;
@@ -29,7 +29,7 @@ fn stop_word(end: End) -> &'static str
 }
 
 /// Returns why a run is over.
-fn ending_of(end: End) -> Ending
+pub(crate) fn ending_of(end: End) -> Ending
     ensures { result ≡ ending_of end }
 {
     match end {
@@ -49,12 +49,14 @@ impl Lab {
         self.last.told = self.board().console().len();
     }
 
-    /// Keeps that the bytes of the console were told that a piece of a run sent. The monitor tells nothing before the
-    /// end.
-    pub(crate) fn tell_piece(&mut self, is_monitored: bool)
-        ensures { self.new ≡ (if is_monitored then self.old else with_console self.old) }
+    /// Keeps that the bytes of the console were told that a piece of a run sent, unless that waits for the end of the
+    /// run.
+    pub(crate) fn tell_piece(&mut self, waits: bool)
+        ensures { self.new ≡ record self.old {
+          told = if waits && is_some self.old.plan then self.old.told else sent self.old;
+        } }
     {
-        if !is_monitored {
+        if !waits || self.last.plan.is_none() {
             self.tell_console();
         }
     }
@@ -107,7 +109,7 @@ impl Lab {
         ensures { result ≡ spec.aim_of self.now goal }
     {
         match goal {
-            Goal::Count => Aim::Steps,
+            Goal::Count | Goal::Trace => Aim::Steps,
             Goal::Break => Aim::Breakpoint,
             Goal::Out(_) => Aim::Return,
             Goal::Until(condition) => self.until_aim(condition),

@@ -6,8 +6,7 @@
 
 ghost use Rattle.std.specs.Prelude.{◌≡◌, ◌≤◌, ◌==◌, ◌⊎◌, ◌++◌, true, false, not, drop, length, max, [], Some, None, IfSome, is_some};
 ghost use Rattle.rv_lab.specs.State.{setup};
-ghost use Rattle.rv_lab.specs.Commands.{GoesOn, IsWithin, call_limit};
-ghost use Rattle.rv_lab.specs.Orders.{ordered};
+ghost use Rattle.rv_lab.specs.Commands.{GoesOn, IsWithin};
 ghost use Rattle.rv_lab.specs.Runs.{Obeys, reply_on, reply_to};
 ghost use Rattle.rv_base.specs.Lines.{lines};
 ghost use Rattle.rv_page.specs.Pages.{IsOpened, IsRefused, OfLabs, copied, empty, in_pieces, looks, reply_text, sent, taken, told_as};
@@ -63,9 +62,8 @@ pub extern "C" fn page_load(
 }
 
 /// Executes a command line of the lab: the JSON is its answer with what the console got, and the text is the answer for
-/// people. It takes at most `most` steps, or one, and
-/// for `trace` at most 1,000: a longer run goes on by `page_go_on`. The code is 0 if another command follows,
-/// 1 if the run goes on, 2 if what was done is to be saved under the line's name, 3 if no command follows, 4 if
+/// people. It takes at most `most` steps, or one: a longer run goes on by `page_go_on`. The code is 0 if another command
+/// follows, 1 if the run goes on, 2 if what was done is to be saved under the line's name, 3 if no command follows, 4 if
 /// memory ran out, and 5 if there is no lab.
 #[unsafe(no_mangle)]
 pub extern "C" fn page_command(handle: &mut Handle, line: &[u8], most: u64) -> u32
@@ -79,7 +77,7 @@ pub extern "C" fn page_command(handle: &mut Handle, line: &[u8], most: u64) -> u
         ≡ (told_as (reply_to line.now (in_pieces most l) m).next).0) }
     ensures json { result ≤ 3 → OfLabs handle.old.value handle.new.value
         (λ l m. handle.new.value.json.bytes ≡ reply_text m (reply_to line.now (in_pieces most l) m)) }
-    ensures bound { OfLabs handle.old.value handle.new.value (λ l. IsWithin (call_limit (ordered line.now (in_pieces most l)) (max most 1)) l) }
+    ensures bound { OfLabs handle.old.value handle.new.value (IsWithin (max most 1)) }
 {
     handle.state().command(line, most)
 }

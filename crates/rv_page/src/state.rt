@@ -1,8 +1,7 @@
 //! What the page keeps between two calls.
 ghost use Rattle.std.specs.Prelude.{◌≡◌, ◌≤◌, ◌==◌, ◌⊎◌, not, max, [], None, IfErr, IfOk, IfSome, OnOk, is_some};
 ghost use Rattle.rv_lab.specs.State.{setup};
-ghost use Rattle.rv_lab.specs.Commands.{GoesOn, IsWithin, call_limit};
-ghost use Rattle.rv_lab.specs.Orders.{ordered};
+ghost use Rattle.rv_lab.specs.Commands.{GoesOn, IsWithin};
 ghost use Rattle.rv_lab.specs.Runs.{Obeys, reply_on, reply_to};
 ghost use Rattle.rv_base.specs.Lines.{lines};
 ghost use Rattle.rv_page.specs.Pages.{IsOpened, IsRefused, OfLabs, TellsFault, blank, empty, in_pieces, looks, reply_text, sent, taken, told_as};
@@ -128,7 +127,7 @@ impl State {
             ≡ (told_as (reply_to line.now (in_pieces most l) m).next).0) }
         ensures json { result ≤ 3 → OfLabs self.old self.new
             (λ l m. self.new.json.bytes ≡ reply_text m (reply_to line.now (in_pieces most l) m)) }
-        ensures bound { OfLabs self.old self.new (λ l. IsWithin (call_limit (ordered line.now (in_pieces most l)) (max most 1)) l) }
+        ensures bound { OfLabs self.old self.new (IsWithin (max most 1)) }
     {
         self.clear();
         match &mut self.lab {

@@ -1,20 +1,26 @@
 -- Not to audit: private contracts alone cite this.
 -- Calls of parts of a lab, and those that stopped short.
-use Rattle.std.specs.Prelude.{◌≡◌, ℕ, ◌-◌, List, Option, Some, None, if◌then◌else◌, nat_lt, Result, IfOk, OnErr, OnOk}
+use Rattle.std.specs.Prelude.{◌≡◌, ℕ, zero, suc, ◌-◌, List, [], Option, Some, None, is_some, if◌then◌else◌, nat_lt, Result, IfOk, OnErr, OnOk}
 use Rattle.rv_base.specs.declared.memory.NoMemory.{NoMemory}
 use Rattle.rv_timeline.specs.declared.input.Input.{Input}
 use Rattle.rv_recording.specs.Recording.{RecordingState, gone_back, with_timed}
+use Rattle.rv_recording.specs.Until.{steps_of}
 use Rattle.rv_monitor.specs.Commands as monitor
 use Rattle.rv_monitor.specs.Commands.{command_in}
-use Rattle.rv_lab.specs.Commands.{begun, gone_on, stepped_by, with_console, with_inputs, with_session}
+use Rattle.rv_monitor.specs.State.{SessionState, after}
+use Rattle.rv_answers.specs.declared.answer.Answer.{Answer}
+use Rattle.rv_answers.specs.declared.answer.Answer.TheVariants as answers
+use Rattle.rv_answers.specs.declared.moves.Step.{Step}
+use Rattle.rv_lab.specs.Answers.{standing}
+use Rattle.rv_lab.specs.Commands.{begun, gone_on, is_traced, stepped, with_console, with_inputs, with_session}
 use Rattle.rv_lab.specs.declared.order.Order.TheVariants as orders
 use Rattle.rv_lab.specs.Refusals.{Leads, RunsOut}
-use Rattle.rv_lab.specs.Runs.{Leaves, does}
+use Rattle.rv_lab.specs.Runs.{Leaves, does, ending_of, next_steps, over_answer}
 use Rattle.rv_lab.specs.declared.lab.Done.{Done}
 use Rattle.rv_lab.specs.declared.order.Order.{Order}
-use Rattle.rv_lab.specs.State.{LabState}
+use Rattle.rv_lab.specs.State.{LabState, timed}
 use Rattle.rv_recording.specs.declared.until.End.{End}
-use Rattle.rv_recording.specs.declared.until.End.TheVariants.{Limit}
+use Rattle.rv_recording.specs.declared.until.End.TheVariants.{Halted, Limit, Stuck}
 use Rattle.rv_lab.specs.declared.plan.Goal.{Goal}
 use Rattle.rv_lab.specs.declared.plan.Plan.{Plan}
 
@@ -34,9 +40,6 @@ Starts p = Leaves (orders.Run p)
 abbrev pub Steps : ℕ → LabState → LabState → Type 0
 Steps n = Leaves (orders.Steps n)
 
-abbrev pub Traces : ℕ → LabState → LabState → Type 0
-Traces n = Leaves (orders.Trace n)
-
 abbrev pub Monitors : List ℕ → LabState → LabState → Type 0
 Monitors line = Leaves (orders.Monitor line)
 
@@ -51,8 +54,18 @@ Looks line old new = (new ≡ with_session old new.recording.session)
 abbrev pub backed : LabState → ℕ → LabState
 backed l n = with_console (record (begun l) { recording = gone_back l.recording n; before = n })
 
+-- a recording after its next n steps, or those that can be taken
+abbrev pub stepped_by : ℕ → RecordingState → RecordingState
+stepped_by zero r = r
+stepped_by (suc n) r = stepped_by n (stepped r)
+
 abbrev pub Traced : ℕ → LabState → LabState → Type 0
 Traced n old new = new ≡ record old { recording = stepped_by n old.recording }
+
+-- why steps past any breakpoint are over, by the session that they left
+abbrev pub end_now : SessionState → End
+end_now s = if is_some s.timed.board.machine.bus.halt then Halted
+    else (if nat_lt s.timed.taken s.limit then Limit else Stuck)
 
 -- a recording is on the way from another to a third
 abbrev pub IsOnWay : RecordingState → RecordingState → RecordingState → Type 0
@@ -63,6 +76,24 @@ IsOnWay old new done =
 -- a lab was to be given inputs
 abbrev pub Gives : List Input → LabState → LabState → Type 0
 Gives inputs old new = new ≡ with_inputs old inputs
+
+-- ---- calls of a run
+
+-- the steps of a call that are told: at most n
+abbrev pub told_steps : Goal → ℕ → LabState → List Step
+told_steps g n l = if is_traced g then next_steps n l else []
+
+-- what a call answers that told such steps and ended so, by the lab that it left
+abbrev pub call_answer : Plan → End → List Step → LabState → Answer
+call_answer p end steps l =
+    if is_traced p.goal then answers.Traced (record { steps = steps; ending = ending_of end; standing = standing l })
+    else (if is_some l.plan then answers.Running (timed l).taken else over_answer p.is_monitored p.goal end l)
+
+-- steps of a run of at most some stopped short
+abbrev pub StopsIn : (ℕ → Option End) → ℕ → LabState → LabState → Type 0
+StopsIn ends most old new =
+    Leads (timed old) (timed new) × Leads (timed new) (after (timed old) (steps_of ends most))
+    × (new ≡ record old { recording = with_timed old.recording (timed new) })
 
 -- the plan of a run after `done` steps of it that ended so, by what it goes on for then
 abbrev pub rest_of : Plan → Goal → End → ℕ → Option Plan

@@ -1,8 +1,7 @@
 use Rattle.std.proofs.Common.{◌∙◌, sym, arith}
-use Rattle.rv_lab.specs.Support.Short.{Traced}
-use Rattle.rv_lab.specs.Refusals.{StopsShort}
+use Rattle.rv_lab.specs.Support.Short.{IsOnWay, stepped_by}
 use Rattle.rv_lab.proofs.Runs.{traced_all}
-use Rattle.rv_lab.proofs.Short.{on_err, traced_further, traced_short}
+use Rattle.rv_lab.proofs.Short.{first_on_way, on_err, traced_further}
 use Rattle.rv_lab.proofs.Told.{more_steps, wholly}
 use Rattle.rv_lab.proofs.lab.Lab.+trace_steps.Goals as goal
 
@@ -20,15 +19,17 @@ returns-clause-steps t c =
 
 pub returns-in_err-step-clause-err : goal.returns-in_err-step-clause-err
 returns-in_err-step-clause-err t c =
-    on_err c.from_residual.result (StopsShort (Traced c.args.count) c.args.self.now c.take_step.new.self)
-    (traced_short c.args.count c.args.self.now c.take_step.new.self (omega arith) c.requires
-    c.in_err-step.ensures.err c.take_step.ensures.others)
+    on_err c.from_residual.result
+    (IsOnWay c.args.self.now.recording c.take_step.new.self.recording (stepped_by c.args.count c.args.self.now.recording))
+    (first_on_way c.args.count c.args.self.now.recording c.take_step.new.self.recording (omega arith)
+    c.in_err-step.ensures.err)
 
 pub returns-in_err-push_step-clause-err : goal.returns-in_err-push_step-clause-err
 returns-in_err-push_step-clause-err t c =
-    on_err c.from_residual-in_err-push_step.result (StopsShort (Traced c.args.count) c.args.self.now c.take_step.new.self)
-    (traced_short c.args.count c.args.self.now c.take_step.new.self (omega arith) c.requires
-    (wholly c.args.self.now c.take_step.new.self c.in_ok-step.ensures.step) c.take_step.ensures.others)
+    on_err c.from_residual-in_err-push_step.result
+    (IsOnWay c.args.self.now.recording c.take_step.new.self.recording (stepped_by c.args.count c.args.self.now.recording))
+    (first_on_way c.args.count c.args.self.now.recording c.take_step.new.self.recording (omega arith)
+    (wholly c.args.self.now c.take_step.new.self c.in_ok-step.ensures.step))
 
 pub returns-clause-err : goal.returns-clause-err
 returns-clause-err t c =

@@ -30,8 +30,3 @@ pub returns-in-Run : goal.returns-in-Run
 returns-in-Run c =
     executed_short c.args.order (orders.Run c.in-Run.plan) c.args.self.now c.start.new.self c.start.result c.in-Run.is
     c.start.ensures.runs c.start.ensures.next c.start.ensures.answers c.start.ensures.err
-
-pub returns-in-Trace : goal.returns-in-Trace
-returns-in-Trace c =
-    executed_short c.args.order (orders.Trace c.in-Trace.count) c.args.self.now c.trace.new.self c.trace.result
-    c.in-Trace.is c.trace.ensures.leaves c.trace.ensures.next c.trace.ensures.answers c.trace.ensures.err

@@ -1,13 +1,14 @@
-use Rattle.rv_lab.proofs.Runs.{told_piece}
-use Rattle.rv_lab.proofs.Told.{running}
+use Rattle.std.proofs.Common.{◌∙◌, ◌++◌, ap}
+use Rattle.rv_lab.specs.Commands.{piece_most}
+use Rattle.rv_lab.specs.Support.Short.{told_steps}
+use Rattle.rv_lab.proofs.Told.{answered}
 use Rattle.rv_lab.proofs.lab.Lab.go_on_with.Goals as goal
 
-pub returns-in-Some-clause-goes_on : goal.returns-in-Some-clause-goes_on
-returns-in-Some-clause-goes_on c =
-    told_piece c.args.plan c.in-Some.rest c.plan.result c.args.self.now c.take_piece.new.self c.tell_piece.new.self
-    c.in_ok-end.ensures.piece c.plan.ensures c.in-Some.is c.tell_piece.ensures
-
-pub returns-in-Some-clause-answers : goal.returns-in-Some-clause-answers
-returns-in-Some-clause-answers c =
-    running c.args.plan c.in-Some.rest c.plan.result c.args.self.now c.take_piece.new.self c.tell_piece.new.self
-    c.steps.result c.plan.ensures c.in-Some.is c.tell_piece.ensures c.steps.ensures
+pub returns-clause-answers : goal.returns-clause-answers
+returns-clause-answers c =
+    answered c.args.plan c.in_ok-end.end c.take_piece.new.steps.items c.args.self.now c.tell_piece.new.self
+    c.in_ok-call_answer.field-0 c.in_ok-end.ensures.end
+    (c.in_ok-end.ensures.steps
+    ∙ ap (λ xs. xs ++ told_steps c.args.plan.goal (piece_most c.args.plan c.args.self.now) c.args.self.now)
+    c.new-steps.ensures.items)
+    c.in_ok-call_answer.ensures.answers
