@@ -1,6 +1,6 @@
 -- The form of a line is that of its labels and its body.
-use Rattle.std.proofs.Common.{◌≡◌, ℕ, Bool, true, false, cond, List, [], ◌∷◌, length, refl, sym, subst, ap, ◌∙◌}
-use Rattle.std.specs.Prelude.{Option, Some, None, option_and_then, Result, Ok, Err}
+use Rattle.std.proofs.Common.{◌≡◌, ℕ, Bool, cond, List, [], ◌∷◌, length, refl, sym, subst, ◌∙◌, rules}
+use Rattle.std.specs.Prelude.{Option, Some, option_and_then, Result, Ok}
 use Rattle.std.specs.Option.{option_map, ok_or}
 use Rattle.rv_tokens.specs.declared.token.Token.{Token}
 use Rattle.rv_tokens.specs.declared.token.Token.TheVariants.{Name, Colon}
@@ -20,23 +20,14 @@ Form = List Label × Body
 abbrev after : ℕ → List Label × List Token → Option Form
 after n p = option_map (λ body. (p.0, body)) (body_of n p.1)
 
-one_more : (l : Label) (labels : List Label) (o : Option Body) → ◌≡◌ {A = Option Form}
-    (option_map {T = Form} (λ w. (l ∷ w.0, w.1)) (option_map (λ body. (labels, body)) o)) (option_map (λ body. (l ∷ labels, body)) o)
-one_more l labels None = refl
-one_more l labels (Some body) = refl
-
 more : (n : ℕ) (o : Option Label) (q : Option (List Label × List Token)) → ◌≡◌ {A = Option Form}
     (option_and_then (λ l. option_map {T = Form} (λ w. (l ∷ w.0, w.1)) (option_and_then (after n) q)) o)
     (option_and_then (after n) (option_and_then (λ l. option_map (λ p. (l ∷ p.0, p.1)) q) o))
-more n None q = refl
-more n (Some l) None = refl
-more n (Some l) (Some p) = one_more l p.0 (body_of n p.1)
+more n o q = search rules
 
 either : {A B C : Type 0} (f : B → C) (g : A → B) (m : B) (b : Bool) (o : Option A)
     → cond b (Some (f m)) (option_map (λ x. f (g x)) o) ≡ option_map f (cond b (Some m) (option_map g o))
-either f g m true o = refl
-either f g m false None = refl
-either f g m false (Some x) = refl
+either f g m b o = search rules
 
 form_is : (n : ℕ) (ts : List Token) → form n ts ≡ option_and_then (after n) (labels_of ts)
 unfolding form labels_of
@@ -48,19 +39,12 @@ form_is n (t ∷ ts) = refl
 chained : (n : ℕ) (o : Option (List Label × List Token)) → ◌≡◌ {A = Result Form LineFault}
     (ok_or (option_and_then (after n) o) Syntax)
     (ok_or o Syntax >>= λ p. ok_or (body_of n p.1) Syntax >>= λ body. Ok (p.0, body))
-chained n None = refl
-chained n (Some p) = by (body_of n p.1)
-  where
-    by : (o : Option Body) → ◌≡◌ {A = Result Form LineFault} (ok_or (option_map (λ body. (p.0, body)) o) Syntax)
-        (ok_or o Syntax >>= λ body. Ok (p.0, body))
-    by None = refl
-    by (Some body) = refl
+chained n o = search rules
 
 with_tokens : (r : Result (List Token) LineFault) → ◌≡◌ {A = Result Form LineFault}
     (r >>= λ ts. ok_or (form (length ts) ts) Syntax)
     (r >>= λ ts. ok_or (labels_of ts) Syntax >>= λ p. ok_or (body_of (length ts) p.1) Syntax >>= λ body. Ok (p.0, body))
-with_tokens (Ok ts) = ap (λ o. ok_or o Syntax) (form_is (length ts) ts) ∙ chained (length ts) (labels_of ts)
-with_tokens (Err fault) = refl
+with_tokens r = search (rules, form_is, chained)
 
 line_form_is : (line : List ℕ) → form_by_parts line ≡ line_form line
 unfolding form_by_parts line_form

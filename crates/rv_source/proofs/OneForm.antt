@@ -1,6 +1,6 @@
 -- Operands as a grammar: the tokens of one have one form.
-use Rattle.std.proofs.Common.{◌≡◌, ◌∙◌, ℕ, ◌-◌, List, [], ◌∷◌, ◌++◌, length, take, drop, refl, sym, ap, subst, arith, append_assoc, length-append}
-use Rattle.std.specs.Prelude.{◌↔◌, map, Option, Some, None, option_and_then, not}
+use Rattle.std.proofs.Common.{◌≡◌, ◌∙◌, ℕ, ◌-◌, List, [], ◌∷◌, ◌++◌, length, take, drop, refl, sym, ap, subst, append_assoc, length-append, rules}
+use Rattle.std.specs.Prelude.{◌↔◌, Option, Some, None, option_and_then, not}
 use Rattle.std.specs.Bool.{beq}
 use Rattle.std.specs.Option.{option_map, option_or}
 use Rattle.std.proofs.lemmas.List.{take_at, drop_at, take-append-drop, map-append}
@@ -47,9 +47,7 @@ sum_other (p.Other ∷ ps) qs = refl
 -- tokens with a bracket among them
 no_sum : (x : Token) (us vs : List Token) → piece_of x ≡ p.Other → expression (us ++ x ∷ vs) ≡ None
 unfolding expression
-no_sum x us vs is =
-    ap sum (map-append piece_of us (x ∷ vs))
-    ∙ (ap (λ (y : Piece). sum (map piece_of us ++ y ∷ map piece_of vs)) is ∙ sum_other (map piece_of us) (map piece_of vs))
+no_sum x us vs is = search (rules, map-append, sum_other)
 
 -- ---- tokens between brackets
 
@@ -58,18 +56,11 @@ abbrev closing : List Token → List Token → Option (List Token)
 closing inner ys = elim ys as (λ _. Option (List Token)) [ t.Close ∷ [] ↦ Some inner | _ ↦ None ]
 
 enclosed_is : (ts : List Token) → enclosed (t.Open ∷ ts ++ t.Close ∷ []) ≡ Some ts
-enclosed_is ts =
-    let xs = ts ++ t.Close ∷ [] in
-    let n : length xs - 1 ≡ length ts = omega (arith, length-append ts (t.Close ∷ [])) in
-    ap (λ (k : ℕ). closing (take k xs) (drop k xs)) n
-    ∙ (ap (λ (ys : List Token). closing (take (length ts) xs) ys) (drop_at ts (t.Close ∷ []) (length ts) refl)
-    ∙ ap (λ (ys : List Token). Some ys) (take_at ts (t.Close ∷ []) (length ts) refl))
+enclosed_is ts = search (rules, length-append, drop_at, take_at)
 
 closed : (n : ℕ) (xs ys ws : List Token) → closing (take n xs) ys ≡ Some ws → take n xs ++ ys ≡ xs
     → t.Open ∷ xs ≡ t.Open ∷ ws ++ t.Close ∷ []
-closed n xs (t.Close ∷ []) ws e all =
-    let is : take n xs ≡ ws = cc in
-    ap (λ (ys : List Token). t.Open ∷ ys) (sym all ∙ ap (λ (ys : List Token). ys ++ t.Close ∷ []) is)
+closed n xs (t.Close ∷ []) ws e all = search rules
 closed n xs ys ws e all = absurd cc
 
 enclosed_of : (ts ws : List Token) → enclosed ts ≡ Some ws → ts ≡ t.Open ∷ ws ++ t.Close ∷ []
@@ -81,18 +72,12 @@ enclosed_of ts ws e = absurd cc
 
 sum_with : (ts : List Token) (e : List Term) → expression ts ≡ Some e → form_with None ts ≡ Some (f.Value Whole e None)
 unfolding expression sum
-sum_with [] e h = absurd cc
-sum_with (t.Text bytes ∷ ts) e h = absurd cc
-sum_with (t.High ∷ ts) e h = absurd cc
-sum_with (t.Low ∷ ts) e h = absurd cc
-sum_with (x ∷ ts) e h = ap (option_map (λ (e : List Term). f.Value Whole e None)) h
+sum_with ts e h = search rules
 
 sum_at : (name : List ℕ) (ts : List Token) (e : List Term) → expression ts ≡ Some e
     → form_with (Some name) ts ≡ Some (f.Value Whole e (Some name))
 unfolding expression sum
-sum_at name [] e h = absurd cc
-sum_at name (t.Low ∷ ts) e h = absurd cc
-sum_at name (x ∷ ts) e h = ap (option_map (λ (e : List Term). f.Value Whole e (Some name))) h
+sum_at name ts e h = search rules
 
 -- an expression with (name) after it is none, and no operand without a base
 none_with : (name : List ℕ) (ts : List Token) (e : List Term) → expression ts ≡ Some e
@@ -107,8 +92,7 @@ none_with name (x ∷ ts) e h =
 
 part_with : (part : Part) (base : Option (List ℕ)) (ts : List Token) (e : List Term) → expression ts ≡ Some e
     → valued part base (enclosed (t.Open ∷ ts ++ t.Close ∷ [])) ≡ Some (f.Value part e base)
-part_with part base ts e h =
-    ap (valued part base) (enclosed_is ts) ∙ ap (option_map (λ (e : List Term). f.Value part e base)) h
+part_with part base ts e h = search (rules, length-append, drop_at, take_at)
 
 none_after : (name : List ℕ) (ts : List Token)
     → form_with None (t.Low ∷ t.Open ∷ ts ++ t.Close ∷ bracketed name) ≡ None
@@ -124,17 +108,7 @@ none_after name ts =
 with_base : (ts : List Token) (name : List ℕ) (form : Form) → form_with None (ts ++ bracketed name) ≡ None
     → form_with (Some name) ts ≡ Some form → form_of (ts ++ bracketed name) ≡ Some form
 unfolding form_of
-with_base ts name form none is =
-    let us = ts ++ bracketed name in
-    let n : length us - 3 ≡ length ts = omega (arith, length-append ts (bracketed name)) in
-    ap (λ (k : ℕ). option_or (form_with None us)
-    (option_and_then (λ (name : List ℕ). form_with (Some name) (take k us)) (base_of (drop k us)))) n
-    ∙ (ap (λ (o : Option Form). option_or o
-    (option_and_then (λ (name : List ℕ). form_with (Some name) (take (length ts) us)) (base_of (drop (length ts) us))))
-    none
-    ∙ (ap (λ (ys : List Token). option_and_then (λ (name : List ℕ). form_with (Some name) (take (length ts) us)) (base_of ys))
-    (drop_at ts (bracketed name) (length ts) refl)
-    ∙ (ap (form_with (Some name)) (take_at ts (bracketed name) (length ts) refl) ∙ is)))
+with_base ts name form none is = search (rules, length-append, drop_at, take_at)
 
 first : (o p : Option Form) (form : Form) → o ≡ Some form → option_or o p ≡ Some form
 first o p form is = ap (λ (o : Option Form). option_or o p) is
@@ -207,21 +181,15 @@ base_is name (x ∷ ts) form is =
     subst (λ vs. IsOperand (vs ++ bracketed name) (f.Value Whole e (Some name))) same (SumAndBase us e name spells))
 
 bracketed_is : (ts : List Token) (name : List ℕ) → base_of ts ≡ Some name → ts ≡ bracketed name
-bracketed_is (t.Open ∷ t.Name found ∷ t.Close ∷ []) name is = let same : found ≡ name = cc in ap bracketed same
-bracketed_is ts name is = absurd cc
+bracketed_is ts name is = search rules
 
 based : (ts front last : List Token) (form : Form) (o : Option (List ℕ)) → front ++ last ≡ ts → base_of last ≡ o
     → option_and_then (λ name. form_with (Some name) front) o ≡ Some form → IsOperand ts form
-based ts front last form None whole b is = absurd cc
-based ts front last form (Some name) whole b is =
-    subst (λ us. IsOperand us form) (ap (λ (us : List Token). front ++ us) (sym (bracketed_is last name b)) ∙ whole)
-    (base_is name front form is)
+based ts front last form o whole b is = search (rules, bracketed_is, base_is)
 
 either : (ts : List Token) (form : Form) (o p : Option Form) → form_with None ts ≡ o
     → (p ≡ Some form → IsOperand ts form) → option_or o p ≡ Some form → IsOperand ts form
-either ts form None p none other is = other is
-either ts form (Some x) p some other is =
-    let same : x ≡ form = cc in no_base_is ts form (some ∙ ap (λ (x : Form). Some x) same)
+either ts form o p none other is = search (rules, no_base_is)
 
 is_operand : (ts : List Token) (form : Form) → form_of ts ≡ Some form → IsOperand ts form
 unfolding form_of

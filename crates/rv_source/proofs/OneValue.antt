@@ -1,6 +1,6 @@
 -- Expressions as a grammar: the tokens of one have one reading.
-use Rattle.std.proofs.Common.{◌≡◌, Bool, false, not, List, [], ◌∷◌, ◌++◌, refl, subst, append_assoc}
-use Rattle.std.specs.Prelude.{◌↔◌, map, Option, Some, None}
+use Rattle.std.proofs.Common.{◌≡◌, Bool, false, not, List, [], ◌∷◌, ◌++◌, refl, subst, append_assoc, rules}
+use Rattle.std.specs.Prelude.{◌↔◌, map, Option, Some}
 use Rattle.std.specs.Bool.{beq}
 use Rattle.std.proofs.lemmas.List.{append-nil}
 use Rattle.rv_tokens.specs.declared.token.Token.{Token}
@@ -15,8 +15,7 @@ use Rattle.rv_source.specs.Support.Sums.{further, sum, expression, with_term}
 
 front_more : (s : Bool) (x : Atom) (o r : Option (List Term)) (ts us : List Term) → with_term s x o ≡ Some ts
     → ((vs : List Term) → o ≡ Some vs → r ≡ Some (vs ++ us)) → with_term s x r ≡ Some (ts ++ us)
-front_more s x None r ts us e h = cc
-front_more s x (Some vs) r ts us e h = let is : term s x ∷ vs ≡ ts = cc in rw (h vs refl, ← is) refl
+front_more s x o r ts us e h = search rules
 
 further_more : (ps qs : List Piece) (ts us : List Term) → further ps ≡ Some ts → further qs ≡ Some us →
     further (ps ++ qs) ≡ Some (ts ++ us)
@@ -37,30 +36,20 @@ further_more (p.Other ∷ ps) qs ts us e f = cc
 sum_more : (ps qs : List Piece) (ts us : List Term) → sum ps ≡ Some ts → further qs ≡ Some us →
     sum (ps ++ qs) ≡ Some (ts ++ us)
 unfolding sum
-sum_more [] qs ts us e f = cc
-sum_more (p.Atom x ∷ ps) qs ts us e f =
-    front_more false x (further ps) (further (ps ++ qs)) ts us e (λ vs i. further_more ps qs vs us i f)
-sum_more (p.Sign s ∷ p.Atom x ∷ ps) qs ts us e f =
-    front_more s x (further ps) (further (ps ++ qs)) ts us e (λ vs i. further_more ps qs vs us i f)
-sum_more (p.Sign s ∷ p.Sign r ∷ ps) qs ts us e f = cc
-sum_more (p.Sign s ∷ p.Other ∷ ps) qs ts us e f = cc
-sum_more (p.Sign s ∷ []) qs ts us e f = cc
-sum_more (p.Other ∷ ps) qs ts us e f = cc
+sum_more ps qs ts us e f = search (rules, front_more, further_more)
 
 reads : (ps : List Piece) (ts : List Term) → IsSum ps ts → sum ps ≡ Some ts
 unfolding sum further
 reads _ _ (Alone x) = refl
 reads _ _ (Signed s x) = refl
 reads _ _ (OneSign ps ts s x h) = sum_more ps (p.Sign s ∷ p.Atom x ∷ []) ts (term s x ∷ []) (reads ps ts h) refl
-reads _ _ (TwoSigns ps ts s r x h) =
-    sum_more ps (p.Sign s ∷ p.Sign r ∷ p.Atom x ∷ []) ts (term (not (beq s r)) x ∷ []) (reads ps ts h) refl
+reads _ _ (TwoSigns ps ts s r x h) = search (rules, sum_more, reads ps ts h)
 
 -- ---- what `sum` reads is a sum of the grammar
 
 front_of : (s : Bool) (x : Atom) (o : Option (List Term)) (us : List Term) (P : List Term → Type 0)
     → with_term s x o ≡ Some us → ((vs : List Term) → o ≡ Some vs → P (term s x ∷ vs)) → P us
-front_of s x None us P e h = absurd (cc)
-front_of s x (Some vs) us P e h = let is : term s x ∷ vs ≡ us = cc in subst P is (h vs refl)
+front_of s x o us P e h = search rules
 
 grows : (ps qs : List Piece) (ts us : List Term) → IsSum ps ts → further qs ≡ Some us → IsSum (ps ++ qs) (ts ++ us)
 unfolding further

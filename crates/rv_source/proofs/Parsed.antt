@@ -1,8 +1,7 @@
 -- A line as it is read is its form with the statement of its body, or the fault of one of them.
-use Rattle.std.proofs.Common.{◌≡◌, ℕ, List, refl, sym, ap, ◌∙◌}
+use Rattle.std.proofs.Common.{◌≡◌, ℕ, List, refl, sym, ap, ◌∙◌, rules}
 use Rattle.std.specs.Prelude.{Option, Result, Ok, Err}
 use Rattle.rv_tokens.specs.declared.fault.LineFault.{LineFault}
-use Rattle.rv_tokens.specs.declared.fault.LineFault.TheVariants.{OutOfMemory}
 use Rattle.rv_tokens.specs.Faults.{◌>>=◌}
 use Rattle.rv_tokens.specs.Support.Partial.{Fails}
 use Rattle.rv_source.specs.declared.line.Label.{Label}
@@ -25,18 +24,13 @@ module _ (text : List ℕ) (read : LineForm) (w : line_form text ≡ Ok read) wh
   as_parsed statement h = parsed_of ∙ ap (with_labels read.0) (sym h)
 
   pub statement_fails : (fault : LineFault) → Err fault ≡ statement_of read.1 → Fails fault (parsed text)
-  statement_fails fault h = by fault (parsed_of ∙ ap (with_labels read.0) (sym h))
-    where
-      by : (fault : LineFault) → parsed text ≡ Err fault → Fails fault (parsed text)
-      by OutOfMemory e = tt
-      by other e = e
+  statement_fails fault h = search (rules, parsed_of)
 
 -- ---- a line that has none
 
 bind_fails : (fault : LineFault) (r : Result LineForm LineFault) (f : LineForm → Result Parsed LineFault)
     → Fails fault r → Fails fault (r >>= f)
-bind_fails OutOfMemory r f h = h
-bind_fails fault r f h = rw h refl
+bind_fails fault r f h = search rules
 
 pub form_fails : (text : List ℕ) (fault : LineFault) → Fails fault (line_form text) → Fails fault (parsed text)
 unfolding parsed

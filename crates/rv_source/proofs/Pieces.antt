@@ -1,10 +1,9 @@
 -- Cutting operands at commas, one by one.
-use Rattle.std.proofs.Common.{◌≡◌, ℕ, ◌+◌, ◌-◌, ◌≤◌, Bool, true, false, cond, List, [], ◌∷◌, length, take, drop, refl, sym, ap, arith, append_assoc}
+use Rattle.std.proofs.Common.{◌≡◌, ℕ, ◌+◌, ◌-◌, ◌≤◌, Bool, cond, List, [], ◌∷◌, length, take, drop, refl, append_assoc, rules}
 use Rattle.std.proofs.Math.Numerals.{one-add}
-use Rattle.std.specs.Prelude.{not, ◌++◌, Option, Some, None, nat_lt}
+use Rattle.std.specs.Prelude.{◌++◌, Some, None, nat_lt}
 use Rattle.std.specs.Option.{option_map, unwrap_or}
-use Rattle.std.specs.List.{position_or_len, position, onto_first}
-use Rattle.std.proofs.lemmas.Bool.Decides.{nat_tests}
+use Rattle.std.specs.List.{position_or_len, position}
 use Rattle.std.proofs.lemmas.List.{take_all}
 use Rattle.std.proofs.lemmas.List.Sums.{prefix_len-le-length}
 use Rattle.rv_tokens.specs.declared.token.Token.{Token}
@@ -21,8 +20,7 @@ until_comma ts = position_or_len is_comma ts
 front_step : (t : Token) (ts : List Token) (b : Bool) → is_comma t ≡ b
     → pieces ts ≡ take (until_comma ts) ts ∷ pieces_after (drop (until_comma ts) ts)
     → pieces (t ∷ ts) ≡ take (until_comma (t ∷ ts)) (t ∷ ts) ∷ pieces_after (drop (until_comma (t ∷ ts)) (t ∷ ts))
-front_step t ts true e h = rw e refl
-front_step t ts false e h = rw (e, one-add) (ap (onto_first t) h)
+front_step t ts b e h = search (rules, one-add)
 
 front : (ts : List Token) → pieces ts ≡ take (until_comma ts) ts ∷ pieces_after (drop (until_comma ts) ts)
 front [] = refl
@@ -30,9 +28,7 @@ front (t ∷ ts) = front_step t ts (is_comma t) refl (front ts)
 
 is_until : (ts : List Token) (n : ℕ) (b : Bool) → nat_lt (until_comma ts) (length ts) ≡ b
     → n ≡ unwrap_or (cond b (Some (until_comma ts)) None) (length ts) → n ≡ until_comma ts
-is_until ts n true e h = h
-is_until ts n false e h =
-    let within = prefix_len-le-length (λ t. not (is_comma t)) ts in grind (arith, nat_tests, e, h, within)
+is_until ts n b e h = search (rules, prefix_len-le-length)
 
 -- the pieces of tokens that are cut at the first comma, or at their end
 pub cut_at : (ts : List Token) (n : ℕ) → n ≡ unwrap_or (position is_comma ts) (length ts)
@@ -41,8 +37,7 @@ cut_at ts n e = rw (is_until ts n (nat_lt (until_comma ts) (length ts)) refl e) 
 
 -- what follows a piece, without its comma
 pub after_comma : (ts : List Token) → 1 ≤ length ts → pieces_after ts ≡ pieces (take (length ts - 1) (drop 1 ts))
-after_comma [] h = absurd (omega arith)
-after_comma (t ∷ ts) h = ap pieces (sym (take_all (length (t ∷ ts) - 1) ts (omega arith)))
+after_comma ts h = search (rules, take_all)
 
 -- the operands of a piece and others, after some that are read
 pub operands_more : (old : List Operand) (n : ℕ) (piece : List Token) (others : List (List Token)) (form : Form)
@@ -51,12 +46,4 @@ pub operands_more : (old : List Operand) (n : ℕ) (piece : List Token) (others 
     ≡ option_map (λ xs. (old ++ record { first = n; count = length piece; form = form } ∷ []) ++ xs)
     (operands (n + length piece + 1) others)
 unfolding operands
-operands_more old n piece others form e = rw e (after (operands (n + length piece + 1) others))
-  where
-    x : Operand
-    x = record { first = n; count = length piece; form = form }
-
-    after : (r : Option (List Operand)) → option_map (λ xs. old ++ xs) (option_map (λ xs. x ∷ xs) r)
-        ≡ option_map (λ xs. (old ++ x ∷ []) ++ xs) r
-    after None = refl
-    after (Some xs) = ap (λ ys. Some ys) (sym (append_assoc old (x ∷ []) xs))
+operands_more old n piece others form e = search (rules, append_assoc)

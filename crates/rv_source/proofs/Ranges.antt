@@ -5,7 +5,6 @@ use Rattle.rv_isa.specs.Support.Mnemonics.{zeroed, with_fields}
 use Rattle.rv_isa.specs.Number.{IsWithin}
 use Rattle.rv_isa.specs.Word.{IsInRange}
 use Rattle.rv_isa.specs.declared.op.Operation.{Operation}
-use Rattle.rv_isa.specs.declared.op.Operation.TheVariants as o
 use Rattle.rv_source.specs.declared.field.Fields.{Fields}
 use Rattle.rv_source.specs.Fields.{immediate_of}
 
@@ -14,7 +13,6 @@ of_each : (x : Operation) (f : Fields) → f.rd < 32 → f.rs1 < 32 → f.rs2 < 
     → f.csr % 2 ^ 32 < 2 ^ 12 → (16 * f.before + f.after) % 2 ^ 32 < 2 ^ 12
     → IsInRange (kind_of (with_fields x f.rd f.rs1 f.rs2 (immediate_of (zeroed x) f)))
 unfolding kind_of zeroed
-of_each o.Lui f a b c h i j = search rules
 of_each x f a b c h i j = search rules
 
 pub in_range : (x : Operation) (f : Fields) → f.rd < 32 → f.rs1 < 32 → f.rs2 < 32 → IsWithin (2 ^ 11) f.imm

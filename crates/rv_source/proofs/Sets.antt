@@ -1,22 +1,18 @@
 -- The numbers of the sets that a fence orders, and of the control registers with names.
-use Rattle.std.proofs.Common.{◌≡◌, ℕ, ◌<◌, Bool, true, false, cond, List, [], ◌∷◌, refl, arith}
+use Rattle.std.proofs.Common.{◌≡◌, ℕ, ◌<◌, Bool, true, cond, List, [], ◌∷◌, refl, rules}
 use Rattle.std.specs.Prelude.{Option, Some, ◌&&◌, nat_lt}
 use Rattle.std.specs.List.{list_all}
 use Rattle.std.specs.Str.{bytes_eq}
-use Rattle.std.proofs.lemmas.Bool.Decides.{nat_tests}
 use Rattle.rv_base.specs.Tables.{lookup}
 use Rattle.rv_isa.specs.Names.{csr_names}
 use Rattle.rv_source.specs.Fields.{fence_sets}
 
 pub both_parts : (b c : Bool) → (b && c) ≡ true → (b ≡ true) × (c ≡ true)
-both_parts true true e = (refl, refl)
-both_parts true false e = cc
-both_parts false c e = cc
+both_parts b c e = search rules
 
 row_below : (bound : ℕ) (b : Bool) (m n : ℕ) (o : Option ℕ) → nat_lt m bound ≡ true → (o ≡ Some n → n < bound)
     → cond b (Some m) o ≡ Some n → n < bound
-row_below bound true m n o e more h = let same : m ≡ n = cc in grind (arith, nat_tests, e, same)
-row_below bound false m n o e more h = more h
+row_below bound b m n o e more h = search rules
 
 rows_below : (bound : ℕ) (name : List ℕ) (rows : List (List ℕ × ℕ)) (n : ℕ)
     → list_all (λ row. nat_lt row.1 bound) rows ≡ true → lookup name rows ≡ Some n → n < bound

@@ -1,6 +1,6 @@
 -- Reading an expression, term by term.
-use Rattle.std.proofs.Common.{◌≡◌, List, [], ◌∷◌, ◌++◌, ap, sym, refl, append_assoc}
-use Rattle.std.specs.Prelude.{Bool, true, false, not, Option, Some, None}
+use Rattle.std.proofs.Common.{◌≡◌, List, [], ◌∷◌, ◌++◌, append_assoc, rules}
+use Rattle.std.specs.Prelude.{Bool, false, not, Option}
 use Rattle.std.specs.Bool.{beq}
 use Rattle.std.specs.Option.{option_map}
 use Rattle.rv_source.specs.declared.expression.Term.{Term}
@@ -11,10 +11,8 @@ use Rattle.rv_source.specs.Support.Sums.{with_term}
 pub further_more : (us : List Term) (s : Bool) (x : Atom) (r : Option (List Term))
     → option_map (λ ts. us ++ ts) (with_term s x r)
     ≡ option_map (λ ts. (us ++ record { negative = s; atom = x } ∷ []) ++ ts) r
-further_more us s x (Some vs) = ap (λ ts. Some ts) (sym (append_assoc us (record { negative = s; atom = x } ∷ []) vs))
-further_more us s x None = refl
+further_more us s x r = search (rules, append_assoc)
 
 -- a sign alone, as if a plus followed it
 pub unsigned : (s : Bool) → not (beq s false) ≡ s
-unsigned true = refl
-unsigned false = refl
+unsigned s = search rules

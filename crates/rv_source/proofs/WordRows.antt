@@ -1,37 +1,25 @@
 -- The rows of a word: those of one that begins with a dot and of one that doesn't, and those of an operation.
-use Rattle.std.proofs.Common.{◌≡◌, ℕ, Bool, true, false, cond, List, [], ◌∷◌, ◌++◌, not, refl, arith}
-use Rattle.std.specs.Prelude.{◌==◌, Some, None}
+use Rattle.std.proofs.Common.{◌≡◌, ℕ, Bool, true, false, cond, List, [], ◌∷◌, ◌++◌, not, refl, rules}
+use Rattle.std.specs.Prelude.{Some, None}
 use Rattle.std.specs.List.{list_all, list_any}
 use Rattle.std.specs.Str.{bytes_eq}
-use Rattle.std.proofs.lemmas.Bool.Decides.{nat_tests}
 use Rattle.std.proofs.lemmas.List.{append-nil}
 use Rattle.std.proofs.lemmas.List.Elements.{filter_map-append}
 use Rattle.std.specs.Option.{ok_or}
 use Rattle.rv_isa.specs.declared.op.Operation.{Operation}
 use Rattle.rv_isa.specs.declared.kind.Kind.{Kind}
-use Rattle.rv_isa.specs.declared.kind.Kind.TheVariants.{Lui}
 use Rattle.rv_tokens.specs.declared.fault.LineFault.TheVariants.{UnknownWord, BadOperands}
 use Rattle.rv_source.specs.declared.operand.Operand.{Operand}
 use Rattle.rv_source.specs.Support.Partial.{first_fit, fitted_or, has_dot, is_marker, of_word, words}
 use Rattle.rv_source.proofs.Sets.{both_parts}
 use Rattle.rv_source.specs.Table.{Row, directives, of_kind, markers, pseudo_instructions}
 
-first_bytes : (x y : ℕ) → (x == 46) ≡ true → (y == 46) ≡ false → (x == y) ≡ false
-first_bytes x y e f = grind (arith, nat_tests)
-
-first_bytes_too : (x y : ℕ) → (x == 46) ≡ false → (y == 46) ≡ true → (x == y) ≡ false
-first_bytes_too x y e f = grind (arith, nat_tests)
-
 -- two texts of which one begins with a dot
 dot_alone : (a b : List ℕ) → has_dot a ≡ true → has_dot b ≡ false → bytes_eq a b ≡ false
-dot_alone [] b e f = cc
-dot_alone (x ∷ xs) [] e f = refl
-dot_alone (x ∷ xs) (y ∷ ys) e f = rw (first_bytes x y e f) refl
+dot_alone a b e f = search rules
 
 alone_dot : (a b : List ℕ) → has_dot a ≡ false → has_dot b ≡ true → bytes_eq a b ≡ false
-alone_dot a [] e f = cc
-alone_dot [] (y ∷ ys) e f = refl
-alone_dot (x ∷ xs) (y ∷ ys) e f = rw (first_bytes_too x y e f) refl
+alone_dot a b e f = search rules
 
 -- ---- rows
 
@@ -40,8 +28,7 @@ of_words : (word : List ℕ) (xs ys : List (List ℕ × Row)) →
 of_words word xs ys = filter_map-append (λ row. cond (bytes_eq row.0 word) (Some row.1) None) xs ys
 
 is_not : (b : Bool) → not b ≡ true → b ≡ false
-is_not true e = cc
-is_not false e = refl
+is_not b e = search rules
 
 all_dots : (word : List ℕ) (rows : List (List ℕ × Row)) → list_all (λ row. has_dot row.0) rows ≡ true →
     has_dot word ≡ false → of_word word rows ≡ []
@@ -66,13 +53,10 @@ unfolding directives
 dotted = refl
 
 pub of_directive : (word : List ℕ) → has_dot word ≡ true → of_word word words ≡ of_word word directives
-of_directive word e =
-    rw (of_words word pseudo_instructions directives, no_dots word pseudo_instructions plain e) refl
+of_directive word e = search (rules, of_words, no_dots, plain)
 
 pub of_other : (word : List ℕ) → has_dot word ≡ false → of_word word words ≡ of_word word pseudo_instructions
-of_other word e =
-    rw (of_words word pseudo_instructions directives, all_dots word directives dotted e)
-    (append-nil (of_word word pseudo_instructions))
+of_other word e = search (rules, of_words, all_dots, dotted, append-nil)
 
 -- ---- markers
 
@@ -92,5 +76,4 @@ no_marker word e = none_among word markers refl e
 pub has_rows : (op : Operation) (k : Kind) (xs : List Operand) →
     fitted_or UnknownWord xs (of_kind op k) ≡ ok_or (first_fit xs (of_kind op k)) BadOperands
 unfolding of_kind
-has_rows op (Lui _ _) xs = refl
-has_rows op k xs = refl
+has_rows op k xs = search rules

@@ -15,18 +15,10 @@ pub enum Shape {
     Each(Role),
 }
 
-/// Returns the row of a word with an index among its rows in a table.
-fn row_in(table: &[(&str, Row)], word: &[u8], index: usize) -> Option<Row> {
-    let [entry, rest @ ..] = table else {
-        return None;
-    };
-    if entry.0.as_bytes() != word {
-        return row_in(rest, word, index);
-    }
-    if index == 0 {
-        return Some(entry.1);
-    }
-    row_in(rest, word, index - 1)
+/// Returns the row of a pseudo-instruction or a directive with an index, counted from 0, among the rows of the word.
+fn row_of(word: &[u8], index: usize) -> Option<Row> {
+    let rows = PSEUDO_INSTRUCTIONS.iter().chain(DIRECTIVES.iter());
+    Some(rows.filter(|row| row.0.as_bytes() == word).nth(index)?.1)
 }
 
 /// Returns what a word takes, as its row with an index, counted from 0, has it. The rows are tried in their
@@ -34,10 +26,7 @@ fn row_in(table: &[(&str, Row)], word: &[u8], index: usize) -> Option<Row> {
 pub fn shape_of(word: &[u8], index: usize) -> Option<Shape> {
     let row = match operation_named(word) {
         Some(operation) => ways_of(operation).get(index)?.row(operation),
-        None => match row_in(&PSEUDO_INSTRUCTIONS, word, index) {
-            Some(row) => row,
-            None => row_in(&DIRECTIVES, word, index)?,
-        },
+        None => row_of(word, index)?,
     };
     match row {
         Row::These(roles, _, _) => Some(Shape::These(roles)),
@@ -48,19 +37,10 @@ pub fn shape_of(word: &[u8], index: usize) -> Option<Shape> {
 /// Returns the pseudo-instruction or the directive with an index, counted from 0. A word with several rows
 /// comes several times.
 pub fn word_at(index: usize) -> Option<&'static str> {
-    if index < PSEUDO_INSTRUCTIONS.len() {
-        return Some(PSEUDO_INSTRUCTIONS[index].0);
-    }
-    let index = index - PSEUDO_INSTRUCTIONS.len();
-    if index < DIRECTIVES.len() {
-        return Some(DIRECTIVES[index].0);
-    }
-    let index = index - DIRECTIVES.len();
-    if index < MARKERS.len() {
-        Some(MARKERS[index])
-    } else {
-        None
-    }
+    let rows = PSEUDO_INSTRUCTIONS.iter().chain(DIRECTIVES.iter());
+    rows.map(|row| row.0)
+        .chain(MARKERS.iter().copied())
+        .nth(index)
 }
 
 /// Returns whether an operand can be in a role.

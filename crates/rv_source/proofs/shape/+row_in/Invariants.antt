@@ -1,5 +1,0 @@
-use Rattle.std.proofs.Common.{length}
-use Rattle.rv_source.proofs.shape.+row_in.Given as goal
-
-abbrev pub decreases-row_in : goal.decreases-row_in
-decreases-row_in l = length l.table.now
