@@ -3,7 +3,7 @@ ghost use Rattle.std.specs.Prelude.{◌≡◌};
 ghost use Rattle.rv_program.specs.Faults.{title_of};
 
 use rv_tokens::LineFault;
-use std::alloc::{AllocError, AllocFailed};
+use std::alloc::AllocError;
 
 /// The kind of a fault: E1 to E12.
 #[derive(Clone, Copy, PartialEq, Eq, Debug)]
@@ -105,17 +105,6 @@ impl From<AllocError> for FaultKind {
     }
 }
 
-impl<T: Drop> From<AllocFailed<T>> for FaultKind {
-    ghost use Rattle.std.specs.Prelude.{◌≡◌};
-    ghost use Rattle.rv_program.specs.declared.fault.FaultKind.TheVariants.{OutOfMemory};
-
-    ghost from_gives = { λ _ kind. kind ≡ OutOfMemory };
-
-    fn from(_: AllocFailed<T>) -> Self {
-        FaultKind::OutOfMemory
-    }
-}
-
 /// A fault of a source: why it can't be assembled.
 #[derive(Clone, Copy, PartialEq, Eq, Debug)]
 pub struct AsmFault {
@@ -147,9 +136,6 @@ impl From<AllocError> for AsmFault {
     ghost from_gives = { λ _ fault. fault ≡ record { line = 0; kind = OutOfMemory } };
 
     fn from(_: AllocError) -> Self {
-        AsmFault {
-            line: 0,
-            kind: FaultKind::OutOfMemory,
-        }
+        AsmFault::at(0, FaultKind::OutOfMemory)
     }
 }
