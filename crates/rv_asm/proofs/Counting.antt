@@ -1,10 +1,11 @@
 -- What is said of all lines, line by line.
-use Rattle.std.proofs.Common.{◌≡◌, ℕ, zero, suc, ◌+◌, ◌-◌, ◌<◌, ◌≤◌, List, [], ◌∷◌, ◌++◌, length, refl, sym, ap, ◌∙◌, arith, append-nil, add-zero}
-use Rattle.std.specs.Prelude.{map, is_some, Option, Some, None, slice_get, Result, Ok, Err}
+use Rattle.std.proofs.lemmas.Bool.Decides.{nat_tests}
+use Rattle.std.proofs.Common.{◌≡◌, ℕ, zero, suc, ◌+◌, ◌-◌, ◌<◌, ◌≤◌, List, [], ◌∷◌, ◌++◌, length, refl, sym, ap, ◌∙◌, arith, append-nil, add-zero, rules}
+use Rattle.std.specs.Prelude.{map, is_some, Option, None, slice_get, Result, Ok, Err}
 use Rattle.std.specs.Option.{option_map, option_map_or, option_or, unwrap_or}
 use Rattle.std.specs.Result.{result_unwrap_or}
-use Rattle.std.specs.List.{flat_map, filter_map, cons_option, range_with_len, find}
-use Rattle.std.proofs.lemmas.Grind.{flat_map-append}
+use Rattle.std.specs.List.{flat_map, filter_map, range_with_len, find}
+use Rattle.std.proofs.lemmas.Grind.{flat_map-append, common_steps}
 use Rattle.std.proofs.lemmas.List.{map-append}
 use Rattle.std.proofs.lemmas.List.Elements.{filter_map-append}
 use Rattle.rv_base.specs.Lines.{lines}
@@ -25,10 +26,7 @@ range_parts a (suc n) m =
     rw f (ap (λ xs. a ∷ xs) (range_parts (a + 1) n m ∙ ap (λ k. range_with_len (a + 1) n ++ range_with_len k m) e))
 
 range_more : (n : ℕ) → range_with_len 0 (suc n) ≡ range_with_len 0 n ++ n ∷ []
-range_more n =
-    let e : n + 1 ≡ suc n = omega arith in
-    let z : 0 + n ≡ n = omega arith in
-    rw (e, z) at (range_parts 0 n 1)
+range_more n = search (rules, range_parts)
 
 range_before : (n m : ℕ) → n ≤ m → range_with_len 0 m ≡ range_with_len 0 n ++ range_with_len n (m - n)
 range_before n m h =
@@ -42,16 +40,12 @@ joined_none f = refl
 
 pub joined_more : {A : Type 0} (f : ℕ → List A) (n : ℕ) → joined f (suc n) ≡ joined f n ++ f n
 unfolding joined
-joined_more f n =
-    ap (flat_map f) (range_more n)
-    ∙ flat_map-append f (range_with_len 0 n) (n ∷ [])
-    ∙ ap (λ xs. flat_map f (range_with_len 0 n) ++ xs) (append-nil (f n))
+joined_more f n = grind (arith, nat_tests, common_steps, range_more, flat_map-append, append-nil)
 
 pub joined_same : {A : Type 0} (f g : ℕ → List A) (n : ℕ) → ((k : ℕ) → k < n → f k ≡ g k) →
     joined f n ≡ joined g n
 joined_same f g zero h = joined_none f ∙ sym (joined_none g)
-joined_same f g (suc n) h =
-    rw (joined_more f n, joined_more g n, joined_same f g n (λ k p. h k (omega (arith, p))), h n (omega arith)) refl
+joined_same f g (suc n) h = search (rules, joined_more, joined_same f g n (λ k p. h k (omega (arith, p))))
 
 pub up_to_more : (f : ℕ → ℕ) (n : ℕ) → up_to f (suc n) ≡ up_to f n ++ f (suc n) ∷ []
 unfolding up_to
@@ -70,11 +64,6 @@ joined_before f n m h =
 abbrev fault_at : (ℕ → Option FaultKind) → ℕ → Option AsmFault
 fault_at fault k = option_map (λ kind. record { line = suc k; kind = kind }) (fault k)
 
-one_fault : (k : ℕ) (o : Option FaultKind) →
-    cons_option (option_map (λ kind. record { line = suc k; kind = kind }) o) [] ≡ faults_at k o
-one_fault k None = refl
-one_fault k (Some kind) = refl
-
 pub faults_none : (fault : ℕ → Option FaultKind) → all_faults fault 0 ≡ []
 unfolding all_faults
 faults_none fault = refl
@@ -82,10 +71,7 @@ faults_none fault = refl
 pub faults_more : (fault : ℕ → Option FaultKind) (n : ℕ) →
     all_faults fault (suc n) ≡ all_faults fault n ++ faults_at n (fault n)
 unfolding all_faults
-faults_more fault n =
-    ap (filter_map (fault_at fault)) (range_more n)
-    ∙ filter_map-append (fault_at fault) (range_with_len 0 n) (n ∷ [])
-    ∙ ap (λ xs. filter_map (fault_at fault) (range_with_len 0 n) ++ xs) (one_fault n (fault n))
+faults_more fault n = search (rules, range_more, filter_map-append)
 
 pub first_append : (xs ys : List AsmFault) → slice_get (xs ++ ys) 0 ≡ option_or (slice_get xs 0) (slice_get ys 0)
 first_append [] ys = refl
@@ -95,15 +81,9 @@ left_nil : {A : Type 0} (xs ys : List A) → xs ++ ys ≡ [] → xs ≡ []
 left_nil [] ys h = refl
 left_nil (x ∷ xs) ys h = absurd (let no : x ∷ (xs ++ ys) ≡ [] = h in cc)
 
-none_there : (k : ℕ) (xs : List AsmFault) (o : Option FaultKind) → xs ++ faults_at k o ≡ [] → o ≡ None
-none_there k xs None h = refl
-none_there k [] (Some kind) h = absurd cc
-none_there k (x ∷ xs) (Some kind) h = absurd cc
-
 pub none_appended : (faults found : List AsmFault) (k : ℕ) (o : Option FaultKind) → found ≡ faults ++ faults_at k o →
     found ≡ [] → (faults ≡ []) × (o ≡ None)
-none_appended faults found k o e h =
-    (left_nil faults (faults_at k o) (sym e ∙ h), none_there k faults o (sym e ∙ h))
+none_appended faults found k o e h = grind (arith, nat_tests, common_steps)
 
 -- if n + 1 lines have no fault, neither has the last of them, nor have those before it
 pub none_last : (fault : ℕ → Option FaultKind) (n : ℕ) → all_faults fault (suc n) ≡ [] → fault n ≡ None
@@ -138,11 +118,7 @@ found_three one two (x ∷ three) e f = rw (e, f) refl
 
 pub first_same : (one two other three : List AsmFault) → slice_get two 0 ≡ slice_get other 0 →
     slice_get (first_found one two three) 0 ≡ slice_get (first_found one other three) 0
-first_same (x ∷ one) two other three e = refl
-first_same [] (x ∷ two) (y ∷ other) three e = e
-first_same [] (x ∷ two) [] three e = absurd cc
-first_same [] [] (y ∷ other) three e = absurd cc
-first_same [] [] [] three e = refl
+first_same one two other three e = search rules
 
 -- the faults of a source, by its faults in phase two
 abbrev pub found_by : (ℕ → Option FaultKind) → List (List ℕ) → List AsmFault

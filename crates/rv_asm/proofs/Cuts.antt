@@ -1,5 +1,6 @@
 -- Lists in order of a number, looked up by binary search: the place at which the number passes one.
-use Rattle.std.proofs.Common.{◌≡◌, ◌∙◌, ℕ, zero, suc, ◌<◌, ◌≤◌, true, false, List, [], ◌∷◌, length, take, get_or, ◌+◌, ap, sym, refl, arith, leb, ◌-◌, Bool}
+use Rattle.std.proofs.lemmas.Grind.{common_steps}
+use Rattle.std.proofs.Common.{◌≡◌, ℕ, zero, suc, ◌<◌, ◌≤◌, true, false, List, [], ◌∷◌, length, take, get_or, ◌+◌, ap, refl, arith, leb, ◌-◌, rules}
 use Rattle.std.proofs.lemmas.Option.{slice_get-get_or}
 use Rattle.std.specs.Prelude.{Option, Some, None, filter, nat_le, nat_lt, slice_get}
 use Rattle.std.specs.List.{find, last_or}
@@ -15,10 +16,7 @@ last_taken {X} o (x ∷ xs) (suc k) h = last_taken (Some x) xs k (omega arith)
 
 pub last_some : {X : Type 0} (xs : List X) (i j : ℕ) (x : X) → x ≡ get_or xs j x → j + 1 ≡ i → i ≤ length xs →
     last_of xs i ≡ Some x
-last_some xs zero j x e h p = absurd (omega arith)
-last_some xs (suc i) j x e h p =
-    let at : j ≡ i = omega arith in
-    slice_get-get_or xs i x (omega arith) ∙ ap (λ y. Some y) (sym (rw at at e))
+last_some xs i j x e h p = search (rules, slice_get-get_or)
 
 module _ {X : Type 0} (n : X → ℕ) (t : ℕ) where
   -- n is at most t for the first i elements, and above it for the others
@@ -55,32 +53,13 @@ module _ {X : Type 0} (n : X → ℕ) (t : ℕ) where
 
 -- ---- the line of an address, which is the place at which the addresses pass it
 
-past_end : (xs : List ℕ) (n : ℕ) → length xs ≤ n → get_or xs n 0 ≡ 0
-past_end [] n h = refl
-past_end (x ∷ xs) zero h = absurd (omega arith)
-past_end (x ∷ xs) (suc n) h = past_end xs n (omega arith)
-
 above : (xs : List ℕ) (a n : ℕ) → a < get_or xs n 0 → n < length xs
-above xs a n h = by (nat_lt n (length xs)) refl
-  where
-    by : (b : Bool) → nat_lt n (length xs) ≡ b → n < length xs
-    by true e = grind (arith, nat_tests)
-    by false e =
-        let z = past_end xs n (grind (arith, nat_tests)) in absurd (omega (arith, z, h))
+above xs a n h = grind (arith, nat_tests, common_steps)
 
 module _ (xs : List ℕ) (a n m : ℕ) (c : IsPartitionPoint (λ x. nat_le x a ≡ true) (λ x. nat_le x a ≡ false) xs n)
     (some : 0 < m) (from : get_or xs (m - 1) 0 ≤ a) (to : a < get_or xs m 0) where
   pub one_line : m ≡ n
-  one_line = by (nat_lt m n) (nat_lt n m) refl refl
-    where
-      by : (s t : Bool) → nat_lt m n ≡ s → nat_lt n m ≡ t → m ≡ n
-      by true t e f =
-          let b = c.0 m 0 (omega arith) (grind (arith, nat_tests)) in absurd (grind (arith, nat_tests, b, to))
-      by false true e f =
-          let w = above xs a m to in
-          let b = c.1 (m - 1) 0 (grind (arith, nat_tests)) (omega (arith, w, some)) in
-          absurd (grind (arith, nat_tests, b, from))
-      by false false e f = grind (arith, nat_tests)
+  one_line = search (rules, above)
 
   pub no_line : length xs ≤ n → ⊥
   no_line h = let w = above xs a m to in let e = one_line in omega (arith, e, w, h)

@@ -1,14 +1,13 @@
 -- Laying out the lines of a source, one by one, and its faults.
-use Rattle.std.proofs.Common.{◌≡◌, ◌∙◌, ℕ, ◌≤◌, Bool, true, false, List, [], ◌∷◌, ◌++◌, ℤ, ap, refl, sym, arith, append-nil, append_assoc, zero, suc, ◌+◌, ◌%◌, cond, add-zero, ◌<◌, length, add-one}
+use Rattle.std.proofs.Common.{◌≡◌, ◌∙◌, ℕ, ◌≤◌, Bool, true, false, List, [], ◌∷◌, ◌++◌, ℤ, ap, refl, sym, arith, append-nil, append_assoc, zero, suc, ◌+◌, ◌%◌, cond, add-zero, ◌<◌, length, add-one, rules}
 use Rattle.std.specs.Prelude.{◌||◌, is_some, nat_lt, Option, None, Some, IfSome, set, slice_get, Result, Ok, Err, ◌==◌}
 use Rattle.std.specs.List.{All, flat_map}
 use Rattle.std.proofs.lemmas.List.Elements.{All-nil, All-cons, All-append, All-weaker}
 use Rattle.rv_source.specs.declared.line.Label.{Label}
 use Rattle.rv_source.specs.declared.line.Label.TheVariants as label
 use Rattle.rv_asm.specs.declared.locals.LocalLabel.{LocalLabel}
-use Rattle.rv_base.specs.Tables.{lookup}
-use Rattle.rv_asm.specs.Layout.{names_in, locals_in, redefines, line_at, emitted_at, emitted_on, phase_two_fault, definitions}
-use Rattle.rv_asm.specs.Support.Steps.{relabels, address, names, known_on, fault_on, joined, all_faults, faults_at, new_among, LaysOut, Known, values_of, labelled, stated, known_before, Item, item_bytes, item_listed, item_faults, Adds, AddsLine, bytes_by, listed, Writes, blank, phase_one_fault, phase_three_fault, unread_kind, located, start, with_line, Written, cleared, known_after, judged}
+use Rattle.rv_asm.specs.Layout.{names_in, locals_in, redefines, line_at, emitted_at, phase_two_fault, definitions}
+use Rattle.rv_asm.specs.Support.Steps.{relabels, fault_on, joined, all_faults, faults_at, new_among, LaysOut, Known, values_of, labelled, stated, known_before, Item, item_bytes, item_listed, item_faults, Adds, AddsLine, Writes, blank, phase_three_fault, unread_kind, located, start, with_line, Written, cleared, known_after, judged}
 use Rattle.std.proofs.lemmas.Bool.Decides.{nat_tests}
 use Rattle.rv_source.specs.Reading.{Parsed}
 use Rattle.rv_source.specs.declared.statement.Statement.{Statement}
@@ -17,7 +16,7 @@ use Rattle.rv_program.specs.declared.fault.FaultKind.TheVariants.{DuplicateSymbo
 use Rattle.rv_asm.specs.Listing.{emitted}
 use Rattle.rv_asm.specs.Support.Statements.{emitted_by, fault_by, image_end}
 use Rattle.std.specs.Result.{result_err}
-use Rattle.std.proofs.lemmas.Grind.{flat_map-append}
+use Rattle.std.proofs.lemmas.Grind.{flat_map-append, common_steps}
 use Rattle.rv_asm.specs.Symbols.{Definitions, operand_value}
 use Rattle.rv_asm.proofs.Counting.{joined_more, faults_more, answer, first_found, found_by, image_by, faults_none, first_append, first_same, found_one, found_two, found_three, assembled_is, none_appended, none_last, none_before}
 use Rattle.std.specs.Option.{option_map, option_or}
@@ -41,19 +40,16 @@ IsUpTo k known = All (λ d. d.line ≤ k) known.definitions.locals
 -- ---- names that are defined twice
 
 either_either : (a b c : Bool) → (a || (b || c)) ≡ ((a || b) || c)
-either_either true b c = refl
-either_either false b c = refl
+either_either a b c = search rules
 
 pub redefines-append : (known xs ys : List (List ℕ × ℤ)) →
     redefines known (xs ++ ys) ≡ (redefines known xs || redefines (known ++ xs) ys)
 redefines-append known [] ys = rw append-nil refl
 redefines-append known (d ∷ ds) ys =
-    rw (redefines-append (known ++ d ∷ []) ds ys, append_assoc)
-    (either_either (is_some (lookup d.0 known)) (redefines (known ++ d ∷ []) ds) (redefines (known ++ d ∷ ds) ys))
+    search (rules, append_assoc, either_either, redefines-append (known ++ d ∷ []) ds ys)
 
 names_more : (here : ℕ) (l : Label) (ls : List Label) → names_in here (l ∷ ls) ≡ names_in here (l ∷ []) ++ names_in here ls
-names_more here (label.Name name) ls = refl
-names_more here (label.Local number) ls = refl
+names_more here l ls = search rules
 
 -- ---- where no label is left out
 
@@ -61,30 +57,22 @@ all_by : (k : ℕ) (known : Known) (l : Label) (ls : List Label) (twice : Bool) 
     (twice || relabels (labelled k known (l ∷ [])) ls) ≡ false
     → (relabels (labelled k known (l ∷ [])) ls ≡ false → new_among (labelled k known (l ∷ [])) ls ≡ ls)
     → new_among known (l ∷ ls) ≡ l ∷ ls
-all_by k known l ls true e h r = absurd cc
-all_by k known l ls false e h r = rw e (ap (λ ls. l ∷ ls) (r h))
+all_by k known l ls twice e h r = search rules
 
 pub all_new : (k : ℕ) (known : Known) (ls : List Label) → relabels known ls ≡ false → new_among known ls ≡ ls
 all_new k known [] h = refl
 all_new k known (l ∷ ls) h =
-    all_by k known l ls (relabels known (l ∷ [])) refl
-    (sym (redefines-append known.definitions.names (names_in known.address (l ∷ [])) (names_in known.address ls))
-    ∙ sym (ap (redefines known.definitions.names) (names_more known.address l ls)) ∙ h)
-    (all_new k (labelled k known (l ∷ [])) ls)
+    search (rules, all_by, redefines-append, names_more, all_new k (labelled k known (l ∷ [])) ls)
 
 -- ---- local labels are in order of lines
 
 locals_on : (k here : ℕ) (ls : List Label) → All (λ d. d.line ≤ k) (locals_in k here ls)
 locals_on k here [] = All-nil (λ (d : LocalLabel). d.line ≤ k)
 locals_on k here (label.Name name ∷ ls) = locals_on k here ls
-locals_on k here (label.Local number ∷ ls) =
-    All-cons (λ (d : LocalLabel). d.line ≤ k) (record { number = number; line = k; address = here })
-    (locals_in k here ls) (omega arith) (locals_on k here ls)
+locals_on k here (label.Local number ∷ ls) = search (rules, All-cons, here, locals_on k here ls)
 
 pub up_to_labelled : (k : ℕ) (known : Known) (ls : List Label) → IsUpTo k known → IsUpTo k (labelled k known ls)
-up_to_labelled k known ls h =
-    All-append (λ (d : LocalLabel). d.line ≤ k) known.definitions.locals (locals_in k known.address ls) h
-    (locals_on k known.address ls)
+up_to_labelled k known ls h = search (rules, All-append, locals_on)
 
 -- ---- a line by its labels and its statement
 
@@ -94,42 +82,24 @@ not_stated k known = rw (append-nil, add-zero) refl
 
 -- ---- the fault of a line in phase two
 
-either_cond : {A : Type 0} (a b : Bool) (x y : A) → cond (a || b) x y ≡ cond a x (cond b x y)
-either_cond true b x y = refl
-either_cond false b x y = refl
-
 pub phase_two_is : (lines : List Parsed) (n : ℕ) →
     phase_two_fault lines n ≡ fault_on n (known_before lines n) (line_at lines n)
 unfolding phase_two_fault fault_on
-phase_two_is lines n =
-    rw (redefines-append (names lines n) (names_in (address lines n) (line_at lines n).labels) (emitted_on lines n).defines)
-    (either_cond (relabels (known_before lines n) (line_at lines n).labels)
-    (redefines (known_on lines n).definitions.names (emitted_on lines n).defines) _ _)
+phase_two_is lines n = search (rules, redefines-append)
 
 -- ---- local labels are in order of lines
 
 pub up_to_before : (lines : List Parsed) (n : ℕ) → IsUpTo n (known_before lines n)
 unfolding known_before
 up_to_before lines zero = All-nil (λ (d : LocalLabel). d.line ≤ 0)
-up_to_before lines (suc n) =
-    All-weaker (λ (d : LocalLabel). d.line ≤ n) (λ (d : LocalLabel). d.line ≤ suc n) (λ d h. omega (arith, h))
-    (known_on lines n).definitions.locals
-    (up_to_labelled n (known_before lines n) (line_at lines n).labels (up_to_before lines n))
+up_to_before lines (suc n) = search (rules, All-weaker, up_to_labelled, up_to_before lines n)
 
 -- ---- one more line
 
 -- a line without a statement
 pub adds_none : (k : ℕ) (known : Known) (items : List Item) (ds : Definitions) → Adds k known None items items ds
 unfolding emitted
-adds_none k known items ds = record {
-  bytes = sym (append-nil (flat_map (item_listed ds) items));
-  faults = sym (append-nil (flat_map (item_faults ds) items));
-}
-
-pushed : {A : Type 0} (f : Item → List A) (items : List Item) (item : Item) →
-    flat_map f (items ++ item ∷ []) ≡ flat_map f items ++ f item
-pushed f items item =
-    flat_map-append f items (item ∷ []) ∙ ap (λ xs. flat_map f items ++ xs) (append-nil (f item))
+adds_none k known items ds = search (rules, append-nil)
 
 -- a statement
 pub adds_pushed : (k : ℕ) (known : Known) (statement : Statement) (items : List Item) (item : Item) →
@@ -137,12 +107,7 @@ pub adds_pushed : (k : ℕ) (known : Known) (statement : Statement) (items : Lis
     → ((ds : Definitions) → item_bytes ds item
     ≡ (emitted (values_of k known) known.address statement).contents (operand_value ds k known.address))
     → (ds : Definitions) → Adds k known (Some statement) items (items ++ item ∷ []) ds
-adds_pushed k known statement items item at is ds = record {
-  bytes = pushed (item_listed ds) items item ∙ ap (λ r. flat_map (item_listed ds) items ++ listed r) (is ds);
-  faults = pushed (item_faults ds) items item
-      ∙ ap (λ n. flat_map (item_faults ds) items ++ faults_at n (result_err (item_bytes ds item))) at
-      ∙ ap (λ r. flat_map (item_faults ds) items ++ faults_at k (result_err r)) (is ds);
-}
+adds_pushed k known statement items item at is ds = search (rules, flat_map-append, append-nil)
 
 pub writes_none : (lines : List Parsed) → Writes lines 0 []
 unfolding joined all_faults
@@ -150,16 +115,10 @@ writes_none lines ds = record { bytes = refl; faults = refl }
 
 pub writes_more : (lines : List Parsed) (n : ℕ) (old new : List Item) → Writes lines n old →
     AddsLine n (known_before lines n) (line_at lines n) old new → Writes lines (suc n) new
-writes_more lines n old new writes adds ds = record {
-  bytes = (adds ds).bytes ∙ ap (λ xs. xs ++ listed (bytes_by ds lines n)) (writes ds).bytes
-      ∙ sym (joined_more (λ k. listed (bytes_by ds lines k)) n);
-  faults = (adds ds).faults ∙ ap (λ xs. xs ++ faults_at n (result_err (bytes_by ds lines n))) (writes ds).faults
-      ∙ sym (faults_more (λ k. result_err (bytes_by ds lines k)) n);
-}
+writes_more lines n old new writes adds ds = search (rules, joined_more, faults_more)
 
 pub not_some : {A : Type 0} (o : Option A) → is_some o ≡ false → o ≡ None
-not_some None h = refl
-not_some (Some x) h = cc
+not_some o h = search rules
 
 -- ---- a line by its labels and its statement
 
@@ -238,16 +197,10 @@ known_other : (xs : List Parsed) (k : ℕ) (line : Parsed) (n : ℕ) → n ≤ k
     known_before (set xs k line) n ≡ known_before xs n
 known_other xs k line zero h = none_before_first (set xs k line) xs
 known_other xs k line (suc n) h =
-    let other : line_at (set xs k line) n ≡ line_at xs n =
-    get_or-set_other xs k n line blank (λ e. omega (arith, h, e)) in
-    one_more (set xs k line) n
-    ∙ with_same n (known_before (set xs k line) n) (known_before xs n) (line_at (set xs k line) n) (line_at xs n)
-    (known_other xs k line n (omega (arith, h))) other
-    ∙ sym (one_more xs n)
+    search (rules, get_or-set_other, one_more, with_same, known_other xs k line n (omega (arith, h)))
 
 length_by : (xs : List Parsed) (k : ℕ) (line : Parsed) (b : Bool) → length (cond b (set xs k line) xs) ≡ length xs
-length_by xs k line true = length-set xs k line
-length_by xs k line false = refl
+length_by xs k line b = search (rules, length-set)
 
 length_kept : (ls : List Parsed) (n : ℕ) → length (kept ls n) ≡ length ls
 unfolding kept
@@ -256,15 +209,12 @@ length_kept ls (suc n) = length_by (kept ls n) n (cleared (kept ls n) n) (is_som
 
 other_by : (xs : List Parsed) (k n : ℕ) (line : Parsed) (b : Bool) → k < n →
     line_at (cond b (set xs k line) xs) n ≡ line_at xs n
-other_by xs k n line true h = get_or-set_other xs k n line blank (λ e. omega (arith, h, e))
-other_by xs k n line false h = refl
+other_by xs k n line b h = search (rules, get_or-set_other)
 
 later_line : (ls : List Parsed) (n k : ℕ) → n ≤ k → line_at (kept ls n) k ≡ line_at ls k
 unfolding kept
 later_line ls zero k h = refl
-later_line ls (suc n) k h =
-    other_by (kept ls n) n k (cleared (kept ls n) n) (is_some (judged ls n)) (omega (arith, h))
-    ∙ later_line ls n k (omega (arith, h))
+later_line ls (suc n) k h = search (rules, other_by, later_line ls n k (omega (arith, h)))
 
 known_by : (xs : List Parsed) (n : ℕ) (b : Bool) → n < length xs →
     known_before (cond b (set xs n (cleared xs n)) xs) (suc n) ≡ known_after b n (known_before xs n) (line_at xs n)
@@ -280,23 +230,19 @@ known_by xs n false h = one_more xs n
 
 pub judged_is : (ls : List Parsed) (n : ℕ) →
     judged ls n ≡ fault_on n (known_before (kept ls n) n) (line_at ls n)
-judged_is ls n =
-    phase_two_is (kept ls n) n
-    ∙ ap (fault_on n (known_before (kept ls n) n)) (later_line ls n n (omega arith))
+judged_is ls n = search (rules, phase_two_is, later_line)
 
 pub known_kept : (ls : List Parsed) (n : ℕ) → n < length ls →
     known_before (kept ls (suc n)) (suc n) ≡ known_after (is_some (judged ls n)) n (known_before (kept ls n) n) (line_at ls n)
 unfolding kept
-known_kept ls n h =
-    known_by (kept ls n) n (is_some (judged ls n)) (rw (length_kept ls n) h)
-    ∙ ap (known_after (is_some (judged ls n)) n (known_before (kept ls n) n)) (later_line ls n n (omega arith))
+known_kept ls n h = search (rules, known_by, length_kept, later_line)
 
 -- where no line is faulty all are kept
 kept_all : (ls : List Parsed) (n : ℕ) → all_faults (judged ls) n ≡ [] → kept ls n ≡ ls
 unfolding kept
 kept_all ls zero h = refl
 kept_all ls (suc n) h =
-    rw (none_last (judged ls) n h) (kept_all ls n (none_before (judged ls) n (suc n) h (omega arith)))
+    search (rules, none_last, none_before, kept_all ls n (none_before (judged ls) n (suc n) h (omega arith)))
 
 -- ---- laying out
 
@@ -342,8 +288,7 @@ module _ (texts rest : List (List ℕ)) (n : ℕ) (so : LeftOf texts rest n) (te
     none_so_far = none_appended old.misplaced.items new.misplaced.items n takes.fault takes.finds none
 
     here : old.known ≡ known_before ls n
-    here = laid.known_is
-        ∙ ap (λ xs. known_before xs n) (kept_all ls n (sym laid.faults_are ∙ none_so_far.0))
+    here = search (rules, laid, kept_all, none_so_far)
 
     there : new.known ≡ known_before ls (suc n)
     there = known_more ∙ ap (λ xs. known_before xs (suc n)) (kept_all ls (suc n) (sym found_more ∙ none))
@@ -356,12 +301,7 @@ module _ (texts rest : List (List ℕ)) (n : ℕ) (so : LeftOf texts rest n) (te
     notes_line = takes.notes_line ∙ rw (laid.notes_are none_so_far.0, here, there, ← at) (noted_more ls n first)
 
   taken : LaidOut ls (n + 1) first new
-  taken = rw add-one (record {
-    known_is = known_more;
-    faults_are = found_more;
-    writes = writes_line;
-    notes_are = notes_line;
-  })
+  taken = search (rules, add-one, known_more, found_more, writes_line, notes_line)
 
 pub laid_more : (texts rest : List (List ℕ)) (n : ℕ) (so : LeftOf texts rest n) (text : List ℕ)
     (after : List (List ℕ)) (cut : rest ≡ text ∷ after) (first : Option Located) (old new : Laid)
@@ -388,15 +328,7 @@ first_more fault n = ap (λ xs. slice_get xs 0) (faults_more fault n) ∙ first_
 first_judged : (xs : List Parsed) (n : ℕ) →
     slice_get (all_faults (judged xs) n) 0 ≡ slice_get (all_faults (phase_two_fault xs) n) 0
 first_judged xs zero = rw (faults_none (judged xs), faults_none (phase_two_fault xs)) refl
-first_judged xs (suc n) =
-    first_more (judged xs) n
-    ∙ same_by xs n (all_faults (judged xs) n) refl
-    ∙ ap (λ o. option_or o (slice_get (faults_at n (phase_two_fault xs n)) 0)) (first_judged xs n)
-    ∙ sym (first_more (phase_two_fault xs) n)
-
-first_answer : (faults : List AsmFault) (a : Assembly) → slice_get faults 0 ≡ result_err (answer faults a)
-first_answer [] a = refl
-first_answer (fault ∷ faults) a = refl
+first_judged xs (suc n) = search (rules, first_more, same_by, first_judged xs n)
 
 pub all_are : (texts : List (List ℕ)) → faults_of texts ≡ found_by (judged (all_parsed texts)) texts
 unfolding faults_of all_faults
@@ -413,21 +345,15 @@ module _ (source : List ℕ) where
   n = length (lines source)
 
   two_same : slice_get (found_by (judged parsed) texts) 0 ≡ slice_get (found_by (phase_two_fault parsed) texts) 0
-  two_same = first_same (all_faults (phase_one_fault texts) n) (all_faults (judged parsed) n)
-      (all_faults (phase_two_fault parsed) n) (all_faults (phase_three_fault parsed) n) (first_judged parsed n)
+  two_same = search (rules, first_same, first_judged)
 
   -- the first of the faults is that of the assembly
   pub first_said : slice_get (faults_of texts) 0 ≡ result_err (assembled source)
-  first_said =
-      ap (λ faults. slice_get faults 0) (all_are texts)
-      ∙ two_same
-      ∙ first_answer (found_by (phase_two_fault parsed) texts) (image_by texts)
-      ∙ ap result_err (sym (assembled_is source))
+  first_said = search (rules, all_are, two_same, found_by, image_by, assembled_is)
 
   accepts_by : (faults found : List AsmFault) (a : Assembly) → found ≡ [] → slice_get found 0 ≡ slice_get faults 0 →
       answer faults a ≡ Ok a
-  accepts_by [] found a none e = refl
-  accepts_by (fault ∷ faults) found a none e = absurd (let no : None ≡ Some fault = rw none at e in cc)
+  accepts_by faults found a none e = search rules
 
   -- without faults it is accepted
   accepted : found_by (judged parsed) texts ≡ [] → assembled source ≡ Ok (image_by texts)
@@ -441,12 +367,7 @@ module _ (source : List ℕ) where
 
     refused : (faults : List AsmFault) → found_by (judged parsed) texts ≡ faults → (faults ≡ [] → ⊥) →
         IsExamined source first faults bytes l.known l.notes
-    refused faults e some = record {
-      faults_are = sym (all_are texts ∙ e);
-      accepts = λ h. absurd (some h);
-      reaches = λ h. absurd (some h);
-      notes_are = λ h. absurd (some h);
-    }
+    refused faults e some = search (rules, all_are)
 
     pub in_one : (l.unread.items ≡ [] → ⊥) → IsExamined source first l.unread.items bytes l.known l.notes
     in_one h = refused l.unread.items (rw (← far.unread_are) (found_one l.unread.items (all_faults (judged parsed) n) three h)) h
@@ -466,8 +387,7 @@ module _ (source : List ℕ) where
         known_n = laid.known_is ∙ rw (kept_all parsed n (sym laid.faults_are ∙ no_two)) refl
 
         symbols_are : l.known.definitions ≡ definitions parsed
-        symbols_are = ap (λ (s : Known). s.definitions) known_n
-            ∙ ap (λ m. (known_before parsed m).definitions) (sym (length-parsed texts))
+        symbols_are = search (rules, known_n, length-parsed)
 
         written : Written parsed n l.items.items l.known.definitions
         written = laid.writes no_two l.known.definitions
@@ -492,21 +412,14 @@ module _ (source : List ℕ) where
 
 pub filled_by : (faults seen : List AsmFault) (b : Bool) → seen ≡ faults → b ≡ (length seen == 0) → b ≡ false →
     faults ≡ [] → ⊥
-filled_by [] seen b s e h z =
-    let t : b ≡ true = rw s at e in absurd (let no : true ≡ false = rw t at h in cc)
-filled_by (fault ∷ faults) seen b s e h z = absurd cc
+filled_by faults seen b s e h z = search rules
 
 pub empty_by : (faults seen : List AsmFault) (b : Bool) → seen ≡ faults → b ≡ (length seen == 0) → b ≡ true → faults ≡ []
-empty_by [] seen b s e h = refl
-empty_by (fault ∷ faults) seen b s e h =
-    let is : true ≡ (length (fault ∷ faults) == 0) = sym h ∙ (rw s at e) in
-    let none : length (fault ∷ faults) ≡ 0 = grind (arith, nat_tests, is) in
-    absurd (omega (arith, none))
+empty_by faults seen b s e h = grind (arith, nat_tests, common_steps)
 
 pub none_first : (faults : List AsmFault) → slice_get faults 0 ≡ None → faults ≡ []
 none_first [] h = refl
 none_first (fault ∷ faults) h = absurd cc
 
 pub is_err : {A : Type 0} (r : Result A AsmFault) (fault : AsmFault) → result_err r ≡ Some fault → r ≡ Err fault
-is_err (Ok x) fault h = absurd cc
-is_err (Err e) fault h = cc
+is_err r fault h = search rules

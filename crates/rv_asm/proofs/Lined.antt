@@ -1,18 +1,18 @@
 -- The listing of an accepted source.
-use Rattle.std.proofs.Common.{◌≡◌, ℕ, zero, suc, ◌+◌, ◌≤◌, true, cond, List, [], ◌∷◌, ◌++◌, length, refl, sym, ap, ◌∙◌, arith, append-nil, length-append, ◌-◌, ◌<◌, get_or, slice_range, append_assoc, add-zero, add-suc}
-use Rattle.std.specs.Prelude.{Option, None, Some, Result, Ok, Err, nat_lt, IfSome, ◌&&◌}
-use Rattle.std.specs.Option.{unwrap_or, option_map, option_map_or}
+use Rattle.std.proofs.lemmas.Grind.{common_steps}
+use Rattle.std.proofs.Common.{◌≡◌, ℕ, zero, suc, ◌+◌, ◌≤◌, true, cond, List, [], ◌∷◌, ◌++◌, length, refl, sym, ap, ◌∙◌, arith, append-nil, length-append, ◌-◌, ◌<◌, get_or, slice_range, append_assoc, add-zero, add-suc, rules}
+use Rattle.std.specs.Prelude.{Option, None, Some, Result, Ok, nat_lt, IfSome, ◌&&◌}
+use Rattle.std.specs.Option.{option_map, option_map_or}
 use Rattle.std.specs.Result.{result_err, result_unwrap_or}
 use Rattle.std.specs.List.{flat_map, All, range_with_len}
 use Rattle.std.proofs.lemmas.Bool.Decides.{nat_tests}
 use Rattle.rv_source.specs.Reading.{Parsed}
 use Rattle.rv_source.specs.declared.statement.Statement.{Statement}
-use Rattle.rv_source.specs.declared.statement.Statement.TheVariants.{Marker}
 use Rattle.rv_program.specs.declared.fault.FaultKind.{FaultKind}
-use Rattle.rv_asm.specs.Symbols.{Definitions, operand_value}
+use Rattle.rv_asm.specs.Symbols.{Definitions}
 use Rattle.rv_base.specs.Limits.{ram_base}
-use Rattle.rv_asm.specs.Layout.{line_at, emitted_at, phase_two_fault, definitions, labels_in}
-use Rattle.rv_asm.specs.Support.Steps.{address, known_on, joined, all_faults, phase_one_fault, phase_three_fault, up_to, labels, LabelsRise, LieInOrder, AreLinesOf, located, noted_with, Known, values_of, stated, known_before, stated_bytes, bytes_by, listed as listed_of}
+use Rattle.rv_asm.specs.Layout.{line_at, definitions, labels_in}
+use Rattle.rv_asm.specs.Support.Steps.{address, known_on, joined, all_faults, phase_three_fault, up_to, labels, LabelsRise, LieInOrder, AreLinesOf, located, noted_with, Known, stated, known_before, stated_bytes, bytes_by, listed as listed_of}
 use Rattle.rv_asm.proofs.Counting.{joined_none, joined_more, none_last, none_before, answer, first_found, image_by, assembled_is, joined_before, joined_same, up_to_more}
 use Rattle.rv_asm.proofs.Rows.{statement_size}
 use Rattle.std.specs.List.Sorted.{IsNonDecreasing, IsNonDecreasingBy}
@@ -31,18 +31,10 @@ use Rattle.rv_asm.proofs.Reading.{length-parsed}
 
 -- ---- the size of the image
 
-sized_answer : (r : Result (List ℕ) FaultKind) (n : ℕ) → ((bs : List ℕ) → r ≡ Ok bs → length bs ≡ n) →
-    result_err r ≡ None → length (listed_of r) ≡ n
-sized_answer (Ok bs) n h e = h bs refl
-sized_answer (Err kind) n h e = absurd cc
-
 module _ (ds : Definitions) (k : ℕ) (known : Known) where
   size_line : (statement : Option Statement) → result_err (stated_bytes ds k known statement) ≡ None
       → (stated k known statement).address ≡ known.address + length (listed_of (stated_bytes ds k known statement))
-  size_line statement e = ap (λ n. known.address + n)
-      (sym (sized_answer (stated_bytes ds k known statement) (emitted_at k known statement).size
-      (λ bs. statement_size (values_of k known) (operand_value ds k known.address) known.address bs
-      (unwrap_or statement Marker)) e))
+  size_line statement e = search (rules, statement_size)
 
 module _ (lines : List Parsed) where
   -- the bytes of n lines without a fault reach from the base to the address following these lines
@@ -76,12 +68,7 @@ answered [] [] (f ∷ fs) p a h = absurd cc
 answered [] [] [] p a h = (refl, cc)
 
 accepted : (source : List ℕ) (a : Assembly) → assembled source ≡ Ok a → IsAccepted source a
-accepted source a h =
-    let texts = lines source in
-    let n = length texts in
-    let r = answered (all_faults (phase_one_fault texts) n) (all_faults (phase_two_fault (all_parsed texts)) n)
-    (all_faults (phase_three_fault (all_parsed texts)) n) _ a (sym (assembled_is source) ∙ h) in
-    record { three = r.0; is = sym (ap (λ (x : Assembly). x.bytes) r.1) }
+accepted source a h = search (rules, answered, assembled_is)
 
 -- ---- numbers up to one
 
@@ -136,24 +123,14 @@ labels_up : (here : ℕ) (xs : Labels) (ls : List Label) → AreUpTo here xs →
     AreUpTo here (xs ++ labels_in here ls)
 labels_up here xs [] h = rw append-nil h
 labels_up here xs (label.Name name ∷ ls) h =
-    rw append_assoc at (labels_up here (xs ++ (name, here) ∷ []) ls (push_up here xs name h))
+    search (rules, append_assoc, push_up, labels_up here (xs ++ (name, here) ∷ []) ls (push_up here xs name h))
 labels_up here xs (label.Local number ∷ ls) h = labels_up here xs ls h
 
 raised : (a b : ℕ) (xs : Labels) → a ≤ b → AreUpTo a xs → AreUpTo b xs
-raised a b xs le h = record {
-  below = All-weaker (λ (l : List ℕ × ℕ). l.1 ≤ a) (λ (l : List ℕ × ℕ). l.1 ≤ b) (λ l p. omega (
-    arith,
-    p,
-    le,
-  )) xs h.below;
-  rises = h.rises;
-}
+raised a b xs le h = search (rules, All-weaker)
 
 labels_to : (ls : List Parsed) (n : ℕ) → AreUpTo (address ls n) (labels ls n)
-labels_to ls zero = rw joined_none (record {
-  below = All-nil (λ (l : List ℕ × ℕ). l.1 ≤ address ls zero);
-  rises = IsNonDecreasingBy-short (λ (l : List ℕ × ℕ). l.1) [] (omega arith);
-})
+labels_to ls zero = search (rules, joined_none, All-nil, IsNonDecreasingBy-short)
 labels_to ls (suc n) = rw joined_more
     (raised (address ls n) (address ls (suc n)) (labels ls n ++ labels_in (address ls n) (line_at ls n).labels)
     (rises_by ls n (suc n) (omega arith))
@@ -165,19 +142,12 @@ labels_rise ls n = (labels_to ls n).rises
 pub lie_in_order : (ls : List Parsed) (n : ℕ) →
     LieInOrder (record { addresses = up_to (address ls) n; labels = labels ls n })
 unfolding known_before
-lie_in_order ls n = record {
-  some = omega (arith, length_up_to (address ls) n);
-  first = up_to_at (address ls) n 0 (omega arith);
-  rises = addresses_rise ls n;
-  labels = labels_rise ls n;
-}
+lie_in_order ls n = search (rules, length_up_to, up_to_at, addresses_rise, labels_rise)
 
 -- ---- the bytes of a line
 
 part_is : (xs ys zs : List ℕ) → slice_range (xs ++ (ys ++ zs)) (length xs) (length (xs ++ ys)) ≡ ys
-part_is xs ys zs =
-    let e : length (xs ++ ys) - length xs ≡ length ys = omega (arith, length-append xs ys) in
-    rw (drop-append_seam, e) (take-append_seam ys zs)
+part_is xs ys zs = grind (arith, nat_tests, common_steps, length-append, drop-append_seam, take-append_seam)
 
 part_at : (f : ℕ → List ℕ) (n k : ℕ) → k < n →
     slice_range (joined f n) (length (joined f k)) (length (joined f (suc k))) ≡ f k
@@ -189,10 +159,7 @@ bytes_between : (image xs : List ℕ) (f : ℕ → List ℕ) (n k : ℕ) → ima
     get_or xs (suc k) 0 - ram_base ≡ length (joined f (suc k)) →
     option_map_or (λ a. slice_range image (a - ram_base) (get_or xs (suc k) 0 - ram_base))
     (cond (nat_lt 0 (suc k) && nat_lt (suc k) (length xs)) (Some (get_or xs (suc k - 1) 0)) None) [] ≡ f k
-bytes_between image xs f n k i h t x y =
-    let e : suc k - 1 ≡ k = omega arith in
-    let z : nat_lt 0 (suc k) ≡ true = grind (arith, nat_tests) in
-    rw (z, t, e, x, y, i) (part_at f n k h)
+bytes_between image xs f n k i h t x y = search (rules, part_at)
 
 -- ---- the listing
 
@@ -231,13 +198,10 @@ module _ (source : List ℕ) (a : Assembly) where
     reaches k h = size_listed parsed (definitions parsed) k (none_before (phase_three_fault parsed) k n ok.three h)
 
     reaches_end : end_of listing ≡ ram_base + length a.bytes
-    reaches_end =
-        let e : length listing.addresses - 1 ≡ n = omega (arith, count_is) in
-        rw (e, image_is) (address_at n (omega arith) ∙ sym (reaches n (omega arith)))
+    reaches_end = search (rules, count_is, image_is, address_at, reaches)
 
     is_ok : (r : Result (List ℕ) FaultKind) → result_err r ≡ None → r ≡ Ok (result_unwrap_or r [])
-    is_ok (Ok bs) h = refl
-    is_ok (Err kind) h = absurd cc
+    is_ok r h = search rules
 
     line_is : (k : ℕ) → k < n → bytes_of listing (suc k) ≡ image_of k
     line_is k h =
@@ -264,11 +228,9 @@ module _ (source : List ℕ) (a : Assembly) where
 pub noted_begun : (ls : List Parsed) (notes : Option Located) → IfSome notes (λ n. n ≡ located [] 0) →
     notes ≡ option_map (λ _. located ls 0) notes
 unfolding known_before up_to joined
-noted_begun ls None h = refl
-noted_begun ls (Some n) h = rw h refl
+noted_begun ls notes h = search rules
 
 pub noted_more : (ls : List Parsed) (n : ℕ) (first : Option Located) →
     option_map (noted_with (address ls n) (line_at ls n).labels (address ls (suc n))) (option_map (λ _. located ls n) first)
     ≡ option_map (λ _. located ls (suc n)) first
-noted_more ls n None = refl
-noted_more ls n (Some p) = rw (up_to_more, joined_more) refl
+noted_more ls n first = search (rules, up_to_more, joined_more)

@@ -1,13 +1,15 @@
 -- Reading the lines of a source, one by one, and the faults of those that can't be read.
-use Rattle.std.proofs.Common.{◌≡◌, ℕ, suc, ◌+◌, ◌<◌, ◌≤◌, List, [], ◌∷◌, ◌++◌, length, drop, get_or, sym, refl, ap, ◌∙◌, arith, add-one, add-zero, length-drop, append-nil}
+use Rattle.std.proofs.lemmas.Bool.Decides.{nat_tests}
+use Rattle.std.proofs.lemmas.Grind.{common_steps}
+use Rattle.std.proofs.Common.{◌≡◌, ℕ, suc, ◌+◌, ◌<◌, ◌≤◌, List, [], ◌∷◌, ◌++◌, length, drop, get_or, sym, refl, ap, ◌∙◌, arith, add-one, add-zero, length-drop, append-nil, rules}
 use Rattle.std.specs.Prelude.{Ok, Some, Result, Err, OnOk, ◌==◌, if◌then◌else◌}
-use Rattle.std.specs.Result.{result_unwrap_or, result_err}
+use Rattle.std.specs.Result.{result_err}
 use Rattle.std.proofs.lemmas.List.{get_or-map, get_or-drop, drop-drop, length-map}
 use Rattle.rv_source.specs.Reading.{Parsed, parsed}
 use Rattle.rv_program.specs.declared.fault.AsmFault.{AsmFault}
 use Rattle.rv_asm.specs.Layout.{line_at}
 use Rattle.rv_asm.specs.Assembly.{all_parsed}
-use Rattle.rv_asm.specs.Support.Steps.{all_faults, faults_at, phase_one_fault, unread_kind, blank}
+use Rattle.rv_asm.specs.Support.Steps.{all_faults, faults_at, phase_one_fault, unread_kind}
 use Rattle.rv_asm.proofs.Counting.{faults_more}
 use Rattle.std.specs.Option.{option_map}
 use Rattle.rv_tokens.specs.Support.Partial.{Fails as LineFails}
@@ -15,7 +17,6 @@ use Rattle.rv_tokens.specs.declared.fault.LineFault.{LineFault}
 use Rattle.rv_tokens.specs.declared.fault.LineFault.TheVariants as line
 use Rattle.rv_program.specs.Faults.{kind_of, title_of}
 use Rattle.rv_program.specs.declared.fault.FaultKind.{FaultKind}
-use Rattle.rv_program.specs.declared.fault.FaultKind.TheVariants.{OutOfMemory}
 use Rattle.rv_program.proofs.FaultLines.{is_at}
 use Rattle.rv_program.specs.Support.Kept.{FailsBy, Fails, IsFaultAt}
 use Rattle.rv_asm.specs.Listing.{◌>>=◌}
@@ -65,25 +66,20 @@ module _ (texts rest : List (List ℕ)) (n : ℕ) (so : LeftOf texts rest n) whe
     unread_more unread more u e = rw add-one (e ∙ rw (u, ← next.item) (sym (faults_more (phase_one_fault texts) n)))
 
     pub read_line_at : (line : Parsed) → parsed text ≡ Ok line → line_at (all_parsed texts) n ≡ line
-    read_line_at line is =
-        get_or-map (λ t. result_unwrap_or (parsed t) blank) texts n [] blank next.below
-        ∙ ap (λ r. result_unwrap_or r blank) (ap parsed next.item ∙ is)
+    read_line_at line is = search (rules, get_or-map, next)
 
 -- ---- one line
 
 -- a line that can't be read
 pub not_read : (fault : LineFault) (r : Result Parsed LineFault) → LineFails fault r →
     (fault ≡ line.OutOfMemory → ⊥) → option_map kind_of (result_err r) ≡ Some (kind_of fault)
-not_read line.OutOfMemory r h n = absurd (n refl)
-not_read fault r h n = rw h refl
+not_read fault r h n = search rules
 
 pub never_empty : {X : Type 0} (xs ys : List X) (x : X) → ys ≡ xs ++ x ∷ [] → ys ≡ [] → ⊥
-never_empty [] ys x e h = let no : x ∷ [] ≡ [] = sym e ∙ h in cc
-never_empty (y ∷ xs) ys x e h = let no : (y ∷ xs) ++ x ∷ [] ≡ [] = sym e ∙ h in cc
+never_empty xs ys x e h = grind (arith, nat_tests, common_steps)
 
 pub on_ok : {A E : Type 0} (r : Result A E) (P : Type 0) → P → OnOk r P
-on_ok (Ok x) P p = p
-on_ok (Err e) P p = tt
+on_ok r P p = search rules
 
 -- a line that can be read has no fault
 pub read_well : (k : ℕ) (text : List ℕ) (line : Parsed) (faults : List AsmFault) → parsed text ≡ Ok line →
@@ -94,13 +90,11 @@ read_well k text line faults is = rw is (sym (append-nil faults))
 
 pub fails_bind : {A B : Type 0} (kind : FaultKind) (fault : AsmFault) (r : Result A AsmFault) (f : A →
     Result B AsmFault) → FailsBy kind fault r → FailsBy kind fault (r >>= f)
-fails_bind OutOfMemory fault r f h = h
-fails_bind kind fault r f h = rw h refl
+fails_bind kind fault r f h = search rules
 
 pub fails_at : {B : Type 0} (line : ℕ) (kind : FaultKind) (fault : AsmFault) (meaning : Result B AsmFault) →
     IsFaultAt line kind fault → meaning ≡ Err (record { line = line; kind = kind }) → Fails fault meaning
-fails_at line OutOfMemory fault m e h = rw e refl
-fails_at line kind fault m e h = rw (e, h) refl
+fails_at line kind fault m e h = search rules
 
 -- a fault at a line
 pub fault_at : (line : ℕ) (kind : FaultKind) (fault : AsmFault)

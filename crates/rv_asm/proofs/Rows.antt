@@ -1,18 +1,18 @@
 -- The bytes of operands by their values; what is kept of a statement has the bytes that its row says, as many as it
 -- says; and the ranges of its values.
-use Rattle.std.proofs.Common.{◌≡◌, List, [], ◌∷◌, ◌++◌, ℕ, suc, ◌*◌, ◌≤◌, ℤ, Bool, true, false, cond, length, ap, ◌∙◌, refl, arith, append-nil, append_assoc, length-append, get_or, ◌<◌, sym, ◌+◌, ◌^◌, ◌%◌, ◌==◌, replicate, pos, negsuc}
-use Rattle.std.specs.Prelude.{◌||◌, map, Option, Some, None, is_none, option_and_then, Result, Ok, Err, min, take, if◌then◌else◌, nat_lt}
+use Rattle.std.proofs.lemmas.Grind.{common_steps}
+use Rattle.std.proofs.Common.{◌≡◌, List, [], ◌∷◌, ◌++◌, ℕ, suc, ◌*◌, ◌≤◌, ℤ, Bool, true, false, cond, length, ap, ◌∙◌, refl, arith, append-nil, append_assoc, length-append, get_or, ◌<◌, sym, ◌+◌, ◌^◌, ◌%◌, ◌==◌, replicate, pos, negsuc, rules}
+use Rattle.std.specs.Prelude.{◌||◌, map, Option, Some, None, is_none, option_and_then, Result, Ok, Err, min}
 use Rattle.std.specs.Option.{option_map, ok_or, unwrap_or}
 use Rattle.std.specs.List.{list_any, flat_map}
 use Rattle.std.proofs.lemmas.List.Folds.{flat_map-map}
 use Rattle.rv_isa.specs.Width.{bytes_of}
 use Rattle.rv_isa.specs.declared.op.Width.{Width}
-use Rattle.rv_isa.specs.declared.op.Width.TheVariants.{One, Two, Four}
 use Rattle.rv_source.specs.declared.operand.Operand.{Operand}
 use Rattle.rv_program.specs.declared.fault.FaultKind.{FaultKind}
-use Rattle.rv_program.specs.declared.fault.FaultKind.TheVariants.{Undefined, OutOfRange, OutOfMemory, TooLarge}
-use Rattle.rv_asm.specs.Listing.{placed, code, Emitted, bytes, bytes_in, filled, padding, space, emitted}
-use Rattle.rv_asm.specs.Support.Statements.{Valuation, KindFails, has_unknown, placed_by, wanted, value_by, with_value, byte, IsKnown, emitted_by, fault_by, image_end}
+use Rattle.rv_program.specs.declared.fault.FaultKind.TheVariants.{Undefined, OutOfRange, TooLarge}
+use Rattle.rv_asm.specs.Listing.{placed, code, Emitted, bytes, padding, space, emitted}
+use Rattle.rv_asm.specs.Support.Statements.{Valuation, KindFails, has_unknown, placed_by, wanted, with_value, IsKnown, emitted_by, fault_by, image_end}
 use Rattle.rv_asm.specs.Support.Steps.{appended, IsSum, expression_of, kept_bytes, sums_bytes}
 use Rattle.rv_isa.specs.declared.kind.Kind.{Kind}
 use Rattle.rv_source.specs.Operands.{terms_of}
@@ -21,36 +21,28 @@ use Rattle.rv_source.specs.declared.expression.Atom.TheVariants.{Number}
 use Rattle.rv_source.specs.declared.expression.Term.{Term}
 use Rattle.rv_source.specs.declared.operand.Form.{Form}
 use Rattle.rv_source.specs.declared.operand.Form.TheVariants as f
-use Rattle.rv_source.specs.declared.operand.Part.{Part}
-use Rattle.rv_source.specs.declared.operand.Part.TheVariants.{Whole, High, Low}
 use Rattle.rv_asm.specs.Symbols.{Definitions, operand_value, sum_value}
-use Rattle.rv_asm.specs.Values.{part_value, fits, far_distance, hi, lo, is_between}
+use Rattle.rv_asm.specs.Values.{part_value, is_between}
 use Rattle.rv_asm.specs.declared.fixup.Waiting.{Waiting}
 use Rattle.rv_asm.specs.declared.fixup.Waiting.TheVariants as w
 use Rattle.rv_asm.specs.declared.kept.Kept.{Kept}
 use Rattle.rv_asm.specs.declared.kept.Kept.TheVariants as kept
 use Rattle.rv_asm.specs.declared.kept.Single.{Single}
 use Rattle.std.proofs.Math.Bool.{or-false}
-use Rattle.std.specs.Int.{to_le_bytes, w32}
 use Rattle.std.proofs.lemmas.List.{length-replicate}
-use Rattle.rv_isa.specs.Number.{modulo, IsWithin}
-use Rattle.rv_isa.specs.declared.kind.Kind.TheVariants.{Auipc}
+use Rattle.rv_isa.specs.Number.{IsWithin}
 use Rattle.rv_source.specs.declared.statement.Statement.{Statement}
-use Rattle.rv_source.specs.declared.statement.Statement.TheVariants as s
 use Rattle.rv_asm.specs.Layout.{redefines}
 use Rattle.std.proofs.lemmas.Bool.Decides.{nat_tests}
 
 pub width_within : (width : Width) → bytes_of width ≤ 4
-width_within One = omega arith
-width_within Two = omega arith
-width_within Four = omega arith
+width_within width = search rules
 
 -- ---- one operand
 
 one_by : (o : Option (List ℕ)) → ◌≡◌ {A = Result (List ℕ) FaultKind}
     (cond (is_none o || false) (Err OutOfRange) (Ok (unwrap_or o [] ++ []))) (ok_or o OutOfRange)
-one_by None = refl
-one_by (Some bs) = ap (λ x. Ok x) (append-nil bs)
+one_by o = search (rules, append-nil)
 
 pub placed_one : {X : Type 0} (place : ℤ → Option (List ℕ)) (x : X) (value : X → Option ℤ) →
     placed_by place (x ∷ []) value ≡ wanted place (value x)
@@ -68,56 +60,22 @@ any_map p h (x ∷ xs) = ap (λ b. p (h x) || b) (any_map p h xs)
 
 pub placed_map : {X Y : Type 0} (place : ℤ → Option (List ℕ)) (h : X → Y) (value : Y → Option ℤ) (xs : List X) →
     placed_by place (map h xs) value ≡ placed_by place xs (λ x. value (h x))
-placed_map place h value xs = rw (
-  any_map (λ y. is_none (value y)) h xs,
-  any_map (λ y. is_none (option_and_then place (value y))) h xs,
-  flat_map-map (λ y. unwrap_or (option_and_then place (value y)) []) h xs,
-) refl
+placed_map place h value xs = search (rules, any_map, flat_map-map)
 
 -- ---- the first of some operands, before others
-
-fitting : (unknown past : Bool) (o : Option (List ℕ)) (out mid more : List ℕ) → appended out (ok_or o OutOfRange) ≡ Ok mid
-    → appended out (cond unknown (Err Undefined) (cond (is_none o || past) (Err OutOfRange) (Ok (unwrap_or o [] ++ more))))
-    ≡ appended mid (cond unknown (Err Undefined) (cond past (Err OutOfRange) (Ok more)))
-fitting unknown past None out mid more h = absurd cc
-fitting true past (Some bs) out mid more h = refl
-fitting false true (Some bs) out mid more h = refl
-fitting false false (Some bs) out mid more h =
-    let e : out ++ bs ≡ mid = cc in rw (← e, append_assoc) refl
-
-failing : (kind : FaultKind) (past : Bool) (o : Option (List ℕ)) (out more : List ℕ)
-    → KindFails kind (appended out (ok_or o OutOfRange))
-    → KindFails kind (appended out (cond (is_none o || past) (Err OutOfRange) (Ok (unwrap_or o [] ++ more))))
-failing OutOfMemory past o out more h = tt
-failing kind past None out more h = h
-failing kind past (Some bs) out more h = absurd cc
 
 module _ {X : Type 0} (place : ℤ → Option (List ℕ)) (value : X → Option ℤ) (x : X) (xs all : List X) (is : x ∷ xs ≡ all)
     (out : List ℕ) where
   pub placed_more : (mid : List ℕ) → appended out (wanted place (value x)) ≡ Ok mid →
       appended out (placed_by place all value) ≡ appended mid (placed_by place xs value)
-  placed_more mid h = rw (← is) (by (value x) refl h)
-    where
-      by : (v : Option ℤ) → value x ≡ v → appended out (wanted place v) ≡ Ok mid →
-          appended out (placed_by place (x ∷ xs) value) ≡ appended mid (placed_by place xs value)
-      by None e h = absurd cc
-      by (Some v) e h = rw e (fitting _ _ (place v) out mid _ h)
+  placed_more mid h = search (rules, append_assoc)
 
   pub unknown_later : has_unknown value xs ≡ true → appended out (placed_by place all value) ≡ Err Undefined
-  unknown_later h = rw (← is) (by (is_none (value x)) refl)
-    where
-      by : (b : Bool) → is_none (value x) ≡ b → appended out (placed_by place (x ∷ xs) value) ≡ Err Undefined
-      by true e = rw e refl
-      by false e = rw (e, h) refl
+  unknown_later h = search rules
 
   pub first_fails : (kind : FaultKind) → has_unknown value xs ≡ false → KindFails kind (appended out (wanted place (value x)))
       → KindFails kind (appended out (placed_by place all value))
-  first_fails kind known h = rw (← is) (by (value x) refl h)
-    where
-      by : (v : Option ℤ) → value x ≡ v → KindFails kind (appended out (wanted place v)) →
-          KindFails kind (appended out (placed_by place (x ∷ xs) value))
-      by None e h = rw e h
-      by (Some v) e h = rw (e, known) (failing kind _ (place v) out _ h)
+  first_fails kind known h = search rules
 
 -- ---- how many bytes they are
 
@@ -127,19 +85,11 @@ Counts {A} f n = (a : A) (bs : List ℕ) → f a ≡ Some bs → length bs ≡ n
 
 pub then_counted : {A B : Type 0} (f : A → Option (List ℕ)) (g : B → Option A) (n : ℕ) → Counts f n →
     Counts (λ b. option_and_then f (g b)) n
-then_counted f g n each b bs h = by (g b) h
-  where
-    by : (o : Option _) → option_and_then f o ≡ Some bs → length bs ≡ n
-    by None h = absurd cc
-    by (Some a) h = each a bs h
+then_counted f g n each b bs h = search rules
 
 pub mapped_counted : {A B : Type 0} (f : A → List ℕ) (g : B → Option A) (n : ℕ) → ((a : A) → length (f a) ≡ n) →
     Counts (λ b. option_map f (g b)) n
-mapped_counted f g n each b bs h = by (g b) h
-  where
-    by : (o : Option _) → option_map f o ≡ Some bs → length bs ≡ n
-    by None h = absurd cc
-    by (Some a) h = let e : f a ≡ bs = cc in rw (← e) (each a)
+mapped_counted f g n each b bs h = search rules
 
 module _ (value : Valuation) (place : ℤ → Option (List ℕ)) (n : ℕ) (each : Counts place n) where
   abbrev placed_bytes : Operand → Option (List ℕ)
@@ -148,9 +98,7 @@ module _ (value : Valuation) (place : ℤ → Option (List ℕ)) (n : ℕ) (each
   joined_by : (o : Option (List ℕ)) (xs : List Operand) (more : List ℕ) → ((bs : List ℕ) → o ≡ Some bs → length bs ≡ n)
       → (list_any (λ x. is_none (placed_bytes x)) xs ≡ false → length more ≡ n * length xs)
       → (is_none o || list_any (λ x. is_none (placed_bytes x)) xs) ≡ false → length (unwrap_or o [] ++ more) ≡ n * suc (length xs)
-  joined_by None xs more here later h = absurd cc
-  joined_by (Some bs) xs more here later h =
-      length-append bs more ∙ (rw (here bs refl, later h) (omega arith))
+  joined_by o xs more here later h = search (rules, length-append)
 
   joined : (xs : List Operand) → list_any (λ x. is_none (placed_bytes x)) xs ≡ false
       → length (flat_map (λ x. unwrap_or (placed_bytes x) []) xs) ≡ n * length xs
@@ -175,20 +123,14 @@ IsKept waiting xs k = (ds : Definitions) → (line here : ℕ) →
 pub one_kept : (waiting : Waiting) (x : Operand) (xs : List Operand) (s : Single) → IsSum (terms_of x) s →
     x ≡ get_or xs 0 x → 1 ≤ length xs → length xs < 2 → IsKept waiting xs (kept.One waiting s)
 unfolding kept_bytes
-one_kept waiting x [] s sum is some short ds line here = absurd (omega (arith, some))
-one_kept waiting x (y ∷ []) s sum is some short ds line here =
-    ap (wanted (with_value here waiting)) (sym (sum ds line here)
-    ∙ ap (operand_value ds line here) is)
-    ∙ sym (placed_one (with_value here waiting) y (operand_value ds line here))
-one_kept waiting x (y ∷ z ∷ zs) s sum is some short ds line here = absurd (omega (arith, short))
+one_kept waiting x xs s sum is some short ds line here = grind (arith, nat_tests, common_steps, placed_one)
 
 same_value : (ds : Definitions) (line here : ℕ) (form : Form)
     → sum_value ds line here (elim form as (λ _. List Term)
     [ f.Value part e base ↦ e | f.Text bytes ↦ record { negative = false; atom = Number 0 } ∷ [] ])
     ≡ sum_value ds line here (elim form as (λ _. List Term) [ f.Value part e base ↦ e | f.Text bytes ↦ [] ])
 unfolding sum_value
-same_value ds line here (f.Value part e base) = refl
-same_value ds line here (f.Text bytes) = refl
+same_value ds line here form = search rules
 
 pub many_kept : (waiting : Waiting) (xs : List Operand) (sums : List (List Term)) → sums ≡ map expression_of xs →
     IsKept waiting xs (kept.Many waiting sums)
@@ -197,35 +139,22 @@ many_kept waiting xs sums is ds line here =
     rw is (placed_map (with_value here waiting) expression_of (sum_value ds line here) xs
     ∙ ap (placed (with_value here waiting) xs) (λ i x. same_value ds line here x.form i))
 
--- the part that a form takes of a value
-part_is : (form : Form) (v : ℤ) → part_value form v
-    ≡ value_by (elim form as (λ _. Part) [ f.Value part e base ↦ part | f.Text bytes ↦ Whole ]) v
-part_is (f.Value Whole e base) v = refl
-part_is (f.Value High e base) v = refl
-part_is (f.Value Low e base) v = refl
-part_is (f.Text bytes) v = refl
-
 pub near_kept : (kind : Kind) (x : Operand) (k : Kept) → IsKept (w.Near kind (part_of x)) (x ∷ []) k →
     (ds : Definitions) → (line here : ℕ) → kept_bytes ds line here k
     ≡ placed (λ v. option_and_then (code here [] kind) (part_value x.form v)) (x ∷ []) (operand_value ds line here)
-near_kept kind x k kept ds line here =
-    kept ds line here ∙ ap (λ place. placed place (x ∷ []) (operand_value ds line here))
-    (λ i v. option_and_then (code here [] kind) (sym (part_is x.form v) i))
+near_kept kind x k kept ds line here = search rules
 
 -- ---- spaces, with and without the byte that fills them
 
 module _ (n : ℕ) where
   pub space_alignment : (fill : Option Operand) → (space n fill).alignment ≡ 1
-  space_alignment None = refl
-  space_alignment (Some x) = refl
+  space_alignment fill = search rules
 
   pub space_defines : (fill : Option Operand) → (space n fill).defines ≡ []
-  space_defines None = refl
-  space_defines (Some x) = refl
+  space_defines fill = search rules
 
   pub space_size : (fill : Option Operand) → (space n fill).size ≡ n
-  space_size None = length-replicate n 0
-  space_size (Some x) = omega arith
+  space_size fill = search (rules, length-replicate)
 
 pub ruleset row_steps = (space_alignment, space_defines, or-false, append-nil)
 
@@ -247,69 +176,31 @@ padded n m e h = rw (length_padding, ← e) (omega arith)
 pub row_is : (early : Valuation) (c : ℤ) (here : ℕ) (statement : Statement) → IsKnown early c statement →
     emitted early here statement ≡ emitted_by c here statement
 unfolding IsKnown emitted
-row_is early c here (s.Li rd e) k = rw k refl
-row_is early c here (s.Space size fill) k = rw k refl
-row_is early c here (s.Align power) k = rw k refl
-row_is early c here (s.Balign multiple) k = rw k refl
-row_is early c here (s.Constant name e) k = rw k refl
-row_is early c here statement k = refl
+row_is early c here statement k = search rules
 
 -- ---- the bytes of a statement are as many as its row says
 
-ready_counted : (xs bs : List ℕ) → ◌≡◌ {A = Result (List ℕ) FaultKind} (Ok xs) (Ok bs) → length bs ≡ length xs
-ready_counted xs bs h = let e : bs ≡ xs = cc in ap length e
-
-code_counted : (here : ℕ) (before : List Kind) (kind : Kind) → Counts (code here before kind) (4 * (length before + 1))
-code_counted here before kind = mapped_counted (λ k. bytes (before ++ k ∷ [])) (filled here kind) _
-    (λ k. length_bytes (before ++ k ∷ []) ∙ ap (λ n. 4 * n) (length-append before (k ∷ [])))
-
-bytes_counted : (width : Width) → Counts (bytes_in width) (bytes_of width)
-bytes_counted width v bs h = by width (fits width v) (modulo v (2 ^ 32)) h
-  where
-    by : (width : Width) (b : Bool) (n : ℕ) → (if b then Some (take (bytes_of width) (to_le_bytes w32 n)) else None) ≡ Some bs
-        → length bs ≡ bytes_of width
-    by width false n h = absurd cc
-    by One true n h = let e : take 1 (to_le_bytes w32 n) ≡ bs = cc in rw (← e) refl
-    by Two true n h = let e : take 2 (to_le_bytes w32 n) ≡ bs = cc in rw (← e) refl
-    by Four true n h = let e : take 4 (to_le_bytes w32 n) ≡ bs = cc in rw (← e) refl
-
 module _ (early late : Valuation) (here : ℕ) (bs : List ℕ) where
-  space_counted : (n : ℕ) (fill : Option Operand) → (space n fill).contents late ≡ Ok bs → length bs ≡ (space n fill).size
-  space_counted n None h = ready_counted (replicate n 0) bs h
-  space_counted n (Some x) h = placed_counted late _ n
-      (mapped_counted (replicate n) byte n (λ b. length-replicate n b)) (x ∷ []) bs h
-
   pub statement_size : (statement : Statement) → (emitted early here statement).contents late ≡ Ok bs →
       length bs ≡ (emitted early here statement).size
   unfolding emitted
-  statement_size (s.WithValue kind x) h =
-      placed_counted late _ 4 (then_counted _ (part_value x.form) 4 (code_counted here [] kind)) (x ∷ []) bs h
-  statement_size (s.Far scratch kind x) h = placed_counted late _ 8
-      (then_counted _ (far_distance here) 8 (λ d. code_counted here (Auipc scratch (hi d) ∷ []) kind (lo d))) (x ∷ []) bs h
-  statement_size (s.Data width xs) h = placed_counted late (bytes_in width) (bytes_of width) (bytes_counted width) xs bs h
-  statement_size (s.Space size fill) h = space_counted _ fill h
-  statement_size statement h = ready_counted _ bs h
+  statement_size statement h =
+      search (rules, placed_counted, then_counted, mapped_counted, length_bytes, length-append, length-replicate)
 
 -- ---- the last test of a statement in phase two
 
 module _ (known : List (List ℕ × ℤ)) (here : ℕ) (r : Emitted) (is_new : redefines known r.defines ≡ false)
     (is_known : r.is_known ≡ true) (placed : (here % r.alignment == 0) ≡ true) where
   pub past : image_end < here + r.size → Some TooLarge ≡ fault_by known here r
-  past h =
-      let e : nat_lt image_end (here + r.size) ≡ true = grind (arith, nat_tests) in
-      rw (is_new, is_known, placed, e) refl
+  past h = search rules
 
   pub within : here + r.size ≤ image_end → None ≡ fault_by known here r
-  within h =
-      let e : nat_lt image_end (here + r.size) ≡ false = grind (arith, nat_tests) in
-      rw (is_new, is_known, placed, e) refl
+  within h = search rules
 
 -- ---- distances of jumps and branches are within their bounds
 
 pub jump_within : (v : ℤ) → is_between (negsuc 1048575) (pos 1048574) v ≡ true → IsWithin (2 ^ 20) v
-jump_within (pos n) h = grind (arith, nat_tests)
-jump_within (negsuc n) h = grind (arith, nat_tests)
+jump_within v h = search rules
 
 pub branch_within : (v : ℤ) → is_between (negsuc 4095) (pos 4094) v ≡ true → IsWithin (2 ^ 12) v
-branch_within (pos n) h = grind (arith, nat_tests)
-branch_within (negsuc n) h = grind (arith, nat_tests)
+branch_within v h = search rules

@@ -30,10 +30,7 @@ pub struct Places {
 // Hand-written: a derived `Drop` would be proved anew at each exit (docs/PROVING.md).
 impl Drop for Places {
     fn drop(self) {
-        let Places {
-            addresses: _,
-            labels: _,
-        } = self;
+        let Places { addresses, labels } = self;
     }
 }
 

@@ -90,10 +90,7 @@ pub struct Locals {
 // Hand-written: a derived `Drop` would be proved anew at each exit (docs/PROVING.md).
 impl Drop for Locals {
     fn drop(self) {
-        let Locals {
-            labels: _,
-            by_number: _,
-        } = self;
+        let Locals { labels, by_number } = self;
     }
 }
 

@@ -99,8 +99,7 @@ pub fn jump_distance(here: u32, target: i64) -> Option<i32>
     ensures value { result ≡ distance (2 ^ 20) here target }
     ensures within { IfSome result (IsDistance (2 ^ 20)) }
 {
-    let offset = target.checked_sub(i64::from(here))?;
-    even_between(-1_048_576, 1_048_574, offset)
+    even_between(-1_048_576, 1_048_574, target.checked_sub(i64::from(here))?)
 }
 
 /// Returns the distance from a branch to its target, if it is even and in range.
@@ -109,8 +108,7 @@ pub fn branch_distance(here: u32, target: i64) -> Option<i32>
     ensures value { result ≡ distance (2 ^ 12) here target }
     ensures within { IfSome result (IsDistance (2 ^ 12)) }
 {
-    let offset = target.checked_sub(i64::from(here))?;
-    even_between(-4096, 4094, offset)
+    even_between(-4096, 4094, target.checked_sub(i64::from(here))?)
 }
 
 /// Returns the high part of a word: the upper immediate to which the low part is added.

@@ -1,4 +1,4 @@
-use Rattle.std.proofs.Common.{rules, ◌≡◌, ◌∙◌, ◌∷◌, length, ap, arith}
+use Rattle.std.proofs.Common.{rules, ◌≡◌, ◌∷◌, length, ap, arith}
 use Rattle.rv_base.specs.Lines.{lines}
 use Rattle.rv_asm.specs.Assembly.{all_parsed}
 use Rattle.rv_asm.proofs.Reading.{all_left, left_more, none_left}
@@ -7,19 +7,13 @@ use Rattle.rv_asm.proofs.assembler.lay_out.Goals as goal
 
 pub loop-text-init : goal.loop-text-init
 loop-text-init c =
-    let all : c.into_iter-text-iterator.result ≡ lines c.args.source.now =
-    c.into_iter-text-iterator.ensures.into_iter_gives ∙ c.cut_lines-text-items.ensures.cut in
     record {
       can_next = tt;
       is_finite = tt;
-      left = rw all (all_left (lines c.args.source.now));
+      left = search (rules, all_left);
       so_far = laid_begun (lines c.args.source.now) _ (search rules) (search rules) c.requires
           (search rules) (search rules);
-      counted = omega (
-        arith,
-        ap length c.into_iter-text-iterator.ensures.into_iter_gives,
-        c.cut_lines-text-items.ensures.within,
-      );
+      counted = search rules;
     }
 
 pub take-requires-clause-up_to : goal.take-requires-clause-up_to
