@@ -1,7 +1,6 @@
 -- Loads, stores and fetches read and write only their own bytes of the memory. Each law compares a bus with
 -- the same bus over another memory of the same size.
-use Rattle.std.proofs.Common.{◌≡◌, ◌≢◌, ℕ, zero, suc, ◌+◌, ◌-◌, ◌≤◌, ◌<◌, List, [], ◌∷◌, slice_get, slice_index, slice_set, length, Option, Some, None, Bool, true, false, nat_le, nat_lt, if◌then◌else◌, arith, inl, inr, refl, sym, ap, subst, ◌∙◌}
-use Rattle.std.specs.Prelude.{◌&&◌}
+use Rattle.std.proofs.Common.{◌≡◌, ◌≢◌, ℕ, zero, suc, ◌+◌, ◌-◌, ◌≤◌, ◌<◌, List, [], ◌∷◌, slice_get, slice_index, slice_set, length, Option, Some, None, arith, refl, sym, ap, subst, ◌∙◌, rules}
 use Rattle.std.specs.Option.{option_map}
 use Rattle.std.proofs.lemmas.Bool.{le-leb, leb-true, cases_eq, cases_lt}
 use Rattle.std.proofs.lemmas.Grind.{get_or-set_at}
@@ -77,41 +76,18 @@ KeepsMemory b None = Unit {0}
 KeepsMemory b (Some r) = r.1.ram ≡ b.ram
 
 pub memory_after_load : (b : BusState) (a : ℕ) (w : Width) → KeepsMemory b (load b a w)
-memory_after_load b a w =
-    subst (KeepsMemory b) (sym (at_location b a w).load)
-    (each_location (λ p. KeepsMemory b (load_at b p w)) (length b.ram) a w (λ above. refl) refl (λ off. refl)
-    (λ off. refl) (λ reg. refl) tt)
+memory_after_load b a w = search (rules, at_location, each_location)
 
 pub same_fetch : (one other : List ℕ) (a : ℕ) → length other ≡ length one
     → (ram_base ≤ a → SameBytes one other (a - ram_base) 4) → fetch other a ≡ fetch one a
-same_fetch one other a size same =
-    fetch_is other a
-    ∙ ap (λ n. if nat_le ram_base a && nat_lt (a - ram_base) n then Some (value_at other (a - ram_base) 4) else None)
-    size
-    ∙ by (nat_le ram_base a) (nat_lt (a - ram_base) (length one)) refl ∙ sym (fetch_is one a)
-  where
-    by : (t u : Bool) → nat_le ram_base a ≡ t
-        → (if t && u then Some (value_at other (a - ram_base) 4) else None)
-        ≡ (if t && u then Some (value_at one (a - ram_base) 4) else None)
-    by true true is = ap Some (same_number one other (a - ram_base) 4 (same (leb-true ram_base a is)))
-    by true false is = refl
-    by false u is = refl
+same_fetch one other a size same = search (rules, fetch_is, same_number, leb-true)
 
 -- ---- stores
 
 same_set : (one other : List ℕ) (i v k : ℕ) → length other ≡ length one
     → slice_index other k ≡ slice_index one k
     → slice_index (slice_set other i v) k ≡ slice_index (slice_set one i v) k
-same_set one other i v k size same =
-    elim (cases_eq k i) [
-      | inl here ↦ elim (cases_lt i (length one)) [
-        | inl within ↦
-            get_or-set_at other i k v 0 here (omega arith) ∙ sym (get_or-set_at one i k v 0 here within)
-        | inr beyond ↦ ap (λ (bs : List ℕ). slice_index bs k) (set_past other i v (omega arith))
-            ∙ (same ∙ sym (ap (λ (bs : List ℕ). slice_index bs k) (set_past one i v beyond)))
-      ]
-      | inr away ↦ get_or-set_other other i k v 0 away ∙ (same ∙ sym (get_or-set_other one i k v 0 away))
-    ]
+same_set one other i v k size same = search (rules, cases_eq, cases_lt, get_or-set_at, set_past, get_or-set_other)
 
 -- a byte that is the same in both memories is the same after the same store
 same_put : (one other : List ℕ) (off n v k : ℕ) → length other ≡ length one
@@ -120,8 +96,7 @@ same_put : (one other : List ℕ) (off n v k : ℕ) → length other ≡ length 
 unfolding put
 same_put one other off zero v k size same = same
 same_put one other off (suc n) v k size same =
-    same_set (put one off n v) (put other off n v) (off + n) _ k
-    (length_put other off n v ∙ (size ∙ sym (length_put one off n v))) (same_put one other off n v k size same)
+    search (rules, same_set, length_put, same_put one other off n v k size same)
 
 -- the bus b after a store, `one`, and the same bus over another memory after it, `other`: only the memories
 -- differ, only the store's own bytes are written, and bytes that were the same stay the same
@@ -143,25 +118,12 @@ BothStore b ram a w (Some one) (Some other) = StoresAlike b ram a w one other
 -- stores to a device and to the memory
 device_store : (b : BusState) (ram : List ℕ) (a : ℕ) (w : Width) (one : BusState)
     → length ram ≡ length b.ram → one.ram ≡ b.ram → StoresAlike b ram a w one (with_ram one ram)
-device_store b ram a w one size still = record {
-  rest = refl;
-  size = ap length still;
-  other_size = size ∙ sym (ap length still);
-  kept = λ k others. ap (λ (bs : List ℕ). slice_index bs k) still;
-  same = λ k e. e ∙ sym (ap (λ (bs : List ℕ). slice_index bs k) still);
-}
+device_store b ram a w one size still = search rules
 
 memory_store : (b : BusState) (ram : List ℕ) (a v : ℕ) (w : Width) → length ram ≡ length b.ram → ram_base ≤ a
     → StoresAlike b ram a w (record b { ram = put b.ram (a - ram_base) (bytes_of w) v })
     (record b { ram = put ram (a - ram_base) (bytes_of w) v })
-memory_store b ram a v w size above = record {
-  rest = refl;
-  size = length_put b.ram (a - ram_base) (bytes_of w) v;
-  other_size = length_put ram (a - ram_base) (bytes_of w) v
-      ∙ (size ∙ sym (length_put b.ram (a - ram_base) (bytes_of w) v));
-  kept = λ k others. byte_put b.ram (a - ram_base) (bytes_of w) v k (λ i less e. others i less (omega arith));
-  same = λ k e. same_put b.ram ram (a - ram_base) (bytes_of w) v k size e;
-}
+memory_store b ram a v w size above = search (rules, length_put, byte_put, same_put)
 
 pub same_store : (b : BusState) (ram : List ℕ) (a v : ℕ) (w : Width) → length ram ≡ length b.ram
     → BothStore b ram a w (store b a w v) (store (with_ram b ram) a w v)
@@ -185,20 +147,8 @@ same_store b ram a v w size =
 pub same_byte : (one other : List ℕ) (a : ℕ) → length other ≡ length one
     → (ram_base ≤ a → slice_index other (a - ram_base) ≡ slice_index one (a - ram_base))
     → ram_byte other a ≡ ram_byte one a
-same_byte one other a size same = by_test (nat_le ram_base a) (λ t. same (leb-true ram_base a t))
-  where
-    by_test : (x : Bool) → (x ≡ true → slice_index other (a - ram_base) ≡ slice_index one (a - ram_base))
-        → (if x then slice_get other (a - ram_base) else None) ≡ (if x then slice_get one (a - ram_base) else None)
-    by_test true e = same_get one other (a - ram_base) size (e refl)
-    by_test false e = refl
+same_byte one other a size same = search (rules, leb-true, same_get)
 
 pub byte_same : (one other : List ℕ) (k : ℕ) → length other ≡ length one
     → ram_byte other (ram_base + k) ≡ ram_byte one (ram_base + k) → slice_index other k ≡ slice_index one k
-byte_same one other k size same =
-    same_index one other k (sym (at_byte other) ∙ (same ∙ at_byte one))
-  where
-    at_byte : (bs : List ℕ) → ram_byte bs (ram_base + k) ≡ slice_get bs k
-    at_byte bs =
-        let le : nat_le ram_base (ram_base + k) ≡ true = le-leb ram_base (ram_base + k) (omega arith) in
-        let off : ram_base + k - ram_base ≡ k = omega arith in
-        rw (le, off) refl
+byte_same one other k size same = search (rules, same_index, le-leb)

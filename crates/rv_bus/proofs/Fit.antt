@@ -1,7 +1,6 @@
-use Rattle.std.proofs.Common.{◌≡◌, ℕ, ◌+◌, ◌-◌, ◌%◌, ◌≤◌, ◌<◌, arith}
+use Rattle.std.proofs.Common.{◌≡◌, ℕ, ◌+◌, ◌-◌, ◌%◌, ◌≤◌, ◌<◌, rules}
 use Rattle.rv_base.specs.Limits.{ram_base}
 use Rattle.rv_isa.specs.declared.op.Width.{Width}
-use Rattle.rv_isa.specs.declared.op.Width.TheVariants.{One, Two, Four}
 use Rattle.rv_isa.specs.Width.{bytes_of}
 
 -- an aligned address of the memory has an aligned offset, and all bytes of its access are in the memory
@@ -9,6 +8,4 @@ pub memory_within : (w : Width) (a size : ℕ) → size % 4096 ≡ 0 → a % byt
     → a - ram_base < size
     → ((a - ram_base) + bytes_of w ≤ size) × ((a - ram_base) % bytes_of w ≡ 0)
     × (a ≡ ram_base + (a - ram_base))
-memory_within One a size s h l b = (omega arith, omega arith, omega arith)
-memory_within Two a size s h l b = (omega arith, omega arith, omega arith)
-memory_within Four a size s h l b = (omega arith, omega arith, omega arith)
+memory_within w a size s h l b = search rules

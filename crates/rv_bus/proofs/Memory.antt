@@ -1,6 +1,6 @@
 -- Fetches and writes, by whether an address is in the memory.
-use Rattle.std.proofs.Common.{◌≡◌, ℕ, ◌-◌, ◌==◌, nat_le, nat_lt, Bool, true, false, List, length, Some, None, refl, ap}
-use Rattle.std.specs.Prelude.{◌&&◌, ◌||◌, if◌then◌else◌, is_some, slice_get}
+use Rattle.std.proofs.Common.{◌≡◌, ℕ, ◌-◌, ◌==◌, nat_lt, Bool, true, false, List, length, Some, None, refl, ap, rules}
+use Rattle.std.specs.Prelude.{◌||◌, if◌then◌else◌, is_some, slice_get}
 use Rattle.std.proofs.lemmas.Bool.{ltb-true, ltb-false}
 use Rattle.std.proofs.lemmas.Option.{slice_get-get_or, slice_get_past}
 use Rattle.rv_base.specs.Limits.{ram_base}
@@ -16,11 +16,7 @@ is_within bs i = by (nat_lt i (length bs)) refl where
   by false is = ap is_some (slice_get_past bs i (ltb-false i (length bs) is))
 
 pub has_byte : (ram : List ℕ) (a : ℕ) → is_some (ram_byte ram a) ≡ in_memory ram a
-has_byte ram a = by (nat_le ram_base a) where
-  by : (t : Bool) → is_some (if t then slice_get ram (a - ram_base) else None)
-      ≡ (t && nat_lt (a - ram_base) (length ram))
-  by true = is_within ram (a - ram_base)
-  by false = refl
+has_byte ram a = search (rules, is_within)
 
 pub fetch_is : (ram : List ℕ) (a : ℕ)
     → fetch ram a ≡ (if in_memory ram a then Some (value_at ram (a - ram_base) 4) else None)

@@ -1,25 +1,22 @@
 -- The rows of the address table do what the accesses at their locations do.
 use Rattle.std.proofs.Common.{◌≡◌, ℕ, ◌+◌, ◌-◌, ◌<◌, ◌==◌, Bool, true, false, cond, nat_le, nat_lt, List, [], ◌∷◌, Option, Some, None, arith, refl, rules, sym, ap, subst, ◌∙◌}
-use Rattle.std.specs.Prelude.{◌&&◌, ◌||◌, not, if◌then◌else◌, drop, find, length}
+use Rattle.std.specs.Prelude.{◌&&◌, if◌then◌else◌, drop, find, length}
 use Rattle.std.specs.List.{list_any}
 use Rattle.std.specs.Option.{option_map}
 use Rattle.std.proofs.lemmas.Bool.{and_from, and_right, eqb-true, le-leb, lt-ltb, not-true, or_parts}
 use Rattle.rv_base.specs.Limits.{ram_base}
 use Rattle.rv_isa.specs.declared.op.Width.{Width}
 use Rattle.rv_isa.specs.Width.{bytes_of}
-use Rattle.rv_isa.specs.declared.op.Width.TheVariants.{One, Two, Four}
-use Rattle.rv_ram.specs.Bytes.{value_at}
 use Rattle.rv_ram.specs.Room.{RoomRule}
-use Rattle.rv_mmio.specs.Room.{is_full}
-use Rattle.rv_mmio.specs.declared.serial.SerialReg.TheVariants.{Rx, Status, Tx}
+use Rattle.rv_mmio.specs.declared.serial.SerialReg.TheVariants.{Tx}
 use Rattle.rv_bus.specs.State.{BusState}
 use Rattle.rv_bus.specs.Table.{Window, window_at, windows}
 use Rattle.rv_bus.specs.Access.{load, store, keeps_stores, fetch}
 use Rattle.rv_bus.specs.Room.{wants_room}
-use Rattle.rv_bus.specs.Support.Locations.{controller, device_in, for_width, has, location_of, registers, takes}
-use Rattle.rv_bus.specs.Support.AtLocation.{IsFor, Reached, in_memory, location, reach_at, is_written, fetch_at, wants_room_at}
+use Rattle.rv_bus.specs.Support.Locations.{device_in, for_width, has, location_of, registers, takes}
+use Rattle.rv_bus.specs.Support.AtLocation.{IsFor, Reached, location, reach_at, is_written, fetch_at, wants_room_at}
 use Rattle.rv_bus.specs.declared.locations.Location.{Location}
-use Rattle.rv_bus.specs.declared.locations.Location.TheVariants.{Halt, Nowhere, Plic, Ram, Serial, Timer}
+use Rattle.rv_bus.specs.declared.locations.Location.TheVariants.{Nowhere, Ram, Serial}
 use Rattle.rv_bus.proofs.Memory.{fetch_is, has_byte, writes_is}
 use Rattle.rv_bus.proofs.Windows.{at_device, each_device, one_address}
 
@@ -29,12 +26,7 @@ narrowest (Serial reg) = 1
 narrowest p = 4
 
 narrow : (w : Width) (p : Location) → nat_le (narrowest p) (bytes_of w) ≡ takes p w
-narrow One (Serial reg) = refl
-narrow One p = refl
-narrow Two (Serial reg) = refl
-narrow Two p = refl
-narrow Four (Serial reg) = refl
-narrow Four p = refl
+narrow w p = search rules
 
 module _ (b : BusState) (a : ℕ) (w : Width) where
   -- what a row reaches, or none, is what an access reaches at a location
@@ -51,8 +43,7 @@ module _ (b : BusState) (a : ℕ) (w : Width) where
   first : (t : Bool) (x : Window) (rest : Option Window) (p q : Location) → IsRow (Some (reaches x)) p
       → IsRow (option_map reaches rest) q
       → IsRow (option_map reaches (cond t (Some x) rest)) (if t then p else q)
-  first true x rest p q here later = here
-  first false x rest p q here later = later
+  first t x rest p q here later = search rules
 
   -- ---- the rows of the devices
 
@@ -76,35 +67,23 @@ module _ (b : BusState) (a : ℕ) (w : Width) where
       ∙ none_takes xs p.1
 
   nowhere : (t : Bool) → IsRow None (if t then Nowhere else Nowhere)
-  nowhere true = refl
-  nowhere false = refl
+  nowhere t = search rules
 
   -- the row of a device, by whether it takes the width, and whether it has the address
   at_row : (t u : Bool) (x : Window) (rest : Option Window) (p q : Location) → takes p w ≡ t
       → (u ≡ true → rest ≡ None) → IsRow (Some (reaches x)) p → IsRow (option_map reaches rest) (for_width q w)
       → IsRow (option_map reaches (cond (t && u) (Some x) rest)) (for_width (if u then p else q) w)
-  at_row true true x rest p q is none here later =
-      subst (λ t. IsRow (Some (reaches x)) (if t then p else Nowhere)) (sym is) here
-  at_row false true x rest p q is none here later =
-      subst (λ o. IsRow (option_map reaches o) (for_width p w)) (sym (none refl))
-      (subst (λ t. IsRow None (if t then p else Nowhere)) (sym is) (nowhere false))
-  at_row true false x rest p q is none here later = later
-  at_row false false x rest p q is none here later = later
+  at_row t u x rest p q is none here later = search rules
 
   -- a row's test, by the location that it has
   tested : (p : Location) (u : Bool) (x : Window) (rest : Option Window) (at : Location)
       → IsRow (option_map reaches (cond (takes p w && u) (Some x) rest)) at
       → IsRow (option_map reaches (cond (nat_le (narrowest p) (bytes_of w) && u) (Some x) rest)) at
-  tested p u x rest at =
-      subst (λ t. IsRow (option_map reaches (cond (t && u) (Some x) rest)) at) (sym (narrow w p))
+  tested p u x rest at = search rules
 
   rows_of : (ys : List (ℕ × Location)) (xs : List Window) → AreRows ys xs
       → IsRow (option_map reaches (find takes_it xs)) (for_width (device_in ys a) w)
-  rows_of [] xs is =
-      subst (λ xs. IsRow (option_map reaches (find takes_it xs)) (for_width (controller a) w)) (sym is)
-      (tested (Plic 0) (has 0x0c000000 0x4000000 a) _ None (for_width (controller a) w)
-      (at_row (takes (Plic 0) w) (has 0x0c000000 0x4000000 a) _ None (Plic (a - 0x0c000000)) Nowhere refl (λ u. refl)
-      refl (nowhere (takes Nowhere w))))
+  rows_of [] xs is = search (rules, tested, at_row, nowhere)
   rows_of (y ∷ ys) [] is = absurd is
   rows_of (y ∷ ys) (x ∷ xs) is =
       subst (λ t. IsRow (option_map reaches (cond t (Some x) (find takes_it xs))) (for_width (device_in (y ∷ ys) a) w))
@@ -134,80 +113,35 @@ module _ (b : BusState) (a : ℕ) (w : Width) where
 
   -- ---- the memory and the transmit register
 
-  fetched : (t : Bool) (p : Location) → fetch_at b.ram p ≡ None
-      → (if t then Some (value_at b.ram (a - ram_base) 4) else None)
-      ≡ fetch_at b.ram (if t then Ram (a - ram_base) else p)
-  fetched true p none = refl
-  fetched false p none = sym none
-
   fetches : fetch b.ram a ≡ fetch_at b.ram (location b a w)
   unfolding location_of
-  fetches =
-      fetch_is b.ram a
-      ∙ fetched (in_memory b.ram a) (for_width (device_in registers a) w)
-      (each_device (λ p. fetch_at b.ram p ≡ None) a w refl (λ reg. refl) (λ off. refl) (λ reg. refl) refl)
+  fetches = search (rules, fetch_is, each_device)
 
   -- of the devices the transmit register alone is written
   abbrev others : Location
   others = device_in (drop 1 registers) a
 
   no_others : (t : Bool) → is_written (if t then others else Nowhere) ≡ false
-  no_others true =
-      not-true (is_written others) (at_device (λ p. not (is_written p)) (drop 1 registers) a refl (λ off. refl) refl)
-  no_others false = refl
-
-  device_written : (u : Bool) → is_written (for_width (if u then Serial Tx else others) w) ≡ u
-  device_written true = refl
-  device_written false = no_others (takes others w)
-
-  writing : (t u : Bool) (p : Location) → is_written p ≡ u
-      → (t || u) ≡ is_written (if t then Ram (a - ram_base) else p)
-  writing true u p is = refl
-  writing false u p is = sym is
+  no_others t = search (rules, not-true, at_device)
 
   written : keeps_stores b a ≡ is_written (location b a w)
   unfolding location_of
-  written =
-      writes_is b a
-      ∙ writing (in_memory b.ram a) (a == 0x10000000) (for_width (device_in registers a) w)
-      (device_written (a == 0x10000000))
+  written = search (rules, writes_is, no_others)
 
   -- ---- room
 
   module _ (rule : RoomRule) (v : ℕ) where
     without : (p : Location) → is_written p ≡ false → wants_room_at rule b p w v ≡ false
-    without (Ram off) is = absurd cc
-    without (Serial Tx) is = absurd cc
-    without (Serial Rx) is = refl
-    without (Serial Status) is = refl
-    without Halt is = refl
-    without (Timer reg) is = refl
-    without (Plic off) is = refl
-    without Nowhere is = refl
-
-    device_room : (u : Bool)
-        → (u && is_full b.serial) ≡ wants_room_at rule b (for_width (if u then Serial Tx else others) w) w v
-    device_room true = refl
-    device_room false = sym (without (for_width others w) (no_others (takes others w)))
-
-    by_place : (t room : Bool) (p : Location) → room ≡ wants_room_at rule b p w v
-        → (if t then rule b.ram (a - ram_base) w v else room)
-        ≡ wants_room_at rule b (if t then Ram (a - ram_base) else p) w v
-    by_place true room p is = refl
-    by_place false room p is = is
+    without p is = search rules
 
     has_room : wants_room rule b a w v ≡ wants_room_at rule b (location b a w) w v
     unfolding location_of wants_room
-    has_room =
-        ap (λ t. if t then rule b.ram (a - ram_base) w v else (a == 0x10000000) && is_full b.serial) (has_byte b.ram a)
-        ∙ by_place (in_memory b.ram a) ((a == 0x10000000) && is_full b.serial) (for_width (device_in registers a) w)
-        (device_room (a == 0x10000000))
+    has_room = search (rules, has_byte, without, no_others)
 
   -- a part of what a window reaches
   twice : {A : Type 0} (part : Reached → A) (found : Option Window)
       → option_map (λ x. part (reaches x)) found ≡ option_map part (option_map reaches found)
-  twice part None = refl
-  twice part (Some x) = refl
+  twice part found = search rules
 
   pub at_location : IsFor b a w (location b a w)
   unfolding load store
