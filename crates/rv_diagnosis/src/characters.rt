@@ -2,6 +2,9 @@
 use crate::spot::Spot;
 use crate::text::{Words, in_words};
 
+/// What is said of a quotation mark of typography.
+const QUOTATION_MARK: &str = "`^` is a typographic quotation mark";
+
 /// Characters that look like others or like nothing.
 static CHARACTERS: [(&str, &str, &str); 21] = [
     (
@@ -29,41 +32,13 @@ static CHARACTERS: [(&str, &str, &str); 21] = [
         "a wide space stands here, which only looks like a space",
         "replace it by a space",
     ),
-    (
-        "\u{201c}",
-        "`^` is a typographic quotation mark",
-        "write `\"`",
-    ),
-    (
-        "\u{201d}",
-        "`^` is a typographic quotation mark",
-        "write `\"`",
-    ),
-    (
-        "\u{201e}",
-        "`^` is a typographic quotation mark",
-        "write `\"`",
-    ),
-    (
-        "\u{ab}",
-        "`^` is a typographic quotation mark",
-        "write `\"`",
-    ),
-    (
-        "\u{bb}",
-        "`^` is a typographic quotation mark",
-        "write `\"`",
-    ),
-    (
-        "\u{2018}",
-        "`^` is a typographic quotation mark",
-        "write `'`",
-    ),
-    (
-        "\u{2019}",
-        "`^` is a typographic quotation mark",
-        "write `'`",
-    ),
+    ("\u{201c}", QUOTATION_MARK, "write `\"`"),
+    ("\u{201d}", QUOTATION_MARK, "write `\"`"),
+    ("\u{201e}", QUOTATION_MARK, "write `\"`"),
+    ("\u{ab}", QUOTATION_MARK, "write `\"`"),
+    ("\u{bb}", QUOTATION_MARK, "write `\"`"),
+    ("\u{2018}", QUOTATION_MARK, "write `'`"),
+    ("\u{2019}", QUOTATION_MARK, "write `'`"),
     ("\u{b4}", "`^` is an accent", "write `'`"),
     ("\u{2013}", "`^` is a dash", "write `-` for a minus sign"),
     ("\u{2014}", "`^` is a dash", "write `-` for a minus sign"),

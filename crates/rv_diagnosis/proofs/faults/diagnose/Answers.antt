@@ -1,4 +1,4 @@
-use Rattle.std.proofs.Common.{◌≡◌, ◌∙◌, ◌∷◌, length, ap, arith}
+use Rattle.std.proofs.Common.{rules, ◌≡◌, ◌∙◌, ◌∷◌, length, ap, arith}
 use Rattle.std.specs.Prelude.{slice_get}
 use Rattle.rv_base.specs.Lines.{lines}
 use Rattle.rv_asm.specs.AllFaults.{faults_of}
@@ -7,17 +7,14 @@ use Rattle.rv_diagnosis.proofs.faults.diagnose.Goals as goal
 
 pub loop-text-init : goal.loop-text-init
 loop-text-init c =
-    let all : c.into_iter-text-iterator.result ≡ lines c.args.source.now =
-    c.into_iter-text-iterator.ensures.into_iter_gives ∙ c.cut_lines-text-items.ensures.cut in
+    let texts = lines c.args.source.now in
     record {
       can_next = tt;
       is_finite = tt;
-      merged = rw (all, c.new-out.ensures.items) (begun (lines c.args.source.now) (faults_of (lines c.args.source.now)) (ordered (lines c.args.source.now)));
-      counted = omega (
-        arith,
-        ap length c.into_iter-text-iterator.ensures.into_iter_gives,
-        c.cut_lines-text-items.ensures.within,
-      );
+      merged =
+          rw (c.into_iter-text-iterator.ensures.into_iter_gives, c.cut_lines-text-items.ensures.cut, c.new-out.ensures.items)
+          (begun texts (faults_of texts) (ordered texts));
+      counted = search rules;
     }
 
 pub loop-text-preserved : goal.loop-text-preserved

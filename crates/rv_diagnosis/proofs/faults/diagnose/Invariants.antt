@@ -1,4 +1,4 @@
-use Rattle.std.proofs.Common.{◌≡◌, ◌≤◌, ◌+◌, length}
+use Rattle.std.proofs.Common.{◌≤◌, ◌+◌, length}
 use Rattle.rv_base.specs.Lines.{lines}
 use Rattle.rv_asm.specs.AllFaults.{faults_of}
 use Rattle.rv_diagnosis.proofs.Merging.{Merged, ordered}

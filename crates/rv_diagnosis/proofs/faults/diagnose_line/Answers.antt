@@ -1,4 +1,4 @@
-use Rattle.std.proofs.Common.{rules, ◌≡◌, ◌<◌, ◌≤◌, ◌==◌, length, get_or, true, false, arith}
+use Rattle.std.proofs.Common.{rules, ◌≡◌, ◌<◌, ◌==◌, length, true, false, arith}
 use Rattle.std.specs.Vec.{vec_len}
 use Rattle.std.proofs.lemmas.Bool.Decides.{nat_tests}
 use Rattle.rv_diagnosis.proofs.Merging.{none_next, other_next, this_next}
