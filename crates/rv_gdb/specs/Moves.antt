@@ -1,24 +1,29 @@
 -- To audit: public contracts cite this.
 -- The moves of a target, and what gdb is told of their ends (Debugging with GDB, appendix "GDB Remote Serial Protocol",
 -- "Stop Reply Packets"; the numbers of the signals are gdb's).
-use Rattle.std.specs.Prelude.{◌≡◌, ℕ, ◌-◌, ◌^◌, ◌==◌, ◌||◌, ◌&&◌, ◌++◌, Bool, true, false, List, if◌then◌else◌, is_none, is_some, min, nat_le, Option, Some, None}
+use Rattle.std.specs.Prelude.{ℕ, ◌-◌, ◌==◌, ◌||◌, ◌&&◌, ◌++◌, Bool, true, false, List, if◌then◌else◌, is_none, is_some, min, Option, Some, None}
 use Rattle.std.specs.FinSet as set
+use Rattle.std.specs.Option.{option_map_or}
 use Rattle.rv_board.specs.BoardState.{BoardState}
 use Rattle.rv_hart.specs.declared.trap.Outcome.{Outcome}
 use Rattle.rv_hart.specs.declared.trap.Outcome.TheVariants.{Trapped}
 use Rattle.rv_hart.specs.Step.{step}
 use Rattle.rv_monitor.specs.State.{SessionState, with_due}
 use Rattle.rv_monitor.specs.Stops.{may_step}
-use Rattle.rv_recording.specs.Out.{out_ends}
 use Rattle.rv_recording.specs.Recording.{gone_back}
-use Rattle.rv_recording.specs.Until.{HasRun}
 use Rattle.rv_recording.specs.declared.until.End.{End}
 use Rattle.rv_recording.specs.declared.until.End.TheVariants.{Limit}
-use Rattle.rv_lab.specs.Commands.{stepped}
 use Rattle.rv_lab.specs.State.{board}
+use Rattle.rv_moves.specs.Back.{first_state, last_stop, left_by}
+use Rattle.rv_moves.specs.Runs.{open_for, reached, run_ends}
+use Rattle.rv_moves.specs.Watches.{met}
+use Rattle.rv_moves.specs.declared.back.Back.{Back}
+use Rattle.rv_moves.specs.declared.forward.Aim.{Aim}
+use Rattle.rv_moves.specs.declared.watch.Watch.{Watch}
 use Rattle.rv_packets.specs.Items.{framed}
 use Rattle.rv_replies.specs.Texts.{state_text}
 use Rattle.rv_replies.specs.declared.stops.Reason.{Reason}
+use Rattle.rv_replies.specs.declared.stops.Reason.TheVariants.{Plain, Breakpoint, Stored, Loaded, Accessed, Begin}
 use Rattle.rv_gdb.specs.Target.{TargetState, console_text, moved, with_console, with_recording}
 
 -- ---- stops
@@ -73,11 +78,6 @@ lost_by t =
 abbrev pub landed : TargetState → TargetState
 landed t = if is_some (lost_by t) then went_back t (taken t - 1) else with_console t
 
--- whether an interrupt came with it: the highest bit of its cause is set
-unfoldable pub is_interrupt : Option Outcome → Bool
-is_interrupt (Some (Trapped cause epc tval)) = nat_le (2 ^ 31) cause
-is_interrupt _ = false
-
 -- the target whose recording has another session
 abbrev pub with_session : TargetState → SessionState → TargetState
 with_session t s = with_recording t (record t.lab.recording { session = s })
@@ -91,23 +91,61 @@ abbrev pub goes_on : End → Bool
 goes_on Limit = true
 goes_on end = false
 
--- a step was taken, and if an interrupt came with it, those of its handler, up to its end or to a breakpoint: the run
--- out of one call
-pub record RanOut (most : ℕ) (old new : TargetState) : Type 0 where
-  pub session : SessionState
-  pub end : End
-  pub run : HasRun (out_ends 1 old.lab.recording.session) most old.lab.recording.session session end
-  pub state : new ≡ landed (with_session old session)
-
-abbrev pub Passed : (interrupted : Bool) (most : ℕ) (one new : TargetState) → Type 0
-Passed true most one new = RanOut most one new
-Passed false most one new = new ≡ landed one
-
-abbrev pub StepsPast : (most : ℕ) (old new : TargetState) → Type 0
-StepsPast most old new =
-    Passed (is_interrupt (next_outcome old.lab.recording.session)) most
-    (with_recording old (stepped old.lab.recording)) new
-
 -- whether the next instruction is at a breakpoint
 abbrev pub is_at_break : TargetState → Bool
 is_at_break t = set.contains t.lab.recording.session.breakpoints.addresses (board t.lab).machine.pc
+
+-- ---- watches
+
+-- the watch that the next instruction meets, and the one that the last step met
+abbrev pub met_next : TargetState → Option Watch
+met_next t = met t.watches (board t.lab)
+
+abbrev pub met_before : TargetState → Option Watch
+met_before t =
+    if taken t == 0 then None
+    else met t.watches (gone_back t.lab.recording (min (taken t - 1) (taken t))).session.timed.board
+
+-- why a step ends: the next instruction is at a breakpoint, or for no reason that is named
+abbrev pub step_reason : TargetState → Reason
+step_reason t = if is_at_break t then Breakpoint else Plain
+
+-- why a move ends at a watch, by what it looks for
+abbrev pub watch_reason : Watch → Reason
+watch_reason w = if w.stores then (if w.loads then Accessed w.address else Stored w.address) else Loaded w.address
+
+abbrev pub met_reason : Option Watch → Reason
+met_reason met = option_map_or watch_reason met Plain
+
+-- why a run ends: at a breakpoint; where it goes; or before an access
+abbrev pub run_reason : TargetState → Reason
+run_reason t =
+    if is_at_break t then Breakpoint
+    else if reached t.aim t.calls (board t.lab) then Plain
+    else met_reason (met_next t)
+
+-- why a run back ends
+abbrev pub back_reason : Option Back → Reason
+back_reason None = Begin
+back_reason (Some b) = option_map_or watch_reason b.watch Breakpoint
+
+-- ---- runs
+
+-- a target that begins a run
+abbrev pub with_aim : Aim → TargetState → TargetState
+with_aim aim t = record t { aim = aim; calls = 0 }
+
+-- a run back to the last stop, or to the first step
+abbrev pub last_stop_of : TargetState → Option Back
+last_stop_of t = let r = t.lab.recording in
+    last_stop t.watches r.session.breakpoints.addresses (first_state r) (taken t)
+
+abbrev pub ran_back : TargetState → TargetState
+ran_back t = moved t (gone_back t.lab.recording (left_by (last_stop_of t)))
+
+-- why a run is over after some steps, and how many handlers and calls are open then
+abbrev pub ends_of : TargetState → ℕ → Option End
+ends_of t = run_ends t.watches t.aim t.calls t.lab.recording.session
+
+abbrev pub calls_of : TargetState → ℕ → ℕ
+calls_of t n = open_for t.aim t.calls t.lab.recording.session.timed n

@@ -1,37 +1,56 @@
 -- To audit: public contracts cite this.
 -- What a request leaves of a target, one row a request: what isn't named here leaves it as it was, and so does a packet
 -- that is malformed or unknown.
-use Rattle.std.specs.Prelude.{◌≡◌, ℕ, ◌-◌, ◌≤◌, ◌==◌, ◌++◌, List, Option, if◌then◌else◌, MatchOption}
+use Rattle.std.specs.Prelude.{◌≡◌, ℕ, ◌-◌, ◌==◌, ◌++◌, true, false, List, Option, Some, None, if◌then◌else◌, is_some, MatchOption}
+use Rattle.std.specs.Option.{option_map_or}
 use Rattle.rv_monitor.specs.State.{with_break, without_break}
 use Rattle.rv_lab.specs.Commands.{stepped}
 use Rattle.rv_lab.specs.State.{board}
+use Rattle.rv_moves.specs.Watches.{with_watch, without_watch}
+use Rattle.rv_moves.specs.declared.forward.Aim.TheVariants.{Stop, Outside}
+use Rattle.rv_moves.specs.declared.watch.Watch.{Watch}
 use Rattle.rv_packets.specs.Items.{framed}
 use Rattle.rv_replies.specs.Looks.{look_text}
 use Rattle.rv_requests.specs.declared.request.Point.{Point}
-use Rattle.rv_requests.specs.declared.request.Point.TheVariants.{Break}
+use Rattle.rv_requests.specs.declared.request.Point.TheVariants.{Break, Store, Load, Access}
 use Rattle.rv_requests.specs.declared.request.Request.{Request}
-use Rattle.rv_requests.specs.declared.request.Request.TheVariants.{Step, StepWithin, StepBack, ContinueBack, Insert, Remove, Run}
-use Rattle.rv_gdb.specs.Moves.{StepsPast, landed, taken, went_back, with_session}
-use Rattle.rv_gdb.specs.Target.{TargetState, with_recording}
+use Rattle.rv_requests.specs.declared.request.Request.TheVariants.{Step, StepWithin, Continue, StepBack, ContinueBack, Insert, Remove, Run}
+use Rattle.rv_gdb.specs.Moves.{landed, met_before, met_next, ran_back, taken, went_back, with_aim, with_session}
+use Rattle.rv_gdb.specs.Target.{TargetState, with_console, with_recording}
 
--- a target with a breakpoint more, and with one less: the one where a trap without a handler leads stays
-abbrev pub inserted : Point → ℕ → TargetState → TargetState
-inserted Break address t = with_session t (with_break t.lab.recording.session address)
-inserted point address t = t
+-- the watch that a point is; a breakpoint is none
+abbrev pub watch_of : Point → (address size : ℕ) → Option Watch
+watch_of Break address size = None
+watch_of Store address size = Some (record { stores = true; loads = false; address = address; size = size })
+watch_of Load address size = Some (record { stores = false; loads = true; address = address; size = size })
+watch_of Access address size = Some (record { stores = true; loads = true; address = address; size = size })
 
-abbrev pub removed : Point → ℕ → TargetState → TargetState
-removed Break address t =
-    if address == 0 then t else with_session t (without_break t.lab.recording.session address)
-removed point address t = t
+-- a target with a point more, and with one less: the breakpoint where a trap without a handler leads stays
+abbrev pub inserted : Point → (address size : ℕ) → TargetState → TargetState
+inserted point address size t = option_map_or
+    (λ w. record t { watches = with_watch w t.watches })
+    (watch_of point address size) (with_session t (with_break t.lab.recording.session address))
 
--- a step; one past an interrupt's handler; a step back; a run back; a breakpoint; the program again
+abbrev pub removed : Point → (address size : ℕ) → TargetState → TargetState
+removed point address size t = option_map_or
+    (λ w. record t { watches = without_watch w t.watches })
+    (watch_of point address size)
+    (if address == 0 then t else with_session t (without_break t.lab.recording.session address))
+
+-- no move goes past an access to watched bytes: it ends before the step, or before it is undone, and gdb, which takes the
+-- watches away for that, takes the step itself. Else a step; a run until the pc leaves some addresses; a run; a step back;
+-- a run back; a point; the program again
 unfoldable pub Serves : Request → (old new : TargetState) → Type 0
-Serves Step old new = new ≡ landed (with_recording old (stepped old.lab.recording))
-Serves (StepWithin from to) old new = StepsPast 10000000 old new
-Serves StepBack old new = new ≡ went_back old (taken old - 1)
-Serves ContinueBack old new = taken new ≤ taken old - 1
-Serves (Insert point address size) old new = new ≡ inserted point address old
-Serves (Remove point address size) old new = new ≡ removed point address old
+Serves Step old new =
+    new ≡ (if is_some (met_next old) then with_console old
+    else landed (with_recording old (stepped old.lab.recording)))
+Serves (StepWithin from to) old new =
+    new ≡ (if is_some (met_next old) then with_console old else with_aim (Outside from to) old)
+Serves Continue old new = new ≡ with_aim Stop old
+Serves StepBack old new = new ≡ (if is_some (met_before old) then old else went_back old (taken old - 1))
+Serves ContinueBack old new = new ≡ ran_back old
+Serves (Insert point address size) old new = new ≡ inserted point address size old
+Serves (Remove point address size) old new = new ≡ removed point address size old
 Serves Run old new = new ≡ went_back old 0
 Serves request old new = new ≡ old
 

@@ -7,18 +7,26 @@ use Rattle.rv_recording.specs.Recording.{RecordingState}
 use Rattle.rv_lab.specs.Commands.{with_session}
 use Rattle.rv_lab.specs.State.{LabState, board, sent}
 use Rattle.rv_packets.specs.Items.{framed}
+use Rattle.rv_moves.specs.declared.forward.Aim.{Aim}
+use Rattle.rv_moves.specs.declared.forward.Aim.TheVariants.{Stop}
+use Rattle.rv_moves.specs.declared.watch.Watch.{Watch}
 use Rattle.rv_replies.specs.Files.{FilesState}
 use Rattle.rv_replies.specs.Texts.{digits}
 
--- a lab with the files that gdb reads, and the number of bytes of the console that it was told
+-- a lab with the files that gdb reads, the number of bytes of the console that it was told, the watches, and what a run
+-- goes on for, with the number of handlers and calls that are open in it
 pub record TargetState : Type 0 where
   pub lab : LabState
   pub files : FilesState
   pub told : ℕ
+  pub watches : List Watch
+  pub aim : Aim
+  pub calls : ℕ
 
 -- a target as the talk begins: where a trap without a handler leads, at 0, runs stop
 abbrev pub begun : LabState → FilesState → TargetState
-begun l files = record { lab = with_session l (with_break l.recording.session 0); files = files; told = 0 }
+begun l files =
+    record { lab = with_session l (with_break l.recording.session 0); files = files; told = 0; watches = []; aim = Stop; calls = 0 }
 
 -- the packet with what the console got since it was told, if it got anything
 abbrev pub console_text : TargetState → List ℕ

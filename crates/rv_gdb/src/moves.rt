@@ -1,15 +1,17 @@
 //! Moves of the board, and their stops.
-ghost use Rattle.std.specs.Prelude.{◌≡◌, ◌<◌, ◌≤◌, ◌-◌, ◌++◌, IfOk, IfSome, OnOk, false};
-ghost use Rattle.rv_recording.specs.Out.{out_ends};
-ghost use Rattle.rv_recording.specs.Until.{HasRun, break_ends};
+ghost use Rattle.std.specs.Prelude.{◌≡◌, ◌-◌, ◌++◌, IfOk, OnOk, false, if◌then◌else◌, is_none, is_some};
+ghost use Rattle.rv_monitor.specs.Stops.{steps_between};
+ghost use Rattle.rv_recording.specs.Until.{HasRun};
+ghost use Rattle.rv_moves.specs.declared.forward.Aim.TheVariants.{Outside};
 ghost use Rattle.rv_lab.specs.Commands.{stepped};
-ghost use Rattle.rv_gdb.specs.Moves.{StepsPast, after_part, goes_on, next_outcome, is_at_break, is_interrupt, is_lost, landed, lost_by, signal_of, state_packet, stop_packets, taken, went_back, with_session};
+ghost use Rattle.rv_gdb.specs.Moves.{after_part, back_reason, calls_of, ends_of, goes_on, is_at_break, is_lost, landed, lost_by, met_before, met_next, met_reason, ran_back, run_reason, signal_of, state_packet, step_reason, stop_packets, taken, watch_reason, went_back, with_aim, with_session};
 ghost use Rattle.rv_gdb.specs.Target.{with_console, with_recording};
 
 use crate::target::{NO_HANDLER, Target};
 use rv_base::NoMemory;
 use rv_board::BootedBoard;
 use rv_hart::Outcome;
+use rv_moves::{Aim, Back, Watch, run, run_back, run_to_stop};
 use rv_packets::append_packet;
 use rv_recording::End;
 use rv_replies::{Reason, append_state};
@@ -27,20 +29,6 @@ const REFUSED: u8 = 11;
 
 const CALLED: u8 = 12;
 
-/// The most steps of an interrupt's handler that are taken with the step that it came with.
-const HANDLER: u64 = 10_000_000;
-
-/// Returns whether an interrupt came with a step.
-#[tactic(auto, unfolding(crate::specs::Moves::is_interrupt))]
-fn is_interrupt(outcome: Option<Outcome>) -> bool
-    ensures { result ≡ is_interrupt outcome }
-{
-    match outcome {
-        Some(Outcome::Trapped { cause, .. }) => cause >= 1 << 31,
-        _ => false,
-    }
-}
-
 /// Returns the signal of a trap by its cause.
 fn signal_of(cause: u32) -> u8
     ensures { result ≡ signal_of cause }
@@ -51,6 +39,43 @@ fn signal_of(cause: u32) -> u8
         2 => ILLEGAL,
         8 | 11 => CALLED,
         _ => TRAPPED,
+    }
+}
+
+/// Returns why a move ends at a watch.
+fn watch_reason(watch: Watch) -> Reason
+    ensures { result ≡ watch_reason watch }
+{
+    match (watch.stores, watch.loads) {
+        (true, true) => Reason::Accessed(watch.address),
+        (true, false) => Reason::Stored(watch.address),
+        (false, _) => Reason::Loaded(watch.address),
+    }
+}
+
+/// Returns why a run ends that may have come to a watch.
+fn met_reason(met: Option<Watch>) -> Reason
+    ensures { result ≡ met_reason met }
+{
+    match met {
+        Some(watch) => watch_reason(watch),
+        None => Reason::Plain,
+    }
+}
+
+/// Returns why a run back ends.
+fn back_reason(found: Option<Back>) -> Reason
+    ensures { result ≡ back_reason found }
+{
+    match found {
+        Some(
+            Back {
+                watch: Some(watch),
+                ..
+            },
+        ) => watch_reason(watch),
+        Some(Back { watch: None, .. }) => Reason::Breakpoint,
+        None => Reason::Begin,
     }
 }
 
@@ -128,53 +153,38 @@ impl Target {
         self.append_state(signal_of(cause), Reason::Plain, out)
     }
 
-    /// Takes a step, if there is one, and returns what it did.
-    fn take_step(&mut self) -> Result<Option<Outcome>, NoMemory>
-        ensures step { OnOk result (self.new ≡ with_recording self.old (stepped self.old.lab.recording)) }
-        ensures outcome { IfOk result (λ o. o ≡ next_outcome self.old.lab.recording.session) }
+    /// Returns the watch that the next instruction meets.
+    fn met_next(&self) -> Option<Watch>
+        ensures { result ≡ met_next self.now }
     {
-        self.lab.recording_mut().take_step()
+        self.watches.met(self.board())
     }
 
-    /// Takes a step, and tells where it ends.
-    pub(crate) fn step(&mut self, out: &mut Vec<u8>) -> Result<(), NoMemory>
-        ensures { OnOk result (self.new ≡ landed (with_recording self.old (stepped self.old.lab.recording))) }
+    /// Returns the watch that the last step met.
+    #[tactic(auto, using(rv_moves::proofs::Stops::unmet))]
+    fn met_before(&self) -> Result<Option<Watch>, NoMemory>
+        ensures { IfOk result (λ w. w ≡ met_before self.now) }
     {
-        let _outcome = self.lab.recording_mut().take_step()?;
-        let reason = self.reason_here();
-        self.land(reason, out)
-    }
-
-    /// Takes the steps of a handler that was entered, up to its end, a breakpoint or `HANDLER` steps.
-    fn run_handler(&mut self) -> Result<End, NoMemory>
-        ensures run { IfOk result (HasRun (out_ends 1 self.old.lab.recording.session) 10000000
-            self.old.lab.recording.session self.new.lab.recording.session) }
-        ensures others { self.new ≡ with_session self.old self.new.lab.recording.session }
-    {
-        let mut open = 1;
-        self.lab.recording_mut().run_out(&mut open, HANDLER)
-    }
-
-    /// Takes a step, and if an interrupt came with it, those of its handler up to its end, at most `HANDLER`. Tells where
-    /// that is.
-    #[tactic(auto, using(crate::proofs::Backs::past))]
-    pub(crate) fn step_past(&mut self, out: &mut Vec<u8>) -> Result<(), NoMemory>
-        ensures { OnOk result (StepsPast 10000000 self.old self.new) }
-    {
-        let outcome = self.take_step()?;
-        if !is_interrupt(outcome) {
-            let reason = self.reason_here();
-            self.land(reason, out)?;
-            return Ok(());
+        let steps = self.lab.steps();
+        if steps == 0 || self.watches.is_empty() {
+            return Ok(None);
         }
-        let _end = self.run_handler()?;
-        let reason = self.reason_here();
-        self.land(reason, out)?;
-        Ok(())
+        let run = self.lab.recording().replay(steps - 1)?;
+        Ok(self.watches.met(run.board()))
     }
 
-    /// Returns why a move ends where the board stands: at a breakpoint, or for no reason.
-    fn reason_here(&self) -> Reason {
+    /// Returns whether the next instruction is at a breakpoint.
+    fn is_at_break(&self) -> bool
+        ensures { result ≡ is_at_break self.now }
+    {
+        let session = self.lab.recording().session();
+        session.has_break(self.board().pc())
+    }
+
+    /// Returns why a step ends where the board stands.
+    fn step_reason(&self) -> Reason
+        ensures { result ≡ step_reason self.now }
+    {
         if self.is_at_break() {
             Reason::Breakpoint
         } else {
@@ -182,10 +192,75 @@ impl Target {
         }
     }
 
-    /// Takes a step back, and tells where it ends.
-    pub(crate) fn step_back(&mut self, out: &mut Vec<u8>) -> Result<(), NoMemory>
-        ensures { OnOk result (self.new ≡ went_back self.old (taken self.old - 1)) }
+    /// Returns why a run ends where the board stands.
+    fn run_reason(&self) -> Reason
+        ensures { result ≡ run_reason self.now }
     {
+        if self.is_at_break() {
+            return Reason::Breakpoint;
+        }
+        if self.aim.is_reached(self.calls, self.board()) {
+            return Reason::Plain;
+        }
+        met_reason(self.met_next())
+    }
+
+    /// Takes a step, and tells where it ends.
+    fn take_step(&mut self, out: &mut Vec<u8>) -> Result<(), NoMemory>
+        ensures { OnOk result (self.new ≡ landed (with_recording self.old (stepped self.old.lab.recording))) }
+    {
+        let _outcome = self.lab.recording_mut().take_step()?;
+        let reason = self.step_reason();
+        self.land(reason, out)
+    }
+
+    /// Takes a step, unless that would meet a watch, and tells where it ends.
+    pub(crate) fn step(&mut self, out: &mut Vec<u8>) -> Result<(), NoMemory>
+        ensures { OnOk result (self.new ≡ (if is_some (met_next self.old) then with_console self.old
+            else landed (with_recording self.old (stepped self.old.lab.recording)))) }
+    {
+        match self.met_next() {
+            Some(watch) => self.append_halt(TRAPPED, watch_reason(watch), out),
+            None => self.take_step(out),
+        }
+    }
+
+    /// Begins a run until the pc leaves some addresses, unless its first step would meet a watch, which is told. Returns
+    /// whether the run goes on.
+    pub(crate) fn begin_within(
+        &mut self,
+        from: u32,
+        to: u32,
+        out: &mut Vec<u8>,
+    ) -> Result<bool, NoMemory>
+        ensures state { OnOk result (self.new ≡ (if is_some (met_next self.old) then with_console self.old
+            else with_aim (Outside from to) self.old)) }
+        ensures more { IfOk result (λ more. more ≡ is_none (met_next self.old)) }
+    {
+        if let Some(watch) = self.met_next() {
+            self.append_halt(TRAPPED, watch_reason(watch), out)?;
+            return Ok(false);
+        }
+        self.begin(Aim::Outside(from, to));
+        Ok(true)
+    }
+
+    /// Begins a run.
+    pub(crate) fn begin(&mut self, aim: Aim)
+        ensures { self.new ≡ with_aim aim self.old }
+    {
+        self.aim = aim;
+        self.calls = 0;
+    }
+
+    /// Takes a step back, unless the last step met a watch, and tells where it ends.
+    pub(crate) fn step_back(&mut self, out: &mut Vec<u8>) -> Result<(), NoMemory>
+        ensures { OnOk result (self.new ≡ (if is_some (met_before self.old) then self.old
+            else went_back self.old (taken self.old - 1))) }
+    {
+        if let Some(watch) = self.met_before()? {
+            return self.append_state(TRAPPED, watch_reason(watch), out);
+        }
         let steps = self.lab.steps();
         let reason = if steps == 0 {
             Reason::Begin
@@ -196,17 +271,24 @@ impl Target {
         self.append_state(TRAPPED, reason, out)
     }
 
-    /// Takes steps of a run, at most `most`, up to a breakpoint, and returns why they ended.
+    /// Takes steps of a run, at most `most`, and returns why they ended.
     ///
     /// # Errors
     ///
     /// `NoMemory` if memory runs out at a step. The steps before it are taken.
     pub fn take_part(&mut self, most: u64) -> Result<End, NoMemory>
-        ensures run { IfOk result (HasRun (break_ends self.old.lab.recording.session) most
+        ensures run { IfOk result (HasRun (ends_of self.old) most
             self.old.lab.recording.session self.new.lab.recording.session) }
-        ensures others { self.new ≡ with_session self.old self.new.lab.recording.session }
+        ensures calls { OnOk result (self.new.calls ≡ calls_of self.old
+            (steps_between self.old.lab.recording.session.timed self.new.lab.recording.session.timed)) }
+        ensures others { self.new
+            ≡ record (with_session self.old self.new.lab.recording.session) { calls = self.new.calls } }
     {
-        self.lab.recording_mut().run_to_break(most)
+        let recording = self.lab.recording_mut();
+        match self.aim {
+            Aim::Stop => run_to_stop(recording, &self.watches, most),
+            Aim::Outside(_, _) => run(recording, &self.watches, &self.aim, &mut self.calls, most),
+        }
     }
 
     /// Tells where a part of a run ended, by why it did, and returns whether the run goes on.
@@ -224,8 +306,10 @@ impl Target {
                 Ok(true)
             }
             End::Stuck => self.end_run(Reason::End, out),
-            End::Breakpoint => self.end_run(Reason::Breakpoint, out),
-            End::Halted | End::Reached => self.end_run(Reason::Plain, out),
+            End::Breakpoint | End::Halted | End::Reached => {
+                let reason = self.run_reason();
+                self.end_run(reason, out)
+            }
         }
     }
 
@@ -245,73 +329,12 @@ impl Target {
         self.append_halt(INTERRUPTED, Reason::Plain, out)
     }
 
-    /// Returns the last of the steps from `from` on, below `to`, before which the board stands at a breakpoint, if there
-    /// is one. The board stands after some of them.
-    fn last_break(&mut self, from: u64, to: u64) -> Result<Option<u64>, NoMemory>
-        requires { from < to }
-        ensures { IfOk result (λ found. IfSome found (λ n. n < to)) }
-    {
-        self.go_back(from)?;
-        let mut last = if self.is_at_break() { Some(from) } else { None };
-        for done in from..to {
-            let left = to.saturating_sub(self.lab.steps());
-            let _end = self.take_part(left)?;
-            let here = self.lab.steps();
-            if here >= to {
-                break;
-            }
-            if self.is_at_break() {
-                last = Some(here);
-            }
-        }
-        Ok(last)
-    }
-
-    /// Returns whether the next instruction is at a breakpoint.
-    fn is_at_break(&self) -> bool
-        ensures { result ≡ is_at_break self.now }
-    {
-        let session = self.lab.recording().session();
-        session.has_break(self.board().pc())
-    }
-
-    /// Returns the last step before which the board stood at a breakpoint, of those before the first `now`, if there is
-    /// one. It is looked for in parts of the past, the newest first, each eight times as long as the one before.
-    fn find_back(&mut self, now: u64) -> Result<Option<u64>, NoMemory>
-        ensures { IfOk result (λ found. IfSome found (λ n. n < now)) }
-    {
-        let mut high = now;
-        let mut width: u64 = 1000;
-        while high > 0 {
-            let low = high.saturating_sub(width);
-            if let Some(step) = self.last_break(low, high)? {
-                return Ok(Some(step));
-            }
-            high = low;
-            width = width.saturating_mul(8);
-        }
-        Ok(None)
-    }
-
-    /// Goes back to the last step before the present one at which the board stood at a breakpoint, or to the first one,
-    /// and tells where that is.
-    #[tactic(auto, using(crate::proofs::Backs::gone_earlier))]
+    /// Goes back to the last stop before the present step, or to the first one, and tells where that is.
     pub(crate) fn run_back(&mut self, out: &mut Vec<u8>) -> Result<(), NoMemory>
-        ensures { OnOk result (taken self.new ≤ taken self.old - 1) }
+        ensures { OnOk result (self.new ≡ ran_back self.old) }
     {
-        let now = self.lab.steps();
-        let found = self.find_back(now)?;
-        self.go_back(found.unwrap_or(0))?;
-        self.tell_back(found.is_some(), out)?;
-        Ok(())
-    }
-
-    /// Tells where a run back ended: at a breakpoint that was found, or at the first step.
-    fn tell_back(&self, found: bool, out: &mut Vec<u8>) -> Result<(), NoMemory> {
-        if found {
-            self.append_state(TRAPPED, Reason::Breakpoint, out)
-        } else {
-            self.append_state(TRAPPED, Reason::Begin, out)
-        }
+        let found = run_back(self.lab.recording_mut(), &self.watches)?;
+        self.told = self.board().console().len();
+        self.append_state(TRAPPED, back_reason(found), out)
     }
 }

@@ -1,13 +1,17 @@
 //! Requests, one by one.
-ghost use Rattle.std.specs.Prelude.{◌≡◌, ◌++◌, IfOk, MatchOption, OnOk, false, true};
+ghost use Rattle.std.specs.Prelude.{◌≡◌, ◌==◌, ◌++◌, IfOk, MatchOption, OnOk, false, if◌then◌else◌, is_some, true};
+ghost use Rattle.rv_monitor.specs.State.{without_break};
+ghost use Rattle.rv_moves.specs.declared.forward.Aim.TheVariants.{Outside};
 ghost use Rattle.rv_packets.specs.Items.{framed};
 ghost use Rattle.rv_lab.specs.State.{board};
 ghost use Rattle.rv_replies.specs.Looks.{look_text};
-ghost use Rattle.rv_gdb.specs.Moves.{went_back};
-ghost use Rattle.rv_gdb.specs.Serves.{Replies, Serves, inserted, removed};
+ghost use Rattle.rv_gdb.specs.Moves.{met_next, went_back, with_aim, with_session};
+ghost use Rattle.rv_gdb.specs.Serves.{Replies, Serves, inserted, removed, watch_of};
+ghost use Rattle.rv_gdb.specs.Target.{with_console};
 
 use crate::target::{NO_HANDLER, Target};
 use rv_base::NoMemory;
+use rv_moves::{Aim, Watch};
 use rv_packets::append_packet;
 use rv_replies::append_look;
 use rv_requests::{Point, Request};
@@ -23,6 +27,24 @@ pub enum Then {
     Ends,
 }
 
+/// Returns the watch that a point is, if it isn't a breakpoint.
+fn watch_of(point: Point, address: u32, size: u32) -> Option<Watch>
+    ensures { result ≡ watch_of point address size }
+{
+    let (stores, loads) = match point {
+        Point::Break => return None,
+        Point::Store => (true, false),
+        Point::Load => (false, true),
+        Point::Access => (true, true),
+    };
+    Some(Watch {
+        stores,
+        loads,
+        address,
+        size,
+    })
+}
+
 impl Target {
     /// Appends a packet.
     pub(crate) fn say(&self, contents: &[u8], out: &mut Vec<u8>) -> Result<Then, NoMemory>
@@ -32,29 +54,48 @@ impl Target {
         Ok(Then::Waits)
     }
 
-    /// Inserts a point. Those at accesses aren't known.
-    fn insert(&mut self, point: Point, address: u32, out: &mut Vec<u8>) -> Result<Then, NoMemory>
-        ensures { OnOk result (self.new ≡ inserted point address self.old) }
+    /// Inserts a point.
+    fn insert(
+        &mut self,
+        point: Point,
+        address: u32,
+        size: u32,
+        out: &mut Vec<u8>,
+    ) -> Result<Then, NoMemory>
+        ensures { OnOk result (self.new ≡ inserted point address size self.old) }
     {
-        if !matches!(point, Point::Break) {
-            return self.say(b"", out);
+        match watch_of(point, address, size) {
+            Some(watch) => self.watches.insert(watch)?,
+            None => self.lab.recording_mut().set_break(address)?,
         }
-        self.lab.recording_mut().set_break(address)?;
         self.say(b"OK", out)
     }
 
     /// Removes a point. The one where a trap without a handler leads stays.
-    fn remove(&mut self, point: Point, address: u32, out: &mut Vec<u8>) -> Result<Then, NoMemory>
-        ensures { OnOk result (self.new ≡ removed point address self.old) }
+    fn remove(
+        &mut self,
+        point: Point,
+        address: u32,
+        size: u32,
+        out: &mut Vec<u8>,
+    ) -> Result<Then, NoMemory>
+        ensures { OnOk result (self.new ≡ removed point address size self.old) }
     {
-        if !matches!(point, Point::Break) {
-            return self.say(b"", out);
+        match watch_of(point, address, size) {
+            Some(watch) => self.watches.remove(watch),
+            None => self.clear(address),
         }
-        if address == NO_HANDLER {
-            return self.say(b"OK", out);
-        }
-        let _was = self.lab.recording_mut().clear_break(address);
         self.say(b"OK", out)
+    }
+
+    /// Removes a breakpoint, but for the one where a trap without a handler leads.
+    fn clear(&mut self, address: u32)
+        ensures { self.new ≡ (if address == 0 then self.old
+            else with_session self.old (without_break self.old.lab.recording.session address)) }
+    {
+        if address != NO_HANDLER {
+            let _was = self.lab.recording_mut().clear_break(address);
+        }
     }
 
     /// Goes back to the first step.
@@ -80,10 +121,7 @@ impl Target {
                 self.step(out)?;
                 Ok(Then::Waits)
             }
-            Request::StepWithin(_, _) => {
-                self.step_past(out)?;
-                Ok(Then::Waits)
-            }
+            Request::StepWithin(from, to) => self.step_within(*from, *to, out),
             Request::StepBack => {
                 self.step_back(out)?;
                 Ok(Then::Waits)
@@ -92,15 +130,30 @@ impl Target {
                 self.run_back(out)?;
                 Ok(Then::Waits)
             }
-            Request::Continue => Ok(Then::Runs),
-            Request::Insert(point, address, _) => self.insert(*point, *address, out),
-            Request::Remove(point, address, _) => self.remove(*point, *address, out),
+            Request::Continue => {
+                self.begin(Aim::Stop);
+                Ok(Then::Runs)
+            }
+            Request::Insert(point, address, size) => self.insert(*point, *address, *size, out),
+            Request::Remove(point, address, size) => self.remove(*point, *address, *size, out),
             Request::Run => self.restart(out),
             Request::Command(line) => self.answer_line(line.bytes(), out),
             Request::Detach => self.detach(out),
             Request::End => Ok(Then::Ends),
             Request::Answered(_) => Ok(Then::Waits),
             _ => self.tell(request, out),
+        }
+    }
+
+    /// Begins a run until the pc leaves some addresses.
+    fn step_within(&mut self, from: u32, to: u32, out: &mut Vec<u8>) -> Result<Then, NoMemory>
+        ensures { OnOk result (self.new ≡ (if is_some (met_next self.old) then with_console self.old
+            else with_aim (Outside from to) self.old)) }
+    {
+        if self.begin_within(from, to, out)? {
+            Ok(Then::Runs)
+        } else {
+            Ok(Then::Waits)
         }
     }
 

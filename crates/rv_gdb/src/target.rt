@@ -6,6 +6,7 @@ ghost use Rattle.rv_lab.specs.State.{board};
 use rv_base::NoMemory;
 use rv_board::BootedBoard;
 use rv_lab::Lab;
+use rv_moves::{Aim, Watches};
 use rv_packets::append_packet;
 use rv_replies::{Files, append_hex_text};
 use std::alloc::Global;
@@ -14,12 +15,16 @@ use std::marker::Model;
 /// Where a trap goes whose handler wasn't named: mtvec is 0 at reset, and there is no memory.
 pub(crate) const NO_HANDLER: u32 = 0;
 
-/// A lab that gdb debugs, with the files that it reads. `told` is the number of bytes of the console that it was told.
+/// A lab that gdb debugs, with the files that it reads. `told` is the number of bytes of the console that it was told,
+/// `aim` what a run goes on for, and `calls` how many handlers and calls are open in it.
 pub struct Target {
     pub(crate) alloc: Global,
     pub(crate) lab: Lab,
     pub(crate) files: Files,
     pub(crate) told: usize,
+    pub(crate) watches: Watches,
+    pub(crate) aim: Aim,
+    pub(crate) calls: u64,
 }
 
 // Hand-written: a derived `Drop` would be proved anew at each exit (docs/PROVING.md).
@@ -30,6 +35,9 @@ impl Drop for Target {
             lab: _,
             files: _,
             told: _,
+            watches: _,
+            aim: _,
+            calls: _,
         } = self;
     }
 }
@@ -45,7 +53,7 @@ impl Model for Target {
 
     ghost coded = { Prim.hlevel (codes, plic_code, set.code {R = nat_cmp} coded_ℕ) };
 
-    ghost view = { λ t. record { lab = t.lab; files = t.files; told = t.told } };
+    ghost view = { λ t. record { lab = t.lab; files = t.files; told = t.told; watches = t.watches; aim = t.aim; calls = t.calls } };
 }
 
 impl Target {
@@ -64,6 +72,9 @@ impl Target {
             lab,
             files,
             told: 0,
+            watches: Watches::new(alloc),
+            aim: Aim::Stop,
+            calls: 0,
         })
     }
 

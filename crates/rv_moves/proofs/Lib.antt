@@ -1,0 +1,4 @@
+pub mod Advancing
+pub mod Ends
+pub mod Looking
+pub mod Stops

@@ -1,0 +1,4 @@
+pub mod Back
+pub mod Runs
+pub mod Support
+pub mod Watches
