@@ -1,5 +1,5 @@
 -- Runs, step by step.
-use Rattle.std.proofs.Common.{rules, ◌≡◌, ◌∙◌, ℕ, suc, ◌+◌, ◌<◌, ◌==◌, Bool, true, false, refl, sym, ap, subst, arith, inl}
+use Rattle.std.proofs.Common.{rules, ◌≡◌, ◌∙◌, ℕ, suc, ◌+◌, ◌<◌, ◌==◌, Bool, true, false, refl, sym, ap, arith, inl}
 use Rattle.std.proofs.Math.Numerals.{add-one}
 use Rattle.std.specs.Prelude.{◌&&◌, ◌||◌, if◌then◌else◌, is_none, is_some, nat_lt, List, Option, Some, None}
 use Rattle.std.specs.FinSet as set
@@ -15,8 +15,8 @@ use Rattle.rv_recording.specs.Support.Steps.{end_after, next_of}
 use Rattle.rv_recording.specs.declared.until.End.{End}
 use Rattle.rv_recording.specs.declared.until.End.TheVariants.{Limit}
 use Rattle.rv_recording.proofs.Counting.{all_steps}
-use Rattle.rv_recording.proofs.Running.{Going, after_suc, ended, goes_on, limit, one_more, over_before, taken_is}
-use Rattle.rv_moves.proofs.Ends.{above, end_by, first_none, goes, going}
+use Rattle.rv_recording.proofs.Running.{Going, ended, goes_on, limit, one_more, over_before, taken_is}
+use Rattle.rv_moves.proofs.Ends.{above, first_none, goes, going}
 use Rattle.rv_moves.specs.Runs.{end_here, is_interrupt, open_in, reached, run_ends, step_open}
 use Rattle.rv_moves.specs.Watches.{met}
 use Rattle.rv_moves.specs.declared.forward.Aim.{Aim}

@@ -1,6 +1,6 @@
 -- The ends of a run, by its steps.
-use Rattle.std.proofs.Common.{rules, ◌≡◌, ◌∙◌, ℕ, zero, suc, ◌+◌, ◌<◌, ◌≤◌, Bool, true, false, refl, sym, ap, arith, ⊎_elim}
-use Rattle.std.specs.Prelude.{◌&&◌, ◌||◌, if◌then◌else◌, is_none, is_some, nat_lt, Option, Some, None}
+use Rattle.std.proofs.Common.{rules, ◌≡◌, ◌∙◌, ℕ, zero, suc, Bool, true, false, refl, ap, arith}
+use Rattle.std.specs.Prelude.{◌||◌, if◌then◌else◌, is_none, is_some, nat_lt, Option, Some, None}
 use Rattle.std.proofs.lemmas.Bool.{cases_lt}
 use Rattle.std.proofs.lemmas.Bool.Decides.{nat_tests}
 use Rattle.rv_recording.specs.Refused.{NoneEnds}

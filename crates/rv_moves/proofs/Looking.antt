@@ -1,7 +1,6 @@
 -- The search for the last stop.
-use Rattle.std.proofs.Common.{rules, ◌≡◌, ◌∙◌, ℕ, zero, suc, ◌+◌, ◌-◌, ◌<◌, ◌≤◌, Bool, true, false, add-one, refl, sym, ap, subst, arith}
-use native.Mathlib.Numerals.{unary_clauses}
-use Rattle.std.specs.Prelude.{◌&&◌, ◌||◌, if◌then◌else◌, is_none, is_some, nat_lt, min, List, Option, Some, None, IfSome, Ok}
+use Rattle.std.proofs.Common.{◌≡◌, ◌∙◌, ℕ, zero, suc, ◌+◌, ◌-◌, ◌<◌, ◌≤◌, Bool, true, false, add-one, refl, sym, ap, subst, arith}
+use Rattle.std.specs.Prelude.{◌&&◌, ◌||◌, if◌then◌else◌, is_some, nat_lt, min, List, Option, Some, None, IfSome, Ok}
 use Rattle.std.specs.FinSet as set
 use Rattle.std.proofs.lemmas.Bool.{false≢true}
 use Rattle.std.proofs.lemmas.Bool.Decides.{nat_tests}
@@ -11,14 +10,14 @@ use Rattle.rv_monitor.specs.State.{Addresses, IsInTime, SessionState, TimedState
 use Rattle.rv_hart.specs.declared.trap.Outcome.{Outcome}
 use Rattle.rv_monitor.specs.Stops.{TakesStep, may_step}
 use Rattle.rv_monitor.proofs.Reached.{begun_stands, in_time}
-use Rattle.rv_monitor.proofs.Steps.{after_none, after_more}
+use Rattle.rv_monitor.proofs.Steps.{after_more}
 use Rattle.rv_recording.specs.Recording.{RecordingState, first_board, gone_back, with_timed}
 use Rattle.rv_recording.specs.Until.{HasRun, steps_of}
 use Rattle.rv_recording.specs.declared.until.End.{End}
 use Rattle.rv_recording.proofs.Counting.{steps_within, takes_more}
-use Rattle.rv_moves.proofs.Ends.{above, end_by, first_none, goes, going, left_of, none_before}
+use Rattle.rv_moves.proofs.Ends.{above, first_none, goes, going, left_of, none_before}
 use Rattle.rv_moves.specs.Back.{first_state, last_stop, left_by, taken}
-use Rattle.rv_moves.specs.Runs.{open_in, run_ends}
+use Rattle.rv_moves.specs.Runs.{run_ends}
 use Rattle.rv_moves.specs.Support.Looking.{Looked, or_else}
 use Rattle.rv_moves.specs.Watches.{met}
 use Rattle.rv_moves.specs.declared.back.Back.{Back}

@@ -1,6 +1,6 @@
 -- To audit: public contracts cite this.
 -- The runs of a debugger.
-use Rattle.std.specs.Prelude.{ℕ, zero, suc, ◌-◌, ◌^◌, ◌==◌, ◌&&◌, ◌||◌, not, nat_le, nat_lt, Bool, true, false, List, if◌then◌else◌, Option, Some, None, is_some}
+use Rattle.std.specs.Prelude.{ℕ, zero, suc, ◌^◌, ◌==◌, ◌&&◌, ◌||◌, not, nat_le, nat_lt, Bool, false, List, if◌then◌else◌, Option, Some, None, is_some}
 use Rattle.std.specs.FinSet as set
 use Rattle.rv_hart.specs.declared.trap.Outcome.{Outcome}
 use Rattle.rv_hart.specs.declared.trap.Outcome.TheVariants.{Trapped}

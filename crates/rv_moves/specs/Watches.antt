@@ -1,7 +1,7 @@
 -- To audit: public contracts cite this.
 -- Watched bytes, and what accesses them. A watch is asked before the step: of what the instruction at pc loads or stores,
 -- whether or not it will be let to, as debug triggers are (RISC-V Debug Specification 1.0, section 5.7: a match before).
-use Rattle.std.specs.Prelude.{ℕ, ◌+◌, ◌==◌, ◌&&◌, Bool, true, false, List, [], ◌∷◌, ◌++◌, if◌then◌else◌, is_some, nat_lt, Option, Some, None}
+use Rattle.std.specs.Prelude.{◌+◌, ◌==◌, ◌&&◌, Bool, true, false, List, [], ◌∷◌, ◌++◌, if◌then◌else◌, is_some, nat_lt, Option, Some, None}
 use Rattle.std.specs.Bool.{beq}
 use Rattle.std.specs.List.{position, remove}
 use Rattle.std.specs.Option.{option_and_then, option_map_or}

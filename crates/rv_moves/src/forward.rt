@@ -38,7 +38,7 @@ pub fn is_interrupt(outcome: Outcome) -> bool
 }
 
 impl Aim {
-    /// Returns whether a board stands where the run goes, with so many open handlers and calls.
+    /// Returns whether a board stands where the run goes, with this number of open handlers and calls.
     pub fn is_reached(&self, calls: u64, board: &BootedBoard) -> bool
         ensures { result ≡ reached self.now calls board.now }
     {

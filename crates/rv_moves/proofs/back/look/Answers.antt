@@ -1,9 +1,4 @@
-use Rattle.std.proofs.Common.{rules, ◌≡◌, ◌<◌, true, false, ap, arith}
-use Rattle.std.specs.Prelude.{Some, None}
-use Rattle.rv_monitor.specs.State.{after}
-use Rattle.rv_recording.specs.Recording.{RecordingState, with_timed}
-use Rattle.rv_moves.specs.Back.{taken}
-use Rattle.rv_moves.specs.Watches.{met}
+use Rattle.std.proofs.Common.{rules, arith}
 use Rattle.rv_moves.proofs.Looking.{broke, met_one, moved_one, passed, stepped_one, went_on}
 use Rattle.rv_moves.proofs.back.look.Goals as goal
 

@@ -1,6 +1,3 @@
-use Rattle.std.proofs.Common.{rules, ◌≡◌, Bool}
-use Rattle.std.specs.Prelude.{Option, Some, None}
-use Rattle.rv_moves.specs.Support.Looking.{Looked}
 use Rattle.rv_moves.proofs.Looking.{looks_on, looks_some, running_same, same_mid, stands_mid}
 use Rattle.rv_moves.proofs.back.look_on.Goals as goal
 

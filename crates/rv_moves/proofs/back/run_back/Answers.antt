@@ -1,5 +1,5 @@
-use Rattle.std.proofs.Common.{rules, ◌≡◌, ◌<◌, ◌≤◌, ◌-◌, arith, refl}
-use Rattle.std.specs.Prelude.{Option, Some, None}
+use Rattle.std.proofs.Common.{rules, ◌≤◌, arith, refl}
+use Rattle.std.specs.Prelude.{Some, None}
 use Rattle.rv_moves.proofs.Looking.{backs_none, backs_on, below_high, found_is, goes_to, limit_same, running_same, same_low, stands_low}
 use Rattle.rv_moves.proofs.back.run_back.Goals as goal
 

@@ -1,7 +1,5 @@
-use Rattle.std.proofs.Common.{rules, ◌≡◌, ◌∙◌, false, subst, sym, arith}
-use Rattle.std.specs.Prelude.{Some, None}
+use Rattle.std.proofs.Common.{rules, ◌≡◌, subst, arith}
 use Rattle.rv_monitor.specs.State.{IsInTime, SessionState}
-use Rattle.rv_moves.specs.Runs.{end_here}
 use Rattle.rv_moves.proofs.Advancing.{Advanced, advances, begins, ends_run, limit_run, number_before, number_ended, number_limit, over}
 use Rattle.rv_moves.proofs.forward.run.Goals as goal
 
