@@ -8,7 +8,8 @@ use Rattle.std.specs.Option.{option_and_then, option_map_or}
 use Rattle.rv_isa.specs.declared.kind.Kind.{Kind}
 use Rattle.rv_isa.specs.declared.kind.Kind.TheVariants.{Load, Store}
 use Rattle.rv_isa.specs.Support.Meaning.{means}
-use Rattle.rv_isa.specs.Width.{bytes_of, load_of}
+use Rattle.rv_isa.specs.Alu.{load_of}
+use Rattle.rv_isa.specs.Width.{bytes_of}
 use Rattle.rv_hart.specs.Effect.{plus, reg}
 use Rattle.rv_board.specs.BoardState.{BoardState}
 use Rattle.rv_monitor.specs.Views.{word_at}
