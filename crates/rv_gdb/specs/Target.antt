@@ -1,8 +1,11 @@
 -- To audit: public contracts cite this.
 -- What gdb debugs, and what it is told of the console (Debugging with GDB, appendix "GDB Remote Serial Protocol", "Stop
 -- Reply Packets": `O`).
-use Rattle.std.specs.Prelude.{ℕ, ◌∷◌, ◌++◌, List, [], length, drop, if◌then◌else◌, ◌==◌}
+use Rattle.std.specs.Prelude.{ℕ, ◌∷◌, List, [], length, drop, codes, if◌then◌else◌, ◌==◌}
 use Rattle.rv_monitor.specs.State.{with_break}
+use Rattle.rv_pmp.specs.declared.mode.Mode.{Mode}
+use Rattle.rv_pmp.specs.declared.mode.Mode.TheVariants.{User, Machine}
+use Rattle.rv_board.specs.BoardState.{BoardState}
 use Rattle.rv_recording.specs.Recording.{RecordingState}
 use Rattle.rv_lab.specs.Commands.{with_session}
 use Rattle.rv_lab.specs.State.{LabState, board, sent}
@@ -45,3 +48,11 @@ with_recording t r = record t { lab = record t.lab { recording = r } }
 -- that, whose console was told
 abbrev pub moved : TargetState → RecordingState → TargetState
 moved t r = with_console (with_recording t r)
+
+-- what is said of the one thread: the board's mode
+abbrev pub mode_text : Mode → List ℕ
+mode_text User = codes "user mode"
+mode_text Machine = codes "machine mode"
+
+abbrev pub thread_text : BoardState → List ℕ
+thread_text b = digits (mode_text b.machine.mode)

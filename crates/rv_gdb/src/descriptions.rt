@@ -177,7 +177,7 @@ fn append_area(out: &mut Vec<u8>, start: u32, size: u32) -> Result<(), NoMemory>
     Ok(out.extend_from_slice(b"\"/>")?)
 }
 
-/// Returns the description of where a target with so many pages of RAM has memory.
+/// Returns the description of where a target with this number of pages of RAM has memory.
 ///
 /// # Errors
 ///

@@ -7,13 +7,14 @@ ghost use Rattle.rv_lab.specs.State.{board};
 ghost use Rattle.rv_replies.specs.Looks.{look_text};
 ghost use Rattle.rv_gdb.specs.Moves.{met_next, went_back, with_aim, with_session};
 ghost use Rattle.rv_gdb.specs.Serves.{Replies, Serves, inserted, removed, watch_of};
-ghost use Rattle.rv_gdb.specs.Target.{with_console};
+ghost use Rattle.rv_gdb.specs.Target.{mode_text, thread_text, with_console};
 
 use crate::target::{NO_HANDLER, Target};
 use rv_base::NoMemory;
 use rv_moves::{Aim, Watch};
 use rv_packets::append_packet;
-use rv_replies::append_look;
+use rv_pmp::Mode;
+use rv_replies::{append_hex_text, append_look};
 use rv_requests::{Point, Request};
 
 /// What follows a request.
@@ -43,6 +44,16 @@ fn watch_of(point: Point, address: u32, size: u32) -> Option<Watch>
         address,
         size,
     })
+}
+
+/// Returns what is said of a mode.
+fn mode_text(mode: Mode) -> &'static [u8]
+    ensures { result.now ≡ mode_text mode }
+{
+    match mode {
+        Mode::User => b"user mode",
+        Mode::Machine => b"machine mode",
+    }
 }
 
 impl Target {
@@ -138,6 +149,7 @@ impl Target {
             Request::Remove(point, address, size) => self.remove(*point, *address, *size, out),
             Request::Run => self.restart(out),
             Request::Command(line) => self.answer_line(line.bytes(), out),
+            Request::ThreadText => self.describe_thread(out),
             Request::Detach => self.detach(out),
             Request::End => Ok(Then::Ends),
             Request::Answered(_) => Ok(Then::Waits),
@@ -155,6 +167,15 @@ impl Target {
         } else {
             Ok(Then::Waits)
         }
+    }
+
+    /// Replies with what is said of the one thread: the board's mode.
+    fn describe_thread(&self, out: &mut Vec<u8>) -> Result<Then, NoMemory>
+        ensures { OnOk result (out.new.items ≡ out.old.items ++ framed (thread_text (board self.now.lab))) }
+    {
+        let mut contents = Vec::new(self.alloc);
+        append_hex_text(&mut contents, mode_text(self.board().mode()))?;
+        self.say(&contents, out)
     }
 
     /// Ends the talk.
