@@ -1,8 +1,9 @@
 //! The answer to a command.
 use crate::command::Command;
+use crate::convention::Checked;
 use crate::explained::Explanation;
 use crate::many::Many;
-use crate::moves::{Cleared, Given, Run, Saved, Stepped, Trace};
+use crate::moves::{Cleared, Given, Run, Saved, Stepped, Trace, Watch};
 use crate::origin::Origin;
 use crate::rows::Row;
 use crate::values::{
@@ -116,6 +117,10 @@ pub enum Answer {
     Explained(Explanation),
     /// `why` of a register or a word
     Origin(Origin),
+    /// `check`
+    Checked(Checked),
+    /// `display`
+    Display(Watch),
     /// `help`, of a command or of all
     Help(Option<Command>),
     /// The first word of the line is no command.

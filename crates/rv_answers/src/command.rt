@@ -41,10 +41,14 @@ pub enum Command {
     Traps,
     Edges,
     Why,
+    Check,
+    Display,
+    Undisplay,
     Devices,
     Receive,
     Line,
     Save,
+    Reload,
     Monitor,
     Help,
     Quit,
@@ -75,7 +79,7 @@ pub(crate) struct CommandRow {
 
 /// The commands by their words, in the order of the help: the first word is that of the help, and the others
 /// are as other tools have them.
-static COMMANDS: [(&str, CommandRow); 25] = [
+static COMMANDS: [(&str, CommandRow); 29] = [
     (
         "s step si",
         CommandRow {
@@ -239,6 +243,33 @@ static COMMANDS: [(&str, CommandRow); 25] = [
         },
     ),
     (
+        "check",
+        CommandRow {
+            command: Command::Check,
+            form: "check [N]",
+            does: "runs a copy from reset on, up to the halt, for N steps at most (1000000 without N), and tells each breach of the calling convention",
+            example: "check",
+        },
+    ),
+    (
+        "display",
+        CommandRow {
+            command: Command::Display,
+            form: "display REG|WHERE",
+            does: "shows a register or a word, and from then on after each command that moved the board",
+            example: "display a0",
+        },
+    ),
+    (
+        "undisplay",
+        CommandRow {
+            command: Command::Undisplay,
+            form: "undisplay [WHAT]",
+            does: "ends what was asked for by `display WHAT`, or all of it",
+            example: "undisplay a0",
+        },
+    ),
+    (
         "dev",
         CommandRow {
             command: Command::Devices,
@@ -272,6 +303,15 @@ static COMMANDS: [(&str, CommandRow); 25] = [
             form: "save [NAME]",
             does: "shows what was done as a timed list and commands for rvboard, or writes them to NAME.input and NAME.commands",
             example: "save lesson",
+        },
+    ),
+    (
+        "reload",
+        CommandRow {
+            command: Command::Reload,
+            form: "reload",
+            does: "reads the source again and begins anew, with the same breakpoints by their lines, inputs and displays",
+            example: "reload",
         },
     ),
     (
@@ -375,10 +415,14 @@ pub fn command_word(command: Command) -> &'static str
         Command::Traps => "t",
         Command::Edges => "e",
         Command::Why => "why",
+        Command::Check => "check",
+        Command::Display => "display",
+        Command::Undisplay => "undisplay",
         Command::Devices => "dev",
         Command::Receive => "rx",
         Command::Line => "line",
         Command::Save => "save",
+        Command::Reload => "reload",
         Command::Monitor => "monitor",
         Command::Help => "help",
         Command::Quit => "q",

@@ -62,7 +62,7 @@ fn offer_commands(nearest: &mut Nearest<'_>) {
 }
 
 /// Words of gdb, with what to type here.
-static OTHERS: [(&str, &str); 24] = [
+static OTHERS: [(&str, &str); 23] = [
     (
         "info",
         "`r` shows the registers, `b` the breakpoints, `t` the traps, `dev` the devices",
@@ -71,7 +71,6 @@ static OTHERS: [(&str, &str); 24] = [
         "print",
         "`r REG` shows a register, `p CSR` a control register, `m WHERE` memory",
     ),
-    ("display", "`r REG` shows a register, `m WHERE` memory"),
     ("examine", "`m WHERE N w` shows N words of memory"),
     (
         "disassemble",
@@ -124,7 +123,7 @@ fn meant(word: &[u8]) -> Option<&'static str> {
 /// Appends that a word is no command, and what is meant or which is the nearest.
 pub(crate) fn append_unknown(word: &[u8], text: &mut Printer) {
     text.say("`");
-    text.put(word);
+    text.shown(word);
     text.say("` is no command");
     if let Some(meant) = meant(word) {
         text.say(": ");

@@ -55,14 +55,14 @@ fn append_options(saved: &Saved, text: &mut Printer) {
 fn append_named(name: &[u8], saved: &Saved, text: &mut Printer) {
     let (inputs, steps) = (saved.inputs as u64, saved.steps);
     text.say("wrote ");
-    text.put(name);
+    text.shown(name);
     text.fill(".input (%d input%{s||s}) and ", &[inputs, inputs]);
-    text.put(name);
+    text.shown(name);
     let form = ".commands (%d step%{s||s}); repeat them by\n  ./rvboard SOURCE --input ";
     text.fill(form, &[steps, steps]);
-    text.put(name);
+    text.shown(name);
     text.say(".input --commands ");
-    text.put(name);
+    text.shown(name);
     text.say(".commands ");
     append_options(saved, text);
 }

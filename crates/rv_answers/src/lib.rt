@@ -5,6 +5,8 @@ mod answer;
 mod command;
 mod console;
 mod controls;
+mod convention;
+mod convention_text;
 mod devices;
 mod explained;
 mod extent;
@@ -37,6 +39,7 @@ mod why_text;
 
 pub use answer::{Answer, Refusal, Why};
 pub use command::{Command, Move, command_named, command_word};
+pub use convention::{Breach, Checked, Deviation, Entry, Return, Unrestored};
 pub use devices::threshold;
 pub use explained::{
     Area, Barrier, Before, Explained, Explanation, Handler, Reason, Sum, Unfetched,

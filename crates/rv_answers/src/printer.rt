@@ -1,5 +1,6 @@
 //! The text of an answer.
 use crate::many::Many;
+use crate::shown::append_shown;
 use itoa::Buffer;
 use rv_base::{NoMemory, byte_digits, word_digits};
 use rv_isa::{Instr, write_instr};
@@ -168,11 +169,17 @@ impl Printer {
         self.spaces(width);
     }
 
+    /// Appends a text that others wrote: a byte that may drive a terminal, and one that is in no character, is told by
+    /// its digits.
+    pub fn shown(&mut self, text: &[u8]) {
+        append_shown(text, self);
+    }
+
     /// Appends that a text isn't what a command wants, and why.
     pub fn refuse(&mut self, command: &str, text: &[u8], why: &str) {
         self.say(command);
         self.say(": `");
-        self.put(text);
+        self.shown(text);
         self.say("` ");
         self.say(why);
     }

@@ -13,6 +13,7 @@ use crate::lines::Lines;
 use crate::looks::{append_count, append_edges};
 use crate::memory::append_dump;
 use crate::registers::append_register;
+use crate::runs::append_display;
 use crate::standing::{append_halt, append_stuck};
 use crate::values::RegisterValue;
 
@@ -79,6 +80,8 @@ impl Lines<'_> {
             Answer::Saved(saved) => append_saved(saved, text),
             Answer::Explained(told) => self.append_explanation(told, text),
             Answer::Origin(origin) => self.append_origin(origin, text),
+            Answer::Checked(checked) => self.append_checked(checked, text),
+            Answer::Display(watch) => append_display(*watch, text),
             Answer::Help(command) => append_help(*command, text),
             Answer::NoCommand(word) => append_unknown(word.items(), text),
             Answer::TooLong => text.say("a line has at most 1024 bytes\n"),

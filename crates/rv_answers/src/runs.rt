@@ -55,6 +55,12 @@ pub(crate) fn append_watched(watch: Watch, text: &mut Printer) {
     }
 }
 
+/// Appends what is watched, with its value, as a line.
+pub(crate) fn append_display(watch: Watch, text: &mut Printer) {
+    append_watched(watch, text);
+    text.end();
+}
+
 /// Returns how it is told that as many steps were taken as were asked for.
 fn limit_form(aim: Aim) -> &'static str {
     match aim {

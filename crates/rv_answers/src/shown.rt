@@ -42,27 +42,30 @@ fn plain_size(text: &[u8]) -> usize {
     if is_whole { size } else { 0 }
 }
 
-/// Appends a text whose first bytes, `inside` of them, are the last of a character.
-fn append_from(inside: usize, text: &[u8], answer: &mut Printer) {
-    let [byte, rest @ ..] = text else {
-        return;
-    };
-    if inside > 0 {
-        answer.byte(*byte);
-        return append_from(inside - 1, rest, answer);
-    }
+/// Appends the first byte of a text, and returns how many bytes after it are of the same character.
+fn append_first(text: &[u8], answer: &mut Printer) -> usize {
+    let byte = byte_at(text, 0);
     let size = plain_size(text);
     if size == 0 {
         answer.say("\\x");
-        answer.digits(*byte);
-        return append_from(0, rest, answer);
+        answer.digits(byte);
+        return 0;
     }
-    answer.byte(*byte);
-    append_from(size - 1, rest, answer)
+    answer.byte(byte);
+    size - 1
 }
 
 /// Appends a text that others wrote: a byte that may drive a terminal, and one that is in no character, is
 /// told by its digits.
 pub(crate) fn append_shown(text: &[u8], answer: &mut Printer) {
-    append_from(0, text, answer);
+    let mut inside: usize = 0;
+    for index in 0..text.len() {
+        let left = text.split_at(index).1;
+        if inside == 0 {
+            inside = append_first(left, answer);
+        } else {
+            answer.byte(byte_at(left, 0));
+            inside -= 1;
+        }
+    }
 }

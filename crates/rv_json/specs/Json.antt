@@ -20,6 +20,14 @@ use Rattle.rv_answers.specs.declared.answer.Why.{Why}
 use Rattle.rv_answers.specs.declared.answer.Why.TheVariants as why
 use Rattle.rv_answers.specs.Commands.{help_word}
 use Rattle.rv_answers.specs.declared.command.Command.{Command}
+use Rattle.rv_answers.specs.declared.convention.Breach.{Breach}
+use Rattle.rv_answers.specs.declared.convention.Checked.{Checked}
+use Rattle.rv_answers.specs.declared.convention.Deviation.{Deviation}
+use Rattle.rv_answers.specs.declared.convention.Deviation.TheVariants as deviations
+use Rattle.rv_answers.specs.declared.convention.Entry.{Entry}
+use Rattle.rv_answers.specs.declared.convention.Entry.TheVariants as entries
+use Rattle.rv_answers.specs.declared.convention.Return.{Return}
+use Rattle.rv_answers.specs.declared.convention.Unrestored.{Unrestored}
 use Rattle.rv_answers.specs.declared.explained.Area.{Area}
 use Rattle.rv_answers.specs.declared.explained.Area.TheVariants as areas
 use Rattle.rv_answers.specs.declared.explained.Barrier.{Barrier}
@@ -328,6 +336,33 @@ unfoldable pub origin_data : Origin → Data
 origin_data o = kind "origin" (("target", target_data o.target) ∷ ("steps", natural o.steps)
     ∷ ("value", option_data natural o.value) ∷ ("write", option_data write_data o.write) ∷ [])
 
+-- ---- `check`
+
+unfoldable pub entry_data : Entry → Data
+entry_data entries.Call = string (codes "call")
+entry_data entries.Interrupt = string (codes "interrupt")
+entry_data entries.Exception = string (codes "exception")
+
+unfoldable pub unrestored_data : Unrestored → Data
+unrestored_data u = object (members (("register", natural u.register) ∷ ("entry", natural u.entry)
+    ∷ ("now", natural u.now) ∷ []))
+
+unfoldable pub return_data : Return → Data
+return_data r = kind "return" (("entry", entry_data r.entry) ∷ ("from", natural r.from) ∷ ("wanted", natural r.wanted)
+    ∷ ("target", natural r.target) ∷ ("registers", list_data unrestored_data r.registers) ∷ [])
+
+unfoldable pub deviation_data : Deviation → Data
+deviation_data (deviations.Below address) = kind "below" (("address", natural address) ∷ [])
+deviation_data (deviations.Return back) = return_data back
+
+unfoldable pub breach_data : Breach → Data
+breach_data b = object (members (("step", natural b.step) ∷ ("address", natural b.address)
+    ∷ ("deviation", deviation_data b.deviation) ∷ []))
+
+unfoldable pub checked_data : Checked → Data
+checked_data c = kind "checked" (("steps", natural c.steps) ∷ ("has_halted", boolean c.has_halted)
+    ∷ ("breaches", list_data breach_data c.breaches) ∷ [])
+
 -- ---- refusals
 
 unfoldable pub command_data : Command → Data
@@ -391,6 +426,8 @@ answer_data ls (answers.Given given) = given_data given
 answer_data ls (answers.Saved saved) = saved_data saved
 answer_data ls (answers.Explained explanation) = explanation_data explanation
 answer_data ls (answers.Origin origin) = origin_data origin
+answer_data ls (answers.Checked checked) = checked_data checked
+answer_data ls (answers.Display watch) = kind "display" (("watch", watch_data watch) ∷ [])
 answer_data ls (answers.Help command) = kind "help" (("command", option_data command_data command) ∷ [])
 answer_data ls (answers.NoCommand word) = kind "no_command" (("word", text_data word) ∷ [])
 answer_data ls answers.TooLong = kind "too_long" []

@@ -2,6 +2,7 @@
 #![tactic(auto)]
 
 mod answer;
+mod convention;
 mod explained;
 mod faults;
 mod looks;

@@ -16,8 +16,12 @@ use Rattle.rv_plic.specs.Sources.{sources}
 use Rattle.rv_board.specs.BoardState.{BoardState, csr_of}
 use Rattle.rv_board.specs.declared.event.TrapRecord.{TrapRecord}
 use Rattle.rv_monitor.specs.Views.{byte_at_offset, word_at}
-use Rattle.rv_operands.specs.Operands.{address}
+use Rattle.rv_operands.specs.Operands.{address, followed, only_of}
 use Rattle.rv_asm.specs.Lines.{Listed}
+use Rattle.rv_convention.specs.Convention.{checked}
+use Rattle.rv_recording.specs.Until.{watched_value}
+use Rattle.rv_recording.specs.declared.until.Watched.{Watched}
+use Rattle.rv_why.specs.Origins.{target_of}
 use Rattle.rv_answers.specs.Memory.{extent}
 use Rattle.rv_answers.specs.States.{bits_of, clock_of, port_of, regions, source_of}
 use Rattle.rv_answers.specs.declared.answer.Answer.{Answer}
@@ -28,6 +32,7 @@ use Rattle.rv_answers.specs.declared.extent.Format.{Format}
 use Rattle.rv_answers.specs.declared.extent.Format.TheVariants as format
 use Rattle.rv_answers.specs.declared.values.Cells.{Cells}
 use Rattle.rv_answers.specs.declared.values.Cells.TheVariants as cells
+use Rattle.rv_answers.specs.declared.moves.Watch.{Watch}
 use Rattle.rv_answers.specs.declared.values.ControlValue.{ControlValue}
 use Rattle.rv_answers.specs.declared.values.Devices.{Devices}
 use Rattle.rv_answers.specs.declared.values.Interrupts.{Interrupts}
@@ -37,7 +42,7 @@ use Rattle.rv_answers.specs.declared.values.Standing.{Standing}
 use Rattle.rv_answers.specs.declared.values.Trap.{Trap}
 use Rattle.rv_lab.specs.State.{LabState, board, listing, registers_of, timed}
 use Rattle.rv_lab.specs.Lines.{line_at, line_count, row_of}
-use Rattle.rv_lab.specs.Words.{count_of}
+use Rattle.rv_lab.specs.Words.{count_of, usual_steps}
 use Rattle.rv_lab.specs.declared.source.Excerpt.{Excerpt}
 use Rattle.rv_answers.specs.declared.command.Command.{Command}
 use Rattle.rv_answers.specs.declared.command.Command.TheVariants as command
@@ -176,6 +181,23 @@ devices_of b = let m = b.machine in record {
   regions = regions m.csrs.pmp;
 }
 
+-- ---- `display`
+
+-- what is watched, with its value
+abbrev pub watch_of : LabState → Watched → Watch
+watch_of l w = record { target = target_of w; value = watched_value (board l) w }
+
+unfoldable pub display_answer : LabState → List (List ℕ) → Answer
+display_answer l ws = option_map_or (λ word. option_map_or (λ w. answers.Display (watch_of l w))
+    (followed (listing l) (board l) word) (refused command.Display word why.NoAddress))
+    (only_of ws) (refused command.Display [] why.NotOne)
+
+-- ---- `check`
+
+unfoldable pub check_answer : LabState → List ℕ → Answer
+check_answer l text = option_map_or (λ n. answers.Checked (checked l.recording n))
+    (count_of usual_steps 20000000 (words text)) (refused command.Check text why.NoSteps)
+
 -- ---- the answer
 
 -- what a command answers that only looks
@@ -188,4 +210,6 @@ look_answer command.Instruction text l = instruction_answer l (words text)
 look_answer command.Traps text l = answers.Traps (trap_runs l 0 (board l).traps)
 look_answer command.Edges text l = edges_answer l (words text)
 look_answer command.Devices text l = answers.Devices (devices_of (board l))
+look_answer command.Check text l = check_answer l text
+look_answer command.Display text l = display_answer l (words text)
 look_answer _ text l = answers.Nothing

@@ -16,12 +16,10 @@ use Rattle.rv_monitor.specs.State.{with_break, with_due, without_break}
 use Rattle.rv_monitor.specs.Stops.{may_step}
 use Rattle.rv_monitor.specs.Views.{stop_text}
 use Rattle.rv_recording.specs.Recording.{gone_back}
-use Rattle.rv_recording.specs.Until.{watched_value}
 use Rattle.rv_recording.specs.declared.until.Condition.{Condition}
 use Rattle.rv_recording.specs.declared.until.Condition.TheVariants as condition
 use Rattle.rv_recording.specs.declared.until.End.{End}
 use Rattle.rv_recording.specs.declared.until.End.TheVariants as ends
-use Rattle.rv_recording.specs.declared.until.Watched.{Watched}
 use Rattle.rv_answers.specs.declared.answer.Answer.{Answer}
 use Rattle.rv_answers.specs.declared.answer.Answer.TheVariants as answers
 use Rattle.rv_answers.specs.declared.moves.Aim.{Aim}
@@ -29,13 +27,12 @@ use Rattle.rv_answers.specs.declared.moves.Aim.TheVariants as aim
 use Rattle.rv_answers.specs.declared.moves.Ending.{Ending}
 use Rattle.rv_answers.specs.declared.moves.Ending.TheVariants as ending
 use Rattle.rv_answers.specs.declared.moves.Step.{Step}
-use Rattle.rv_answers.specs.declared.moves.Watch.{Watch}
 use Rattle.rv_answers.specs.declared.origin.Origin.{Origin}
 use Rattle.rv_answers.specs.declared.values.RegisterValue.{RegisterValue}
 use Rattle.rv_answers.specs.declared.values.Trap.{Trap}
 use Rattle.rv_why.specs.Why.{explanation}
-use Rattle.rv_why.specs.Origins.{origin, target_of}
-use Rattle.rv_lab.specs.Answers.{place_of, rows_answer, standing}
+use Rattle.rv_why.specs.Origins.{origin}
+use Rattle.rv_lab.specs.Answers.{place_of, rows_answer, standing, watch_of}
 use Rattle.rv_lab.specs.Commands.{begun, gone_on, monitor_next, monitored_run, is_traced, next_of, piece_most, piece_steps, planned, ready, run_ends, stepped, with_console, with_inputs, with_session, with_steps}
 use Rattle.rv_lab.specs.Orders.{ordered}
 use Rattle.rv_lab.specs.Saved.{steps_text}
@@ -99,10 +96,6 @@ ending_of ends.Reached = ending.Reached
 ending_of ends.Breakpoint = ending.Breakpoint
 ending_of ends.Limit = ending.Limit
 ending_of ends.Stuck = ending.Stuck
-
--- what is watched, with its value
-abbrev pub watch_of : LabState → Watched → Watch
-watch_of l w = record { target = target_of w; value = watched_value (board l) w }
 
 -- the last trap
 abbrev pub last_trap : LabState → Option Trap

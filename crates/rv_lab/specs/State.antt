@@ -1,19 +1,15 @@
 -- To audit: public contracts cite this.
 -- The state of a lab.
-use Rattle.std.specs.Prelude.{ℕ, List, Option, length, map, slice_index}
+use Rattle.std.specs.Prelude.{ℕ, List, Option, length}
 use Rattle.rv_program.specs.Program.{Assembly}
-use Rattle.std.specs.List.{range_with_len}
 use Rattle.rv_board.specs.BoardState.{BoardState}
 use Rattle.rv_asm.specs.Lines.{Listed, Located, listing_of}
 use Rattle.rv_monitor.specs.State.{TimedState}
 use Rattle.rv_recording.specs.Recording.{RecordingState}
 use Rattle.rv_answers.specs.declared.command.Command.{Command}
+pub use Rattle.rv_convention.specs.Convention.{registers_of}
 use Rattle.rv_lab.specs.declared.plan.Plan.{Plan}
 use Rattle.rv_lab.specs.declared.plan.Trail.{Trail}
-
--- the values of x0 to x31
-abbrev pub registers_of : BoardState → List ℕ
-registers_of b = map (slice_index b.machine.registers) (range_with_len 0 32)
 
 -- a source with the places of its lines and the recording of its program; the registers and the number of steps
 -- before the last command that moved the board, and the bytes of the console that were told; what an empty line

@@ -19,7 +19,6 @@ mod order;
 mod places;
 mod plan;
 mod recorded;
-mod registers;
 mod render;
 mod run;
 mod source;

@@ -15,8 +15,9 @@ use crate::control::{MIE, MIP, MSTATUS, csr_word, name_in};
 use crate::devices::{edge_source, interrupts_of};
 use crate::lab::Lab;
 use crate::memory::{byte_at, char_at, text_length};
+use crate::operands::count_or;
 use crate::places::{line_at, near_label};
-use crate::registers::registers_of;
+use crate::run::USUAL_STEPS;
 use crate::source::{Excerpt, line_count};
 use rv_answers::{
     Answer, Cells, Command, ControlValue, Devices, Dump, Edges, Extent, Format, Many, Place,
@@ -26,10 +27,14 @@ use rv_answers::{
 use rv_asm::Listing;
 use rv_base::{NoMemory, first_word, has_word, low_word};
 use rv_board::{BootedBoard, TrapRecord};
+use rv_convention::{check, registers_of};
 use rv_isa::{Reg, csr_named, reg_named};
 use rv_monitor::word_at;
 use rv_operands::only_word;
 use std::alloc::Global;
+
+/// The most steps of `check`.
+const MOST_CHECKED: u64 = 20_000_000;
 
 /// Returns the register that some operands name.
 fn register_of(operands: &[u8]) -> Option<Reg>
@@ -402,6 +407,31 @@ impl Lab {
         })
     }
 
+    /// Answers `display`.
+    #[tactic(auto, unfolding(crate::specs::Answers::display_answer))]
+    fn display_answer(&self, operands: &[u8]) -> Result<Answer, NoMemory>
+        ensures { IfOk result (λ a. a ≡ spec.display_answer self.now (words operands.now)) }
+    {
+        let Some(word) = only_word(operands) else {
+            return self.refused(Command::Display, b"", Why::NotOne);
+        };
+        match self.scope().followed(word) {
+            Some(watched) => Ok(Answer::Display(self.watch_of(watched))),
+            None => self.refused(Command::Display, word, Why::NoAddress),
+        }
+    }
+
+    /// Answers `check`.
+    #[tactic(auto, unfolding(crate::specs::Answers::check_answer))]
+    fn check_answer(&self, operands: &[u8]) -> Result<Answer, NoMemory>
+        ensures { IfOk result (λ a. a ≡ spec.check_answer self.now operands.now) }
+    {
+        match count_or(operands, USUAL_STEPS, MOST_CHECKED) {
+            Some(most) => Ok(Answer::Checked(check(self.alloc, &self.recording, most)?)),
+            None => self.refused(Command::Check, operands, Why::NoSteps),
+        }
+    }
+
     /// Returns what a command answers that only looks.
     #[tactic(auto, unfolding(crate::specs::Answers::look_answer))]
     pub(crate) fn look_answer(&self, command: Command, operands: &[u8]) -> Result<Answer, NoMemory>
@@ -416,6 +446,8 @@ impl Lab {
             Command::Traps => Ok(Answer::Traps(self.traps()?)),
             Command::Edges => self.edges_answer(operands),
             Command::Devices => Ok(Answer::Devices(self.devices()?)),
+            Command::Check => self.check_answer(operands),
+            Command::Display => self.display_answer(operands),
             _ => Ok(Answer::Nothing),
         }
     }

@@ -17,10 +17,10 @@ ghost use Rattle.rv_monitor.specs.State.{IsInTime};
 
 use crate::lab::{Done, Lab, Next, Reply};
 use crate::plan::{Goal, Plan};
-use crate::registers::registers_of;
 use crate::tell::ending_of;
 use rv_answers::{Answer, Many, Step, Trace};
 use rv_base::NoMemory;
+use rv_convention::registers_of;
 use rv_recording::{End, Recording};
 
 /// How many steps `c` and `until` take where no number is given.

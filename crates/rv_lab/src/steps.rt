@@ -11,10 +11,10 @@ ghost use Rattle.rv_lab.specs.State.{board, registers_of, timed};
 ghost use Rattle.rv_lab.specs.Support.Short.{IsOnWay, StopsIn, Traced, end_now, stepped_by};
 
 use crate::lab::{Done, Lab};
-use crate::registers::registers_of;
 use rv_answers::{Answer, Many, Place, RegisterValue, Registers, Step, Stepped, Trap, push};
 use rv_base::NoMemory;
 use rv_board::TrapRecord;
+use rv_convention::registers_of;
 use rv_hart::Outcome;
 use rv_isa::Reg;
 use rv_recording::End;

@@ -1,18 +1,19 @@
 //! What the console got, and how a run ended.
 ghost use Rattle.std.specs.Prelude.{◌≡◌, ◌-◌, ◌&&◌, if◌then◌else◌, is_some, length, slice_get, IfOk};
 ghost use Rattle.rv_lab.specs.Commands.{with_console};
+ghost use Rattle.rv_lab.specs.Answers.{watch_of};
 ghost use Rattle.rv_lab.specs.Runs as spec;
-ghost use Rattle.rv_lab.specs.Runs.{ending_of, watch_of};
+ghost use Rattle.rv_lab.specs.Runs.{ending_of};
 ghost use Rattle.rv_monitor.specs.Views.{stop_text};
 ghost use Rattle.rv_lab.specs.State.{board, sent};
 
 use crate::lab::Lab;
 use crate::plan::Goal;
-use crate::registers::registers_of;
 use crate::steps::changes;
 use rv_answers::{Aim, Answer, Ending, Many, Run, Trap, Watch};
 use rv_base::NoMemory;
 use rv_board::TrapRecord;
+use rv_convention::registers_of;
 use rv_monitor::write_stop;
 use rv_recording::{Condition, End, Watched};
 use rv_why::target_of;
@@ -80,7 +81,7 @@ impl Lab {
     }
 
     /// Returns what is watched, with its value.
-    fn watch_of(&self, watched: Watched) -> Watch
+    pub(crate) fn watch_of(&self, watched: Watched) -> Watch
         ensures { result ≡ watch_of self.now watched }
     {
         // A copy: for the borrow checker the call moves its argument.

@@ -9,7 +9,7 @@ ghost use Rattle.rv_monitor.specs.Commands.{Leaves, LeavesRefused, answer, comma
 ghost use Rattle.rv_monitor.specs.Events.{events_of};
 ghost use Rattle.rv_monitor.specs.Laws.{IsReached};
 ghost use Rattle.rv_monitor.specs.Room.{LacksRoom, NextWantsRoom};
-ghost use Rattle.rv_monitor.specs.State.{given, with_break, without_break};
+ghost use Rattle.rv_monitor.specs.State.{begun, given, with_break, without_break};
 ghost use Rattle.rv_monitor.specs.Stops.{Took, WasRefused, stop_of, TakesStep};
 ghost use Rattle.rv_recording.specs.Recording.{first_board, gone_back, last_step, with_timed};
 ghost use Rattle.rv_monitor.specs.Opening.{Opens};
@@ -283,9 +283,14 @@ impl Recording {
         }
     }
 
-    /// Returns a session with the recorded inputs before its first step, which may take `limit` steps. No name of
-    /// the program is known to it.
-    pub(crate) fn begun_again(&self, limit: u64) -> Result<Session<PagedRam, DecodeCache>, NoMemory>
+    /// Returns a session with the recorded inputs before its first step, which may take `limit` steps: those that were
+    /// recorded, and more. No name of the program is known to it. The recording stays as it is.
+    ///
+    /// # Errors
+    ///
+    /// `NoMemory` if memory runs out.
+    pub fn begun_again(&self, limit: u64) -> Result<Session<PagedRam, DecodeCache>, NoMemory>
+        ensures timed { IfOk result (λ s. s.timed ≡ begun (first_board self.now) self.now.session.timed.inputs) }
         ensures inputs { IfOk result (λ s. s.timed.inputs ≡ self.now.session.timed.inputs) }
         ensures limit { IfOk result (λ s. s.limit ≡ limit) }
     {

@@ -11,5 +11,6 @@ mod trap;
 mod writes;
 
 pub use laws::fetches_as_the_machine;
+pub use reason::instruction_at;
 pub use trap::explain;
 pub use writes::{Sought, last_met, origin, target_of};

@@ -143,7 +143,7 @@ pub(crate) fn why_trapped(board: &BootedBoard, cause: u32, epc: u32, tval: u32) 
 }
 
 /// Returns the instruction at an address, if there is one.
-pub(crate) fn instruction_at(board: &BootedBoard, address: u32) -> Option<Instr>
+pub fn instruction_at(board: &BootedBoard, address: u32) -> Option<Instr>
     ensures { result ≡ option_and_then means (word_at board.now address) }
 {
     decode(word_at(board, address)?)

@@ -1,5 +1,5 @@
 use Rattle.std.proofs.Common.{◌≡◌, ℕ, ◌<◌, get_or, length, slice_index}
-use Rattle.rv_lab.proofs.registers.registers_of.Given as goal
+use Rattle.rv_convention.proofs.registers.registers_of.Given as goal
 
 -- the registers below the number stand in their places
 abbrev pub invariant-loop-number : goal.invariant-loop-number

@@ -1,7 +1,7 @@
 use Rattle.std.proofs.Common.{◌∙◌, ap, slice_index, rules, arith}
 use Rattle.std.proofs.lemmas.List.FromFn.{fill_by_all}
-use Rattle.rv_lab.proofs.Filled.{filled}
-use Rattle.rv_lab.proofs.registers.registers_of.Goals as goal
+use Rattle.rv_convention.proofs.Filled.{filled}
+use Rattle.rv_convention.proofs.registers.registers_of.Goals as goal
 
 pub loop-number-preserved : goal.loop-number-preserved
 loop-number-preserved c = (

@@ -1,0 +1,4 @@
+pub mod Filled
+pub mod Missing
+pub mod Opened
+pub mod Following

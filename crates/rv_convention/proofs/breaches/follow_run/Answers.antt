@@ -1,0 +1,10 @@
+use Rattle.std.proofs.Common.{◌≡◌, true, rules, arith}
+use Rattle.rv_convention.proofs.Following.{more}
+use Rattle.rv_convention.proofs.breaches.follow_run.Goals as goal
+
+pub loop-done-preserved : goal.loop-done-preserved
+loop-done-preserved c =
+    let went : c.in_ok-follow.field-0 ≡ true = first_of (search rules, cc) in
+    more c.args.run.now c.args.most c.loop-done.run c.loop-done.seen c.loop-done.done c.loop-done.invariant
+    c.follow.new.run c.follow.new.self c.in_ok-follow.field-0 went (omega (arith, c.loop-done-test.true))
+    c.in_ok-follow.ensures
