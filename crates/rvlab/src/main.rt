@@ -5,13 +5,16 @@
 //! command gets one line of JSON, and nothing else is written.
 #![tactic(auto)]
 
+mod displays;
 mod json;
+mod reload;
 mod save;
 mod stop;
 mod talk;
 mod words;
 
 use crate::json::talk_json;
+use crate::reload::SourceFile;
 use crate::talk::{TalkFault, print, print_answer, talk};
 use crate::words::{Words, read_words};
 use clap::error::ErrorKind;
@@ -69,13 +72,13 @@ fn fail(rt: &HostRuntime, line: &[u8]) -> u8 {
 /// Greets, and talks until no command follows.
 fn greet_and_talk(
     rt: &HostRuntime,
-    name: &str,
+    words: &Words<'_>,
     lab: &mut Lab,
     answer: &mut Printer,
 ) -> Result<(), TalkFault> {
-    lab.greet(name, answer);
+    lab.greet(words.source, answer);
     print_answer(rt, answer)?;
-    talk(rt, lab, answer)
+    talk(rt, lab, SourceFile::new(rt, *words), answer)
 }
 
 /// Talks with a lab until no command follows, as the words ask for it.
@@ -84,7 +87,7 @@ fn talk_as_asked(rt: &HostRuntime, words: &Words<'_>, lab: &mut Lab) -> Result<(
         return talk_json(rt, lab);
     }
     let mut answer = Printer::new(rt.alloc());
-    greet_and_talk(rt, words.source, lab, &mut answer)
+    greet_and_talk(rt, words, lab, &mut answer)
 }
 
 /// Talks with a lab until no command follows. Returns the exit status.

@@ -1,7 +1,10 @@
 //! The talk with a lab: reads commands and writes their answers.
+use crate::displays::Displays;
+use crate::reload::SourceFile;
 use crate::save::saved;
 use crate::stop::StopFile;
-use rv_base::NoMemory;
+use rv_answers::{Command, command_named};
+use rv_base::{NoMemory, first_word};
 use rv_lab::{Lab, Next, Printer, Reply};
 use std::io::{BufRead, IsTerminal, StdinLock, Write};
 
@@ -15,6 +18,48 @@ pub enum TalkFault {
     Read,
     /// The answers can't be written.
     Write,
+}
+
+/// What a talk keeps beside its lab.
+#[derive(Drop)]
+struct Kept<'a> {
+    stop: StopFile,
+    file: SourceFile<'a>,
+    displays: Displays,
+}
+
+/// What a line asks the program for, beside what the lab answers to it.
+#[derive(Clone, Copy)]
+enum Own<'a> {
+    /// To show an operand from now on.
+    Display(&'a [u8]),
+    /// To show one no more, or none where it is empty.
+    Undisplay(&'a [u8]),
+    /// To read the source again.
+    Reload,
+    /// Nothing.
+    Nothing,
+}
+
+/// Returns the first word of a text, or nothing.
+fn word_in(text: &[u8]) -> &[u8] {
+    match first_word(text) {
+        Some((word, _)) => word,
+        None => b"",
+    }
+}
+
+/// Returns what a line asks the program for.
+fn own_of(line: &[u8]) -> Own<'_> {
+    let Some((word, operands)) = first_word(line) else {
+        return Own::Nothing;
+    };
+    match command_named(word) {
+        Some(Command::Display) => Own::Display(word_in(operands)),
+        Some(Command::Undisplay) => Own::Undisplay(word_in(operands)),
+        Some(Command::Reload) => Own::Reload,
+        _ => Own::Nothing,
+    }
 }
 
 /// Writes bytes to the standard output.
@@ -91,9 +136,9 @@ fn tell_interrupted(
     finish(rt, lab, reply, text)
 }
 
-/// Executes a command, and writes its answers as they come. Returns what follows once no run goes on, or
+/// Executes a command of the lab, and writes its answers as they come. Returns what follows once no run goes on, or
 /// once it was stopped by hand.
-fn execute(
+fn run_command(
     rt: &HostRuntime,
     lab: &mut Lab,
     line: &[u8],
@@ -119,13 +164,80 @@ fn execute(
     Ok(next)
 }
 
-/// Writes a command that was read from no terminal, so that a transcript shows it.
-fn echo(rt: &HostRuntime, line: &[u8]) -> Result<(), TalkFault> {
+/// Writes the values of all that is shown after each command that moved the board.
+fn show(
+    rt: &HostRuntime,
+    lab: &Lab,
+    displays: &Displays,
+    text: &mut Printer,
+) -> Result<(), TalkFault> {
+    if displays.append(lab, text).is_err() {
+        text.cut();
+    }
+    print_answer(rt, text)
+}
+
+/// Does what a line asks the program for.
+fn do_own(
+    rt: &HostRuntime,
+    lab: &mut Lab,
+    own: Own<'_>,
+    kept: &mut Kept<'_>,
+    text: &mut Printer,
+) -> Result<(), TalkFault> {
+    match own {
+        Own::Display(operand) => {
+            if kept.displays.add(lab, operand).is_err() {
+                text.say("out of memory\n");
+            }
+        }
+        Own::Undisplay(operand) => {
+            if !kept.displays.remove(operand) {
+                text.say("undisplay: nothing of it is shown\n");
+            }
+        }
+        Own::Reload => {
+            kept.file.reload(rt, lab, text);
+            return show(rt, lab, &kept.displays, text);
+        }
+        Own::Nothing => {}
+    }
+    print_answer(rt, text)
+}
+
+/// Executes a command, and shows what is to be shown where it moved the board. Returns what follows.
+fn execute(
+    rt: &HostRuntime,
+    lab: &mut Lab,
+    line: &[u8],
+    kept: &mut Kept<'_>,
+    text: &mut Printer,
+) -> Result<Next, TalkFault> {
+    let before = lab.steps();
+    let next = run_command(rt, lab, line, &kept.stop, text)?;
+    if lab.steps() != before {
+        show(rt, lab, &kept.displays, text)?;
+    }
+    do_own(rt, lab, own_of(line), kept, text)?;
+    Ok(next)
+}
+
+/// Writes a command that was read from no terminal, so that a transcript shows it. No byte of it drives a terminal.
+fn echo(rt: &HostRuntime, line: &[u8], text: &mut Printer) -> Result<(), TalkFault> {
     if rt.stdin().is_terminal() {
         return Ok(());
     }
-    print(rt, line)?;
-    print(rt, b"\n")
+    text.shown(line);
+    text.end();
+    print_answer(rt, text)
+}
+
+/// Tells that the source was written since it was read, once for each time.
+fn tell_newer(rt: &HostRuntime, file: &mut SourceFile<'_>) -> Result<(), TalkFault> {
+    if file.is_newer(rt) {
+        return print(rt, b"the source has changed: `reload` reads it again\n");
+    }
+    Ok(())
 }
 
 /// Reads a command and writes its answer. Returns whether another follows.
@@ -134,29 +246,39 @@ fn talk_once(
     lab: &mut Lab,
     reader: &mut StdinLock<'_>,
     line: &mut Vec<u8>,
-    stop: &StopFile,
+    kept: &mut Kept<'_>,
     answer: &mut Printer,
 ) -> Result<bool, TalkFault> {
+    tell_newer(rt, &mut kept.file)?;
     print(rt, b"> ")?;
     if !read_line(reader, line)? {
         print(rt, b"\n")?;
         return Ok(false);
     }
-    echo(rt, line)?;
-    let next = execute(rt, lab, line, stop, answer)?;
+    echo(rt, line, answer)?;
+    let next = execute(rt, lab, line, kept, answer)?;
     Ok(!matches!(next, Next::Quit))
 }
 
 /// Reads commands from the standard input up to one that ends the talk, or to the end, and writes their
-/// answers.
-pub fn talk(rt: &HostRuntime, lab: &mut Lab, answer: &mut Printer) -> Result<(), TalkFault> {
+/// answers. `file` is that of the lab's source.
+pub fn talk(
+    rt: &HostRuntime,
+    lab: &mut Lab,
+    file: SourceFile<'_>,
+    answer: &mut Printer,
+) -> Result<(), TalkFault> {
     let mut reader = rt.reader();
     let mut line = Vec::new(rt.alloc());
-    let stop = StopFile::from_env(rt);
+    let mut kept = Kept {
+        stop: StopFile::from_env(rt),
+        file,
+        displays: Displays::new(rt.alloc()),
+    };
     let mut goes_on = Ok(true);
     for _ in 0..u64::MAX {
         match goes_on {
-            Ok(true) => goes_on = talk_once(rt, lab, &mut reader, &mut line, &stop, answer),
+            Ok(true) => goes_on = talk_once(rt, lab, &mut reader, &mut line, &mut kept, answer),
             _ => break,
         }
     }

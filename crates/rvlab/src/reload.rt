@@ -1,0 +1,90 @@
+//! The source read again.
+use crate::words::Words;
+use rv_answers::{Answer, Place};
+use rv_base::{NoMemory, TEXT_LIMIT};
+use rv_lab::{Lab, LabFault, Printer, append_diagnosis};
+use rv_options::read_file;
+use std::fs;
+use std::time::SystemTime;
+
+/// Returns when a file was written last, if that is known.
+fn written(rt: &HostRuntime, path: &str) -> Option<SystemTime> {
+    fs::metadata(rt, path).ok()?.modified().ok()
+}
+
+/// The file of a source that was read.
+#[derive(Clone, Copy)]
+pub struct SourceFile<'a> {
+    words: Words<'a>,
+    /// When it had been written last before it was read, or before a change of it was told.
+    known: Option<SystemTime>,
+}
+
+/// Makes a breakpoint at the line of a place, or at its address where it has none.
+fn set_break(rt: &HostRuntime, place: Place, lab: &mut Lab) -> Result<(), NoMemory> {
+    let mut line = Printer::new(rt.alloc());
+    line.say("b ");
+    match place.line {
+        Some(number) => line.number(number as u64),
+        None => {
+            line.say("0x");
+            line.word(place.address);
+        }
+    }
+    lab.answer(line.bytes())?;
+    Ok(())
+}
+
+/// Makes the breakpoints of a lab those of another one, too.
+fn copy_breaks(rt: &HostRuntime, old: &Lab, new: &mut Lab) -> Result<(), NoMemory> {
+    if let Some(Answer::Breakpoints(places)) = old.look(b"b")? {
+        for place in places.items() {
+            set_break(rt, *place, new)?;
+        }
+    }
+    Ok(())
+}
+
+impl<'a> SourceFile<'a> {
+    /// Returns the file that words name, which is to be read now.
+    pub fn new(rt: &HostRuntime, words: Words<'a>) -> SourceFile<'a> {
+        let known = written(rt, words.source);
+        SourceFile { words, known }
+    }
+
+    /// Returns whether the file was written since it was read or since that was told.
+    pub fn is_newer(&mut self, rt: &HostRuntime) -> bool {
+        let now = written(rt, self.words.source);
+        let is_newer = now.is_some() && now != self.known;
+        self.known = now;
+        is_newer
+    }
+
+    /// Opens a lab of a source, with the inputs and the breakpoints of another one.
+    fn open(&self, rt: &HostRuntime, source: &[u8], old: &Lab) -> Result<Lab, LabFault> {
+        let Ok(inputs) = old.recording().inputs_text(rt.alloc()) else {
+            return Err(LabFault::OutOfMemory);
+        };
+        let mut new = Lab::open(rt.alloc(), source, inputs.as_slice(), self.words.sizes)?;
+        match copy_breaks(rt, old, &mut new) {
+            Ok(()) => Ok(new),
+            Err(NoMemory) => Err(LabFault::OutOfMemory),
+        }
+    }
+
+    /// Reads the file again, and puts a lab of it in the place of another one, with its inputs and breakpoints. Where that
+    /// can't be done the lab stays, and the text tells why.
+    pub fn reload(&mut self, rt: &HostRuntime, lab: &mut Lab, text: &mut Printer) {
+        self.known = written(rt, self.words.source);
+        let Some(source) = read_file(rt, self.words.source, TEXT_LIMIT) else {
+            return text.say("cannot read source\n");
+        };
+        match self.open(rt, &source, lab) {
+            Ok(new) => {
+                *lab = new;
+                lab.greet(self.words.source, text);
+            }
+            Err(fault) => append_diagnosis(self.words.source, &source, fault, text),
+        }
+    }
+}
