@@ -66,9 +66,9 @@ fn limit_form(aim: Aim) -> &'static str {
     match aim {
         Aim::Steps => "stopped after %d step%{s||s}\n",
         Aim::Breakpoint => "still running after %d step%{s||s}; c goes on\n",
-        Aim::Return => "not returned after %d step%{s||s}; c goes on, and past the return\n",
+        Aim::Return => "not returned after %d step%{s||s}; c goes on\n",
         Aim::Trap(_) | Aim::Console | Aim::Arrival | Aim::Watch(_) =>
-            "not reached after %d step%{s||s}; c goes on without the condition, `until` again with it\n",
+            "not reached after %d step%{s||s}; c goes on\n",
     }
 }
 

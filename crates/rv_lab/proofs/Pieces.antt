@@ -15,7 +15,7 @@ use Rattle.rv_recording.specs.declared.until.Condition.{Condition}
 use Rattle.rv_recording.specs.declared.until.End.{End}
 use Rattle.rv_recording.proofs.Counting.{joins, joins_over, over_or_all, same_steps, steps_within}
 use Rattle.rv_lab.specs.State.{LabState, sent, timed}
-use Rattle.rv_lab.specs.Commands.{InPieces, cut, ended, goal_after, gone_on, piece_steps, plan_after, run_ends, tells_last, with_console, with_steps}
+use Rattle.rv_lab.specs.Commands.{InPieces, cut, ended, goal_after, gone_on, piece_steps, plan_after, resumed_by, resumes_after, run_ends, tells_last, with_console, with_steps}
 use Rattle.rv_lab.specs.declared.plan.Plan.{Plan}
 use Rattle.rv_lab.specs.declared.plan.Goal.{Goal}
 use Rattle.rv_lab.specs.declared.plan.Goal.TheVariants as goal
@@ -30,6 +30,12 @@ goes_on_at_first None true b l e = absurd (false≢true (sym e))
 goes_on_at_first None false true l e = absurd (false≢true (sym e))
 goes_on_at_first None false false true e = refl
 goes_on_at_first None false false false e = absurd (false≢true (sym e))
+
+same_none : {A : Type 0} (o p : Option A) → is_some o ≡ is_some p → is_none o ≡ is_none p
+same_none None None e = refl
+same_none (Some x) (Some y) e = refl
+same_none None (Some y) e = absurd (false≢true e)
+same_none (Some x) None e = absurd (false≢true (sym e))
 
 above : (n : ℕ) → nat_lt 0 (suc n) ≡ true
 above n = grind (arith, nat_tests)
@@ -97,11 +103,33 @@ module _ (s : SessionState) (k : ℕ) (h : IsInTime s.timed) where
   ends_later (goal.Until c) e i =
       rest_is (comes c s.timed) (comes c mid.timed) s.breakpoints.addresses (comes_later c) e i
 
+  goal_later : (g : Goal) (i : ℕ) → goal_after (goal_after g s.timed k) mid.timed i ≡ goal_after g s.timed (k + i)
+  goal_later goal.Count i = refl
+  goal_later goal.Trace i = refl
+  goal_later goal.Break i = refl
+  goal_later (goal.Out calls) i = ap goal.Out (open_later calls i)
+  goal_later (goal.Until c) i = refl
+
+  -- what `c` goes on for after the rest
+  resumes_later : (g : Goal) → is_some (run_ends g s k) ≡ false → (i : ℕ)
+      → resumes_after (goal_after g s.timed k) mid i ≡ resumes_after g s (k + i)
+  resumes_later g e i =
+      ap (λ (b : Bool). if b then resumed_by (goal_after (goal_after g s.timed k) mid.timed i) else goal.Break)
+      (same_none _ _ (ends_later g e i))
+      ∙ ap (λ (h : Goal). if is_none (run_ends g s (k + i)) then resumed_by h else goal.Break) (goal_later g i)
+
 -- ---- the whole run
 
--- the lab after all of a run
+-- the lab after the n steps of all of a run
+abbrev whole_of : Plan → LabState → ℕ → LabState
+whole_of p l n = record (with_console (with_steps n l)) {
+  plan = None;
+  resumes = resumes_after p.goal l.recording.session n;
+  piece = 0;
+}
+
 abbrev whole : Plan → LabState → LabState
-whole p l = record (with_console (with_steps (steps_of (run_ends p.goal l.recording.session) p.left) l)) { plan = None; piece = 0 }
+whole p l = whole_of p l (steps_of (run_ends p.goal l.recording.session) p.left)
 
 none_some : {A : Type 0} (o : Option A) (x : A) → o ≡ None → o ≡ Some x → ⊥
 none_some o x a b = cc
@@ -183,12 +211,21 @@ whole_again p r l n h e =
     let joined : after (after s.timed k) (steps_of (run_ends r.goal (record s { timed = after s.timed k })) r.left)
     ≡ after s.timed (steps_of (run_ends p.goal s) p.left) =
     after_more s.timed k _ h.rising ∙ ap (after s.timed) (rest_steps p s (max n 1) h r e) in
+    let now = kept p s (max n 1) r e in
+    let rest = steps_of (run_ends r.goal (record s { timed = after s.timed k })) r.left in
+    let same : resumes_after r.goal (record s { timed = after s.timed k }) rest
+    ≡ resumes_after p.goal s (steps_of (run_ends p.goal s) p.left) =
+    subst (λ (q : Plan). resumes_after q.goal (record s { timed = after s.timed k }) rest ≡ resumes_after p.goal s (k + rest)) now.2
+    (resumes_later s k h p.goal now.0 rest)
+    ∙ ap (resumes_after p.goal s) (rest_steps p s (max n 1) h r e) in
     ap (λ (t : TimedState). record l {
       recording = record l.recording { session = record s { timed = t } };
       plan = None;
+      resumes = resumes_after r.goal (record s { timed = after s.timed k }) rest;
       piece = 0;
       told = length t.board.machine.bus.serial.sent;
     }) joined
+    ∙ ap (λ (g : Goal). record (whole p l) { resumes = g }) same
 
 told_all : (b : Bool) (o : Option Plan) (x y : ℕ) → o ≡ None → (if b && is_some o then x else y) ≡ y
 told_all true o x y e = rw e refl
@@ -200,11 +237,11 @@ at_last : (p : Plan) (l : LabState) (n : ℕ)
 at_last p l n none =
     let s = l.recording.session in
     let k = piece_steps p (record l { piece = n }) in
-    let done = with_steps k l in
+    let done = record (with_steps k l) { resumes = resumes_after p.goal s k } in
     ap (λ (x : ℕ). record done { plan = plan_after p s k; piece = 0; told = x })
     (told_all (tells_last p) (plan_after p s k) l.told (sent done) none)
     ∙ (ap (λ (o : Option Plan). record done { plan = o; piece = 0; told = sent done }) none
-    ∙ ap (λ (j : ℕ). record (with_console (with_steps j l)) { plan = None; piece = 0 })
+    ∙ ap (whole_of p l)
     (sym (all_steps p s (max n 1) none)))
 
 whole_by : (end l : LabState) (q : Plan) (n : ℕ) → IsInTime (timed l)

@@ -15,8 +15,8 @@ use Rattle.rv_recording.specs.declared.until.End.{End}
 use Rattle.rv_recording.specs.declared.until.End.TheVariants.{Halted, Reached, Breakpoint, Limit, Stuck}
 use Rattle.rv_timeline.specs.declared.input.Input.{Input}
 use Rattle.rv_lab.specs.State.{LabState, sent, timed}
-use Rattle.rv_lab.specs.Commands.{goal_after, gone_on, plan_after, run_ends, stepped, tells_last, with_inputs, with_piece, with_session, with_steps}
-use Rattle.rv_lab.specs.Support.Short.{Traced, end_now, rest_of, stepped_by}
+use Rattle.rv_lab.specs.Commands.{goal_after, gone_on, plan_after, resumed_by, resumes_after, run_ends, stepped, tells_last, with_inputs, with_piece, with_session, with_steps}
+use Rattle.rv_lab.specs.Support.Short.{Traced, end_now, rest_of, resumes_of, stepped_by}
 use Rattle.rv_lab.specs.declared.plan.Plan.{Plan}
 use Rattle.rv_lab.specs.declared.plan.Goal.{Goal}
 use Rattle.rv_lab.specs.declared.plan.Goal.TheVariants as goal
@@ -51,6 +51,24 @@ plan_is : (p : Plan) (s : SessionState) (n : ℕ)
 unfolding plan_after
 plan_is p s n = rest_is p p.goal s n
 
+resumes_by : (g : Goal) (h : Option ℕ) (r b l : Bool)
+    → resumes_of g (unwrap_or (end_is h r b l) Limit) ≡ (if is_none (end_is h r b l) then resumed_by g else goal.Break)
+resumes_by g (Some code) r b l = refl
+resumes_by g None true b l = refl
+resumes_by g None false true l = refl
+resumes_by g None false false true = refl
+resumes_by g None false false false = refl
+
+resumes_is : (g : Goal) (s : SessionState) (n : ℕ)
+    → resumes_of (goal_after g s.timed n) (unwrap_or (run_ends g s n) Limit) ≡ resumes_after g s n
+resumes_is goal.Count s n = resumes_by goal.Count (halted_of (after s.timed n).board) _ _ _
+resumes_is goal.Trace s n = resumes_by goal.Trace (halted_of (after s.timed n).board) _ _ _
+resumes_is goal.Break s n = resumes_by goal.Break (halted_of (after s.timed n).board) _ _ _
+resumes_is (goal.Out calls) s n =
+    resumes_by (goal_after (goal.Out calls) s.timed n) (halted_of (after s.timed n).board) _ _ _
+resumes_is (goal.Until condition) s n =
+    resumes_by (goal.Until condition) (halted_of (after s.timed n).board) _ _ _
+
 pub taken_after : (s : TimedState) (n : ℕ) → (after s n).taken ≡ s.taken + n
 unfolding after
 taken_after s n = refl
@@ -63,25 +81,31 @@ module _ (p : Plan) (old : LabState) where
   has_taken : (n : ℕ) (t : SessionState) (end : End) (g : Goal) (done : ℕ)
       → t ≡ record s { timed = after s.timed n } → end ≡ unwrap_or (run_ends p.goal s n) Limit
       → g ≡ goal_after p.goal s.timed (steps_between s.timed t.timed) → done ≡ t.timed.taken - s.timed.taken
-      → record (with_session old t) { plan = rest_of p g end done }
-      ≡ record (with_steps n old) { plan = plan_after p s n }
+      → record (with_session old t) { plan = rest_of p g end done; resumes = resumes_of g end }
+      ≡ record (with_steps n old) { plan = plan_after p s n; resumes = resumes_after p.goal s n }
   has_taken n t end g done state ended goal_is done_is =
       let now = ap (λ (u : SessionState). u.timed.taken) state in
       let between : steps_between s.timed t.timed ≡ n = omega (arith, now, taken_after s.timed n) in
       let all : done ≡ n = done_is ∙ between in
-      ap (λ (u : SessionState). record (with_session old u) { plan = rest_of p g end done }) state
-      ∙ (ap (λ (h : Goal). record (with_steps n old) { plan = rest_of p h end done }) goal_is
-      ∙ (ap (λ (k : ℕ). record (with_steps n old) { plan = rest_of p (goal_after p.goal s.timed k) end done }) between
-      ∙ (ap (λ (k : ℕ). record (with_steps n old) { plan = rest_of p (goal_after p.goal s.timed n) end k }) all
-      ∙ (ap (λ (e : End). record (with_steps n old) { plan = rest_of p (goal_after p.goal s.timed n) e n }) ended
-      ∙ ap (λ (q : Option Plan). record (with_steps n old) { plan = q }) (plan_is p s n)))))
+      let left : Goal → End → ℕ → LabState = λ h e k.
+      record (with_steps n old) { plan = rest_of p h e k; resumes = resumes_of h e } in
+      ap (λ (u : SessionState). record (with_session old u) { plan = rest_of p g end done; resumes = resumes_of g end }) state
+      ∙ (ap (λ (h : Goal). left h end done) goal_is
+      ∙ (ap (λ (k : ℕ). left (goal_after p.goal s.timed k) end done) between
+      ∙ (ap (λ (k : ℕ). left (goal_after p.goal s.timed n) end k) all
+      ∙ (ap (λ (e : End). left (goal_after p.goal s.timed n) e n) ended
+      ∙ (ap (λ (q : Option Plan). record (with_steps n old) {
+        plan = q;
+        resumes = resumes_of (goal_after p.goal s.timed n) (unwrap_or (run_ends p.goal s n) Limit);
+      }) (plan_is p s n)
+      ∙ ap (λ (h : Goal). record (with_steps n old) { plan = plan_after p s n; resumes = h }) (resumes_is p.goal s n))))))
 
 pub took_piece : (p : Plan) (g : Goal) (end : End) (old at_first mid new : LabState) (most done : ℕ)
-    → at_first ≡ record old { plan = None }
+    → at_first ≡ record old { plan = None; resumes = goal.Break }
     → HasRun (run_ends p.goal at_first.recording.session) most at_first.recording.session mid.recording.session end
     → g ≡ goal_after p.goal (timed at_first) (steps_between (timed at_first) (timed mid))
     → mid ≡ with_session at_first mid.recording.session → most ≡ min p.left (max old.piece 1)
-    → done ≡ (timed mid).taken - (timed old).taken → new ≡ record mid { plan = rest_of p g end done }
+    → done ≡ (timed mid).taken - (timed old).taken → new ≡ record mid { plan = rest_of p g end done; resumes = resumes_of g end }
     → new ≡ with_piece p old
 took_piece p g end old at_first mid new most done is run goal_is others most_is done_is e =
     let same : at_first.recording ≡ old.recording = ap (λ (l : LabState). l.recording) is in
@@ -89,13 +113,14 @@ took_piece p g end old at_first mid new most done is run goal_is others most_is 
     subst (λ (r : RecordingState). HasRun (run_ends p.goal r.session) most r.session mid.recording.session end) same run in
     let goal_now = goal_is
     ∙ ap (λ (r : RecordingState). goal_after p.goal r.session.timed (steps_between r.session.timed (timed mid))) same in
-    let from_old : mid ≡ with_session (record old { plan = None }) mid.recording.session =
+    let from_old : mid ≡ with_session (record old { plan = None; resumes = goal.Break }) mid.recording.session =
     others ∙ ap (λ (l : LabState). with_session l mid.recording.session) is in
-    e ∙ (ap (λ (l : LabState). record l { plan = rest_of p g end done }) from_old
+    e ∙ (ap (λ (l : LabState). record l { plan = rest_of p g end done; resumes = resumes_of g end }) from_old
     ∙ (has_taken p old (steps_of (run_ends p.goal old.recording.session) most) mid.recording.session end g done ran.state
     ran.ended goal_now done_is
     ∙ ap (λ (m : ℕ). record (with_steps (steps_of (run_ends p.goal old.recording.session) m) old) {
       plan = plan_after p old.recording.session (steps_of (run_ends p.goal old.recording.session) m);
+      resumes = resumes_after p.goal old.recording.session (steps_of (run_ends p.goal old.recording.session) m);
     }) most_is))
 
 -- ---- the console

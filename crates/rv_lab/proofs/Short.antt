@@ -20,6 +20,7 @@ use Rattle.rv_lab.specs.Support.Short.{Gives, GoesOnWith, IsOnWay, Looks, Monito
 use Rattle.rv_lab.specs.State.{LabState, timed}
 use Rattle.rv_lab.specs.declared.order.Order.TheVariants as orders
 use Rattle.rv_lab.specs.declared.plan.Plan.{Plan}
+use Rattle.rv_lab.specs.declared.plan.Goal.{Goal}
 use Rattle.rv_lab.specs.declared.plan.Goal.TheVariants as goal
 use Rattle.rv_lab.proofs.Runs.{all_stepped, one_and_more}
 
@@ -79,20 +80,26 @@ module _ (ends : ℕ → Option End) (most : ℕ) (old new : LabState) (rising :
   )
 
 pub piece_err : {A : Type 0} (r : Result A NoMemory) (p : Plan) (most : ℕ) (old at_first new : LabState)
-    → most ≡ piece_most p old → at_first ≡ record old { plan = None }
+    → most ≡ piece_most p old → at_first ≡ record old { plan = None; resumes = goal.Break }
     → StopsIn (run_ends p.goal at_first.recording.session) most at_first new
     → OnErr r (StopsShort (GoesOnWith p) old new)
 piece_err r p most old at_first new most_is is short =
-    let s : StopsIn (run_ends p.goal old.recording.session) (piece_most p old) (record old { plan = None }) new =
-    subst (λ (n : ℕ). StopsIn (run_ends p.goal old.recording.session) n (record old { plan = None }) new) most_is
+    let s : StopsIn (run_ends p.goal old.recording.session) (piece_most p old) (record old { plan = None; resumes = goal.Break }) new =
+    subst (λ (n : ℕ). StopsIn (run_ends p.goal old.recording.session) n (record old { plan = None; resumes = goal.Break }) new) most_is
     (subst (λ (l : LabState). StopsIn (run_ends p.goal l.recording.session) most l new) is short) in
     on_err r (StopsShort (GoesOnWith p) old new) (
       lab.gone_on p old,
       refl,
       s.0,
       s.1,
-      s.2 ∙ ap (λ (n : ℕ). record old { recording = with_timed old.recording (timed new); plan = None; told = n })
-          (sym (ap (λ (l : LabState). l.told) s.2)),
+      s.2 ∙ (ap (λ (g : Goal). record old { recording = with_timed old.recording (timed new); plan = None; resumes = g })
+          (sym (ap (λ (l : LabState). l.resumes) s.2))
+          ∙ ap (λ (n : ℕ). record old {
+            recording = with_timed old.recording (timed new);
+            plan = None;
+            resumes = new.resumes;
+            told = n;
+          }) (sym (ap (λ (l : LabState). l.told) s.2))),
     )
 
 pub starts_short : {A : Type 0} (r : Result A NoMemory) (p : Plan) (old mid new : LabState) → mid ≡ begun old
@@ -190,8 +197,14 @@ traced_short n old new h none way others = (
       (leads_steps (n - 1) (stepped old.recording))),
   others ∙ (ap (λ (r : RecordingState). record old { recording = r }) way.2
       ∙ (ap (λ (q : Option Plan). record old { recording = with_timed old.recording (timed new); plan = q }) none
-      ∙ ap (λ (k : ℕ). record old { recording = with_timed old.recording (timed new); plan = None; told = k })
-      (sym (ap (λ (l : LabState). l.told) others)))),
+      ∙ (ap (λ (g : Goal). record old { recording = with_timed old.recording (timed new); plan = None; resumes = g })
+      (sym (ap (λ (l : LabState). l.resumes) others))
+      ∙ ap (λ (k : ℕ). record old {
+        recording = with_timed old.recording (timed new);
+        plan = None;
+        resumes = new.resumes;
+        told = k;
+      }) (sym (ap (λ (l : LabState). l.told) others))))),
 )
 
 same_others : (b : Bool) (r : RecordingState) (t : TimedState)

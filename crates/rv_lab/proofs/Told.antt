@@ -68,31 +68,37 @@ over_short r p waits old mid new is w told none =
 -- ---- a step
 
 -- a lab of which the board and the source are the same does the same
-abbrev other : LabState → List ℕ → (before told count : ℕ) → Option Plan → LabState
-other l registers before told count plan =
-    record l { registers = registers; before = before; told = told; count = count; plan = plan }
+abbrev other : LabState → List ℕ → (before told count : ℕ) → Option Plan → Goal → LabState
+other l registers before told count plan resumes = record l {
+  registers = registers;
+  before = before;
+  told = told;
+  count = count;
+  plan = plan;
+  resumes = resumes;
+}
 
-same_value : (l : LabState) (rs : List ℕ) (b t c : ℕ) (p : Option Plan) → step_value (other l rs b t c p) ≡ step_value l
+same_value : (l : LabState) (rs : List ℕ) (b t c : ℕ) (p : Option Plan) (g : Goal) → step_value (other l rs b t c p g) ≡ step_value l
 unfolding step_value trap_in place_of
-same_value l rs b t c p = refl
+same_value l rs b t c p g = refl
 
-same_step : (l : LabState) (rs : List ℕ) (b t c : ℕ) (p : Option Plan) → next_step (other l rs b t c p) ≡ next_step l
-same_step l rs b t c p =
-    ap (λ (v : Step). if may_step l.recording.session then Some v else None) (same_value l rs b t c p)
+same_step : (l : LabState) (rs : List ℕ) (b t c : ℕ) (p : Option Plan) (g : Goal) → next_step (other l rs b t c p g) ≡ next_step l
+same_step l rs b t c p g =
+    ap (λ (v : Step). if may_step l.recording.session then Some v else None) (same_value l rs b t c p g)
 
-same_steps : (n : ℕ) (l : LabState) (rs : List ℕ) (b t c : ℕ) (p : Option Plan)
-    → next_steps n (other l rs b t c p) ≡ next_steps n l
+same_steps : (n : ℕ) (l : LabState) (rs : List ℕ) (b t c : ℕ) (p : Option Plan) (g : Goal)
+    → next_steps n (other l rs b t c p g) ≡ next_steps n l
 unfolding next_steps
-same_steps zero l rs b t c p = refl
-same_steps (suc n) l rs b t c p =
-    ap (λ (v : Step). if may_step l.recording.session then v ∷ next_steps n (with_steps 1 (other l rs b t c p)) else [])
-    (same_value l rs b t c p)
+same_steps zero l rs b t c p g = refl
+same_steps (suc n) l rs b t c p g =
+    ap (λ (v : Step). if may_step l.recording.session then v ∷ next_steps n (with_steps 1 (other l rs b t c p g)) else [])
+    (same_value l rs b t c p g)
     ∙ ap (λ (vs : List Step). if may_step l.recording.session then step_value l ∷ vs else [])
-    (same_steps n (with_steps 1 l) rs b t c p)
+    (same_steps n (with_steps 1 l) rs b t c p g)
 
 counted_step : (old counted mid : LabState) → counted ≡ record old { count = 1 } → mid ≡ begun counted
     → next_step mid ≡ next_step old
-counted_step old counted mid one e = ap next_step (e ∙ ap begun one) ∙ same_step old _ _ _ 1 old.plan
+counted_step old counted mid one e = ap next_step (e ∙ ap begun one) ∙ same_step old _ _ _ 1 old.plan goal.Break
 
 step_said : (o p : Option Step) (st : Standing) → o ≡ p
     → option_map_or (λ (x : Step). answers.Stepped (record { step = x; standing = st })) o (answers.Stuck st)
@@ -277,11 +283,11 @@ more_steps (Ok x) (suc n) old mid v xs ys zs h e some g f =
     ∙ (ap (λ (w : Step). w ∷ next_steps n (with_steps 1 old)) may.1 ∙ sym (rw may.0 refl))))))
 
 -- the steps of a call that are told, without the plan
-pub told_of : (g : Goal) (n : ℕ) (old at_first : LabState) → at_first ≡ record old { plan = None }
+pub told_of : (g : Goal) (n : ℕ) (old at_first : LabState) → at_first ≡ record old { plan = None; resumes = goal.Break }
     → told_steps g n at_first ≡ told_steps g n old
 told_of g n old at_first e =
     ap (told_steps g n) e
-    ∙ ap (λ (xs : List Step). if is_traced g then xs else []) (same_steps n old _ _ _ old.count None)
+    ∙ ap (λ (xs : List Step). if is_traced g then xs else []) (same_steps n old _ _ _ old.count None goal.Break)
 
 -- ---- `s`
 

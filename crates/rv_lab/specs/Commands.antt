@@ -53,6 +53,16 @@ plan_after p s n =
     if is_none (run_ends p.goal s n) && nat_lt n p.left
     then Some (record p { goal = goal_after p.goal s.timed n; left = p.left - n }) else None
 
+-- what `c` goes on for after a run that went on for this: the same, but breakpoints alone after one that counted steps
+abbrev pub resumed_by : Goal → Goal
+resumed_by goal.Count = goal.Break
+resumed_by goal.Trace = goal.Break
+resumed_by other = other
+
+-- and after n steps of a run, which may be over: then breakpoints alone
+abbrev pub resumes_after : Goal → SessionState → ℕ → Goal
+resumes_after g s n = if is_none (run_ends g s n) then resumed_by (goal_after g s.timed n) else goal.Break
+
 -- the lab with n steps taken
 abbrev pub with_steps : ℕ → LabState → LabState
 with_steps n l = record l { recording = with_timed l.recording (after (timed l) n) }
@@ -71,7 +81,8 @@ piece_steps p l = steps_of (run_ends p.goal l.recording.session) (piece_most p l
 -- the lab after that call, before its console is told
 abbrev pub with_piece : Plan → LabState → LabState
 with_piece p l =
-    record (with_steps (piece_steps p l) l) { plan = plan_after p l.recording.session (piece_steps p l) }
+    let s = l.recording.session in let n = piece_steps p l in
+    record (with_steps n l) { plan = plan_after p s n; resumes = resumes_after p.goal s n }
 
 -- whether each step of a run is told
 abbrev pub is_traced : Goal → Bool
@@ -100,9 +111,9 @@ pub data InPieces (end : LabState) : LabState → Type 0 where
 
 -- ---- commands that move the board
 
--- a lab as a command that moves the board begins: the next is compared with it
+-- a lab as a command that moves the board begins, which is compared with it
 abbrev pub begun : LabState → LabState
-begun l = record l { registers = registers_of (board l); before = (timed l).taken; told = sent l }
+begun l = record l { registers = registers_of (board l); before = (timed l).taken; told = sent l; resumes = goal.Break }
 
 -- ---- a command
 

@@ -115,7 +115,7 @@ unfoldable pub command_order : Command → (word text : List ℕ) → LabState �
 command_order Step word text l =
     or_refused (count_of 1 most_steps (words text)) steps_order (refused Step text why.NoSteps)
 command_order (Moves Go) word text l = or_refused (count_of usual_steps most_steps (words text))
-    (λ n. orders.Run (planned goal.Break n)) (refused (Moves Go) text why.NoSteps)
+    (λ n. orders.Run (planned l.resumes n)) (refused (Moves Go) text why.NoSteps)
 command_order Over word text l = orders.Run (planned (goal.Out 0) usual_steps)
 command_order (Moves Finish) word text l = orders.Run (planned (goal.Out 1) usual_steps)
 command_order (Moves Until) word text l = until_order text l

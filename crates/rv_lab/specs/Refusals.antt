@@ -18,7 +18,7 @@ pub data Leads (old : TimedState) : TimedState → Type 0 where
 abbrev pub StopsShort : (LabState → LabState → Type 0) → LabState → LabState → Type 0
 StopsShort Does old new =
     (done : LabState) × Does old done × Leads (timed old) (timed new) × Leads (timed new) (timed done)
-    × (new ≡ record done { recording = with_timed old.recording (timed new); plan = None; told = new.told })
+    × (new ≡ record done { recording = with_timed old.recording (timed new); plan = None; resumes = new.resumes; told = new.told })
 
 -- memory ran out in a call: it did nothing, or all that it does but for the end of its answer, or it stopped
 -- short

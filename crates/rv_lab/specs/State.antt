@@ -8,13 +8,14 @@ use Rattle.rv_monitor.specs.State.{TimedState}
 use Rattle.rv_recording.specs.Recording.{RecordingState}
 use Rattle.rv_answers.specs.declared.command.Command.{Command}
 pub use Rattle.rv_convention.specs.Convention.{registers_of}
+use Rattle.rv_lab.specs.declared.plan.Goal.{Goal}
 use Rattle.rv_lab.specs.declared.plan.Plan.{Plan}
 use Rattle.rv_lab.specs.declared.plan.Trail.{Trail}
 
 -- a source with the places of its lines and the recording of its program; the registers and the number of steps
 -- before the last command that moved the board, and the bytes of the console that were told; what an empty line
--- repeats, the steps of the last `s`, and the last line of the last `l`; the run that isn't over; what `why` alone goes
--- on with; and the most steps of a call
+-- repeats, the steps of the last `s`, and the last line of the last `l`; the run that isn't over; what `c` goes on
+-- for; what `why` alone goes on with; and the most steps of a call
 pub record LabState : Type 0 where
   pub source : List ℕ
   pub places : Located
@@ -26,6 +27,7 @@ pub record LabState : Type 0 where
   pub count : ℕ
   pub listed : ℕ
   pub plan : Option Plan
+  pub resumes : Goal
   pub trail : Option Trail
   pub piece : ℕ
 

@@ -6,6 +6,7 @@ ghost use Rattle.rv_monitor.specs.Laws.{IsReached};
 ghost use Rattle.rv_recording.specs.Recording.{first_board};
 ghost use Rattle.rv_lab.specs.State.{listing, registers_of, setup};
 ghost use Rattle.rv_answers.specs.declared.command.Command.TheVariants.{StepOnce};
+ghost use Rattle.rv_lab.specs.declared.plan.Goal.TheVariants as goal;
 ghost use Rattle.rv_lab.specs.Commands.{IsWithin, ready};
 ghost use Rattle.rv_lab.specs.Refusals.{RunsOut};
 ghost use Rattle.rv_lab.specs.Support.Short.{Executes};
@@ -17,7 +18,7 @@ ghost use Rattle.rv_lab.specs.Runs.{Leaves, Obeys, look_by, reply_to};
 use crate::command::{read_command, repeated, trail_before};
 use crate::fault::LabFault;
 use crate::order::Order;
-use crate::plan::{Plan, Trail};
+use crate::plan::{Goal, Plan, Trail};
 use rv_answers::{Answer, Command, Printer, Registers};
 use rv_asm::{Listing, Places, Program, list};
 use rv_base::NoMemory;
@@ -87,6 +88,8 @@ pub(crate) struct Last {
     pub(crate) listed: usize,
     /// The run that isn't over, if there is one.
     pub(crate) plan: Option<Plan>,
+    /// What `c` goes on for.
+    pub(crate) resumes: Goal,
     /// What `why` alone goes on with, if it does.
     pub(crate) trail: Option<Trail>,
 }
@@ -130,7 +133,7 @@ impl Model for Lab {
 
     ghost coded = { Prim.hlevel (codes, plic_code, set.code {R = nat_cmp} coded_ℕ) };
 
-    ghost view = { λ l. record { source = l.source.items; places = l.places; recording = l.recording; registers = l.last.registers; before = l.last.steps; told = l.last.told; again = l.last.command; count = l.last.count; listed = l.last.listed; plan = l.last.plan; trail = l.last.trail; piece = l.piece } };
+    ghost view = { λ l. record { source = l.source.items; places = l.places; recording = l.recording; registers = l.last.registers; before = l.last.steps; told = l.last.told; again = l.last.command; count = l.last.count; listed = l.last.listed; plan = l.last.plan; resumes = l.last.resumes; trail = l.last.trail; piece = l.piece } };
 }
 
 impl Lab {
@@ -149,7 +152,7 @@ impl Lab {
         ensures listing { IfOk result (λ l. listed source.now ≡ Ok (listing l)) }
         ensures begins { IfOk result (λ l. (l.source ≡ source.now) × (l.before ≡ 0) × (l.told ≡ 0)
             × (l.registers ≡ registers_of l.recording.session.timed.board) × (l.again ≡ StepOnce) × (l.count ≡ 1)
-            × (l.listed ≡ 0) × (l.plan ≡ None) × (l.trail ≡ None) × (l.piece ≡ 1000000)) }
+            × (l.listed ≡ 0) × (l.plan ≡ None) × (l.resumes ≡ goal.Break) × (l.trail ≡ None) × (l.piece ≡ 1000000)) }
     {
         let (program, places) = list(alloc, source)?;
         let (pages, slots) = (u32::from(sizes.pages), u32::from(sizes.slots));
@@ -165,6 +168,7 @@ impl Lab {
             count: 1,
             listed: 0,
             plan: None,
+            resumes: Goal::Break,
             trail: None,
         };
         Ok(Lab {

@@ -110,7 +110,7 @@ impl Lab {
         ensures { IfOk result (λ o. o ≡ command_order (command.Moves moves.Go) [] operands.now self.now) }
     {
         match count_or(operands, USUAL_STEPS, MOST_STEPS) {
-            Some(most) => Ok(run_order(Goal::Break, most)),
+            Some(most) => Ok(run_order(self.last.resumes, most)),
             None => self.refuse(Command::Moves(Move::Go), operands, Why::NoSteps),
         }
     }

@@ -37,6 +37,16 @@ impl Goal {
     {
         matches!(self, Goal::Trace)
     }
+
+    /// Returns what `c` goes on for after a run.
+    pub(crate) fn resumed(&self) -> Goal
+        ensures { result ≡ spec.resumed_by self.now }
+    {
+        match *self {
+            Goal::Count | Goal::Trace => Goal::Break,
+            other => other,
+        }
+    }
 }
 
 impl Plan {

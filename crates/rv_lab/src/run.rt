@@ -8,7 +8,7 @@ ghost use Rattle.rv_lab.specs.Commands.{GoesOn, InPieces, IsWithin, begun, goal_
 ghost use Rattle.rv_lab.specs.Refusals.{RunsOut, StopsShort};
 ghost use Rattle.rv_lab.specs.Runs.{Leaves, end_of, reply_on, run_answer};
 ghost use Rattle.rv_answers.specs.declared.answer.Answer.TheVariants as answers;
-ghost use Rattle.rv_lab.specs.Support.Short.{GoesOnWith, Starts, Steps, StopsIn, backed, call_answer, rest_of, told_steps};
+ghost use Rattle.rv_lab.specs.Support.Short.{GoesOnWith, Starts, Steps, StopsIn, backed, call_answer, rest_of, resumes_of, told_steps};
 ghost use Rattle.rv_monitor.specs.Stops.{steps_between};
 ghost use Rattle.rv_recording.specs.Until.{HasRun};
 ghost use Rattle.rv_recording.specs.Refused.{IsRefusedIn};
@@ -59,6 +59,16 @@ fn run_for(recording: &mut Recording, goal: &mut Goal, most: u64) -> Result<End,
     }
 }
 
+/// Returns what `c` goes on for after a run that ended so. `goal` is what the run goes on for then.
+fn resumes_after(goal: Goal, end: End) -> Goal
+    ensures { result ≡ resumes_of goal end }
+{
+    match end {
+        End::Limit => goal.resumed(),
+        _ => Goal::Break,
+    }
+}
+
 impl Plan {
     /// Returns the plan of the run after `done` steps of it that ended so, if the run isn't over. `goal` is what
     /// it goes on for then.
@@ -84,6 +94,7 @@ impl Lab {
         self.last.registers = registers_of(self.board());
         self.last.steps = self.recording.steps();
         self.last.told = self.board().console().len();
+        self.last.resumes = Goal::Break;
     }
 
     /// Goes on with the run that isn't over, if there is one, by at most a piece of steps.
@@ -180,11 +191,12 @@ impl Lab {
         self.run_board(goal, most)
     }
 
-    /// Keeps the plan of the run that isn't over, if there is one.
-    fn keep_plan(&mut self, plan: Option<Plan>)
-        ensures { self.new ≡ record self.old { plan = plan } }
+    /// Keeps the plan of the run that isn't over, if there is one, and what `c` goes on for.
+    fn keep_plan(&mut self, plan: Option<Plan>, resumes: Goal)
+        ensures { self.new ≡ record self.old { plan = plan; resumes = resumes } }
     {
         self.last.plan = plan;
+        self.last.resumes = resumes;
     }
 
     /// Takes a piece of a run, appends what each step did if they are told, and returns why the piece ended.
@@ -199,10 +211,10 @@ impl Lab {
         let before = self.steps();
         let most = plan.left.min(self.piece.max(1));
         let mut goal = plan.goal;
-        self.keep_plan(None);
+        self.keep_plan(None, Goal::Break);
         let end = self.take_steps(&mut goal, most, steps)?;
         let done = self.steps().saturating_sub(before);
-        self.keep_plan(plan.rest(goal, end, done));
+        self.keep_plan(plan.rest(goal, end, done), resumes_after(goal, end));
         Ok(end)
     }
 
@@ -269,6 +281,7 @@ impl Lab {
                 self.last.registers = before;
                 self.last.steps = to;
                 self.last.told = self.board().console().len();
+                self.last.resumes = Goal::Break;
                 Ok(())
             }
             Err(NoMemory) => Err(NoMemory),

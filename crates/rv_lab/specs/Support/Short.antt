@@ -12,7 +12,7 @@ use Rattle.rv_answers.specs.declared.answer.Answer.{Answer}
 use Rattle.rv_answers.specs.declared.answer.Answer.TheVariants as answers
 use Rattle.rv_answers.specs.declared.moves.Step.{Step}
 use Rattle.rv_lab.specs.Answers.{standing}
-use Rattle.rv_lab.specs.Commands.{begun, gone_on, is_traced, stepped, with_console, with_inputs, with_session}
+use Rattle.rv_lab.specs.Commands.{begun, gone_on, is_traced, resumed_by, stepped, with_console, with_inputs, with_session}
 use Rattle.rv_lab.specs.declared.order.Order.TheVariants as orders
 use Rattle.rv_lab.specs.Refusals.{Leads, RunsOut}
 use Rattle.rv_lab.specs.Runs.{Leaves, does, ending_of, next_steps, over_answer}
@@ -22,6 +22,7 @@ use Rattle.rv_lab.specs.State.{LabState, timed}
 use Rattle.rv_recording.specs.declared.until.End.{End}
 use Rattle.rv_recording.specs.declared.until.End.TheVariants.{Halted, Limit, Stuck}
 use Rattle.rv_lab.specs.declared.plan.Goal.{Goal}
+use Rattle.rv_lab.specs.declared.plan.Goal.TheVariants as goal
 use Rattle.rv_lab.specs.declared.plan.Plan.{Plan}
 
 -- ---- orders
@@ -94,6 +95,11 @@ abbrev pub StopsIn : (ℕ → Option End) → ℕ → LabState → LabState → 
 StopsIn ends most old new =
     Leads (timed old) (timed new) × Leads (timed new) (after (timed old) (steps_of ends most))
     × (new ≡ record old { recording = with_timed old.recording (timed new) })
+
+-- what `c` goes on for after a run that ended so, by what it went on for then
+abbrev pub resumes_of : Goal → End → Goal
+resumes_of g Limit = resumed_by g
+resumes_of g end = goal.Break
 
 -- the plan of a run after `done` steps of it that ended so, by what it goes on for then
 abbrev pub rest_of : Plan → Goal → End → ℕ → Option Plan

@@ -1,7 +1,8 @@
 use Rattle.std.proofs.Common.{◌∙◌, ◌++◌, ap, arith}
 use Rattle.std.specs.Prelude.{Option}
 use Rattle.rv_lab.specs.State.{LabState}
-use Rattle.rv_lab.specs.Support.Short.{told_steps}
+use Rattle.rv_lab.specs.Support.Short.{rest_of, told_steps}
+use Rattle.rv_lab.specs.declared.plan.Goal.{Goal}
 use Rattle.rv_lab.specs.declared.plan.Plan.{Plan}
 use Rattle.rv_lab.proofs.Runs.{took_piece}
 use Rattle.rv_lab.proofs.Short.{piece_err}
@@ -22,7 +23,12 @@ returns-clause-piece c =
     c.in_ok-end.ensures.ok c.in_ok-end.ensures.goal c.take_steps.ensures.others
     (omega (arith, c.min-most.ensures, c.max.ensures, ap (λ (l : LabState). l.piece) c.self.view_is))
     (omega (arith, c.saturating_sub-done.ensures, c.steps-before.ensures, c.steps.ensures))
-    (c.keep_plan-2.ensures ∙ ap (λ (q : Option Plan). record c.take_steps.new.self { plan = q }) c.rest.ensures)
+    (c.keep_plan-2.ensures
+    ∙ (ap (λ (q : Option Plan). record c.take_steps.new.self { plan = q; resumes = c.resumes_after.result }) c.rest.ensures
+    ∙ ap (λ (g : Goal). record c.take_steps.new.self {
+      plan = rest_of c.args.plan.now c.take_steps.new.goal c.in_ok-end.end c.saturating_sub-done.result;
+      resumes = g;
+    }) c.resumes_after.ensures))
 
 pub returns-clause-steps : goal.returns-clause-steps
 returns-clause-steps c =
