@@ -109,10 +109,17 @@ returns_from by_mret entry = if by_mret then is_handler entry else not (is_handl
 abbrev pub closes : (by_mret : Bool) → (now : BoardState) → Open → Bool
 closes by_mret now c = returns_from by_mret c.entry && goes_back c now.machine.pc
 
+-- how many are known at most: of a program that goes on calling and never returns, one more leaves it alone
+abbrev pub most_open : ℕ
+most_open = 65536
+
+abbrev pub kept : List Open → List Open
+kept calls = if nat_lt (length calls) most_open then calls else []
+
 -- after a step that began at an address. A return that goes elsewhere leaves no call open, since none is known then
 unfoldable pub calls_after : List Open → (address : ℕ) → (now : BoardState) → Turn → List Open
 calls_after calls address now (Enters entry) =
-    calls ++ record { entry = entry; from = address; registers = registers_of now } ∷ []
+    kept calls ++ record { entry = entry; from = address; registers = registers_of now } ∷ []
 calls_after calls address now (Returns by_mret) =
     if option_map_or (closes by_mret now) (innermost calls) false then take (length calls - 1) calls else []
 calls_after calls address now turn = calls

@@ -5,7 +5,9 @@ ghost use Rattle.rv_convention.specs.Convention.{breach_of, calls_after, followe
 ghost use Rattle.rv_convention.specs.Support.Follows.{Follows};
 ghost use Rattle.rv_convention.specs.declared.turn.Turn.TheVariants as turns;
 
-use crate::calls::{Open, close_last, goes_back, innermost, returns_from, unrestored, wanted};
+use crate::calls::{
+    Open, close_last, goes_back, has_room, innermost, returns_from, unrestored, wanted,
+};
 use crate::registers::registers_of;
 use crate::turn::{Turn, next_turn, turn_of};
 use rv_answers::{Breach, Checked, Deviation, Entry, Many, Return, push};
@@ -36,7 +38,7 @@ impl Model for Tracker {
 }
 
 /// Opens a call, which a step made that began at an address.
-#[tactic(auto, using(crate::proofs::Opened::opened))]
+#[tactic(auto, using(crate::proofs::Opened::opened, crate::proofs::Opened::opened_alone))]
 fn open(
     calls: &mut Vec<Open>,
     entry: Entry,
@@ -50,6 +52,10 @@ fn open(
         from: address,
         registers: registers_of(now),
     };
+    if has_room(calls.as_slice()) {
+        return push(calls, call);
+    }
+    calls.clear();
     push(calls, call)
 }
 

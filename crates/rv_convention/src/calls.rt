@@ -1,5 +1,5 @@
 //! Open calls, and what a return from them restores.
-ghost use Rattle.std.specs.Prelude.{◌≡◌, ◌-◌, ◌&&◌, ◌==◌, ◌<◌, length, not, slice_index, take, IfOk};
+ghost use Rattle.std.specs.Prelude.{◌≡◌, ◌-◌, ◌&&◌, ◌==◌, ◌<◌, length, nat_lt, not, slice_index, take, IfOk};
 ghost use Rattle.rv_convention.specs.Convention as spec;
 
 use rv_answers::{Entry, Many, Registers, Unrestored, push};
@@ -97,6 +97,16 @@ pub(crate) fn innermost(calls: &[Open]) -> Option<Open>
     ensures { result ≡ spec.innermost calls.now }
 {
     calls.last().copied()
+}
+
+/// How many open calls are known at most.
+const MOST_OPEN: usize = 65_536;
+
+/// Returns whether one more call may be opened without forgetting the others.
+pub(crate) fn has_room(calls: &[Open]) -> bool
+    ensures { result ≡ nat_lt (length calls.now) spec.most_open }
+{
+    calls.len() < MOST_OPEN
 }
 
 /// Closes the innermost open call.
