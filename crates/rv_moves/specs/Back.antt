@@ -3,18 +3,16 @@
 use Rattle.std.specs.Prelude.{ℕ, zero, suc, List, if◌then◌else◌, Option, Some, None, is_some}
 use Rattle.std.specs.Option.{option_map_or}
 use Rattle.std.specs.FinSet as set
-use Rattle.rv_monitor.specs.State.{Addresses, TimedState, begun, after}
-use Rattle.rv_recording.specs.Recording.{RecordingState, first_board}
+use Rattle.rv_monitor.specs.State.{Addresses, TimedState, after}
+use Rattle.rv_recording.specs.Recording.{RecordingState}
+pub use Rattle.rv_recording.specs.Recording.{first_state}
 use Rattle.rv_moves.specs.Watches.{met}
 use Rattle.rv_moves.specs.declared.back.Back.{Back}
 use Rattle.rv_moves.specs.declared.watch.Watch.{Watch}
 
--- how many steps a recording has taken, and the recording before its first one
+-- how many steps a recording has taken
 abbrev pub taken : RecordingState → ℕ
 taken r = r.session.timed.taken
-
-abbrev pub first_state : RecordingState → TimedState
-first_state r = begun (first_board r) r.session.timed.inputs
 
 -- where a run back from a state's first n steps stops: right after the last of them that meets a watch, since it stops
 -- before that is undone; or before the last of them that is at a breakpoint, if that comes later

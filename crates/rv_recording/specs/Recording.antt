@@ -19,6 +19,10 @@ last_step = 9999999999
 abbrev pub first_board : RecordingState → BoardState
 first_board r = board_at_reset r.session.program.bytes (4096 * r.pages)
 
+-- a recording before its first step
+abbrev pub first_state : RecordingState → TimedState
+first_state r = begun (first_board r) r.session.timed.inputs
+
 -- the recording with its board, inputs and steps replaced
 abbrev pub with_timed : RecordingState → TimedState → RecordingState
 with_timed r timed = record r { session = record r.session { timed = timed } }

@@ -5,12 +5,8 @@ use Rattle.rv_hart.specs.Step.{step}
 use Rattle.rv_hart.specs.declared.trap.Outcome.{Outcome}
 use Rattle.rv_hart.specs.declared.trap.Outcome.TheVariants.{Trapped}
 use Rattle.rv_board.specs.BoardState.{BoardState}
-use Rattle.rv_monitor.specs.State.{TimedState, begun, after, with_due}
-use Rattle.rv_recording.specs.Recording.{RecordingState, first_board}
-
--- a recording before its first step
-abbrev pub first_state : RecordingState → TimedState
-first_state r = begun (first_board r) r.session.timed.inputs
+use Rattle.rv_monitor.specs.State.{TimedState, after, with_due}
+pub use Rattle.rv_recording.specs.Recording.{first_state}
 
 -- the board after n steps of a state, and what the step after them does
 abbrev pub board_at : TimedState → ℕ → BoardState
