@@ -26,37 +26,46 @@ abbrev pub in_format : Encoding → Fields → Formatted
 in_format (R opcode funct3 funct7 kind) f = record {
   parts = (funct7, 7) ∷ (f.rs2, 5) ∷ (f.rs1, 5) ∷ (funct3, 3) ∷ (f.rd, 5) ∷ (opcode, 7) ∷ [];
   HasImmediate = Unit {0};
-  kind = kind f.rd f.rs1 f.rs2 }
+  kind = kind f.rd f.rs1 f.rs2;
+}
 in_format (Amount opcode funct3 funct7 kind) f = record {
   parts = (funct7, 7) ∷ bits f.imm 4 0 ∷ (f.rs1, 5) ∷ (funct3, 3) ∷ (f.rd, 5) ∷ (opcode, 7) ∷ [];
   HasImmediate = to_word f.imm < 2 ^ 5;
-  kind = kind f.rd f.rs1 (to_word f.imm) }
+  kind = kind f.rd f.rs1 (to_word f.imm);
+}
 in_format (I opcode funct3 kind) f = record {
   parts = bits f.imm 11 0 ∷ (f.rs1, 5) ∷ (funct3, 3) ∷ (f.rd, 5) ∷ (opcode, 7) ∷ [];
   HasImmediate = IsWithin (2 ^ 11) f.imm;
-  kind = kind f.rd f.rs1 f.imm }
+  kind = kind f.rd f.rs1 f.imm;
+}
 in_format (Number opcode funct3 kind) f = record {
   parts = bits f.imm 11 0 ∷ (f.rs1, 5) ∷ (funct3, 3) ∷ (f.rd, 5) ∷ (opcode, 7) ∷ [];
   HasImmediate = to_word f.imm < 2 ^ 12;
-  kind = kind f.rd f.rs1 (to_word f.imm) }
+  kind = kind f.rd f.rs1 (to_word f.imm);
+}
 in_format (S opcode funct3 kind) f = record {
   parts = bits f.imm 11 5 ∷ (f.rs2, 5) ∷ (f.rs1, 5) ∷ (funct3, 3) ∷ bits f.imm 4 0 ∷ (opcode, 7) ∷ [];
   HasImmediate = IsWithin (2 ^ 11) f.imm;
-  kind = kind f.rs2 f.rs1 f.imm }
+  kind = kind f.rs2 f.rs1 f.imm;
+}
 in_format (B opcode funct3 kind) f = record {
   parts = bits f.imm 12 12 ∷ bits f.imm 10 5 ∷ (f.rs2, 5) ∷ (f.rs1, 5) ∷ (funct3, 3)
       ∷ bits f.imm 4 1 ∷ bits f.imm 11 11 ∷ (opcode, 7) ∷ [];
   HasImmediate = IsDistance (2 ^ 12) f.imm;
-  kind = kind f.rs1 f.rs2 f.imm }
+  kind = kind f.rs1 f.rs2 f.imm;
+}
 in_format (U opcode kind) f = record {
   parts = bits f.imm 19 0 ∷ (f.rd, 5) ∷ (opcode, 7) ∷ [];
   HasImmediate = to_word f.imm < 2 ^ 20;
-  kind = kind f.rd (to_word f.imm) }
+  kind = kind f.rd (to_word f.imm);
+}
 in_format (J opcode kind) f = record {
   parts = bits f.imm 20 20 ∷ bits f.imm 10 1 ∷ bits f.imm 11 11 ∷ bits f.imm 19 12 ∷ (f.rd, 5) ∷ (opcode, 7) ∷ [];
   HasImmediate = IsDistance (2 ^ 20) f.imm;
-  kind = kind f.rd f.imm }
+  kind = kind f.rd f.imm;
+}
 in_format (Whole word kind) f = record {
   parts = (word, 32) ∷ [];
   HasImmediate = Unit {0};
-  kind = kind }
+  kind = kind;
+}
