@@ -45,12 +45,7 @@ fn same_csrs<M: ByteMemory, C: Decoded, N: ByteMemory, D: Decoded>(
     one: &Board<M, C>,
     other: &Board<N, D>,
 ) -> bool {
-    for addr in 0..CSR_ADDRESSES {
-        if one.csr(addr) != other.csr(addr) {
-            return false;
-        }
-    }
-    true
+    (0..CSR_ADDRESSES).all(|addr| one.csr(addr) == other.csr(addr))
 }
 
 fn same_memory<M: ByteMemory, C: Decoded, N: ByteMemory, D: Decoded>(
