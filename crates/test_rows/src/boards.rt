@@ -1,6 +1,7 @@
 //! The boards of a row: one over flat memory without a cache, and three over pages with caches of several
 //! sizes.
 use crate::calls::{calls_agree, more_calls_agree};
+use crate::checked::{Checked, check};
 use crate::devices::append_devices;
 use crate::row::{Row, argument, copy_line};
 use rv_asm::{Program, assemble};
@@ -18,14 +19,14 @@ pub const NO_MEMORY: &str = "out of memory\n";
 const NO_BOARD: &str = "the board doesn't boot\n";
 
 /// Returns the program of the row's source.
-pub fn program(alloc: Global, row: Row<'_>) -> Result<Program, &'static str> {
+pub fn program(alloc: Global, row: Row<'_>) -> Checked<Program> {
     let source = row.lines_of(alloc, b' ').ok().ok_or(NO_MEMORY)?;
     let program = assemble(alloc, source.as_slice());
     program.ok().ok_or("the source is refused\n")
 }
 
 /// Reads a timed list.
-pub fn timeline(alloc: Global, timed: &[u8]) -> Result<Timeline, &'static str> {
+pub fn timeline(alloc: Global, timed: &[u8]) -> Checked<Timeline> {
     let timeline = Timeline::read(alloc, timed);
     timeline.ok().ok_or("the timed list is refused\n")
 }
@@ -38,21 +39,14 @@ pub fn limit(row: Row<'_>) -> u64 {
 // A function that owns a board drops it at each `?`, which costs proof: so each of these has few of them.
 
 /// Returns a board over a page of flat memory, without a cache.
-pub fn flat_board(
-    alloc: Global,
-    program: &Program,
-) -> Result<Board<FlatMemory, NoCache>, &'static str> {
+pub fn flat_board(alloc: Global, program: &Program) -> Checked<Board<FlatMemory, NoCache>> {
     let memory = FlatMemory::new(alloc, 1).ok().ok_or(NO_MEMORY)?;
     let board = Board::with_parts(alloc, program, memory, NoCache);
     board.ok().ok_or(NO_BOARD)
 }
 
 /// Returns a board over a page of paged memory, with a cache of `slots` slots.
-pub fn paged_board(
-    alloc: Global,
-    program: &Program,
-    slots: u32,
-) -> Result<BootedBoard, &'static str> {
+pub fn paged_board(alloc: Global, program: &Program, slots: u32) -> Checked<BootedBoard> {
     let board = BootedBoard::boot(alloc, program, 1, slots);
     board.ok().ok_or(NO_BOARD)
 }
@@ -62,7 +56,7 @@ fn flat_session(
     alloc: Global,
     row: Row<'_>,
     timed: &[u8],
-) -> Result<Session<FlatMemory, NoCache>, &'static str> {
+) -> Checked<Session<FlatMemory, NoCache>> {
     let program = program(alloc, row)?;
     let timeline = timeline(alloc, timed)?;
     let board = flat_board(alloc, &program)?;
@@ -75,7 +69,7 @@ pub fn paged_session(
     row: Row<'_>,
     timed: &[u8],
     slots: u32,
-) -> Result<Session<PagedRam, DecodeCache>, &'static str> {
+) -> Checked<Session<PagedRam, DecodeCache>> {
     let program = program(alloc, row)?;
     let timeline = timeline(alloc, timed)?;
     let board = paged_board(alloc, &program, slots)?;
@@ -128,15 +122,11 @@ fn agrees<M: ByteMemory, C: Decoded, N: ByteMemory, D: Decoded>(
     session: &mut Session<M, C>,
     text: &[u8],
     board: &Board<N, D>,
-) -> Result<(), &'static str> {
+) -> Checked<()> {
     let other = answers(alloc, session, row).ok().ok_or(NO_MEMORY)?;
-    if other.as_slice() != text {
-        return Err("the boards answer differently\n");
-    }
-    if !same_everywhere(session.board(), board) {
-        return Err("the boards are different at the end\n");
-    }
-    Ok(())
+    check(other.as_slice() == text, "the boards answer differently\n")?;
+    let same = same_everywhere(session.board(), board);
+    check(same, "the boards are different at the end\n")
 }
 
 /// Checks the same of a session over pages, with a cache of `slots` slots.
@@ -147,7 +137,7 @@ fn pages_agree(
     slots: u32,
     text: &[u8],
     board: &Board<FlatMemory, NoCache>,
-) -> Result<(), &'static str> {
+) -> Checked<()> {
     let mut session = paged_session(alloc, row, timed, slots)?;
     agrees(alloc, row, &mut session, text, board)
 }
@@ -158,7 +148,7 @@ fn common_answers(
     row: Row<'_>,
     timed: &[u8],
     session: &mut Session<FlatMemory, NoCache>,
-) -> Result<Vec<u8>, &'static str> {
+) -> Checked<Vec<u8>> {
     let text = answers(alloc, session, row).ok().ok_or(NO_MEMORY)?;
     for slots in [64, 1024, 4096] {
         pages_agree(alloc, row, timed, slots, text.as_slice(), session.board())?;
@@ -167,7 +157,7 @@ fn common_answers(
 }
 
 /// Returns the row with the answers of its boards, or why there are none.
-fn answered(alloc: Global, row: Row<'_>) -> Result<Vec<u8>, &'static str> {
+fn answered(alloc: Global, row: Row<'_>) -> Checked<Vec<u8>> {
     calls_agree(alloc, row)?;
     if row.has(b'^') {
         let count = u32::try_from(row.number_of(b'^')).unwrap_or(0);

@@ -4,6 +4,7 @@
 //! The first steps of each row are taken so, and those of a row that asks for it also with random inputs
 //! and with breakpoints.
 use crate::boards::{NO_MEMORY, flat_board, limit, paged_board, paged_session, program, timeline};
+use crate::checked::{Checked, check};
 use crate::row::Row;
 use rv_base::{NoMemory, RAM_BASE};
 use rv_board::Event;
@@ -90,37 +91,23 @@ fn events_of(alloc: Global, inputs: &[TimedInput]) -> Result<Vec<Event>, NoMemor
 }
 
 /// Checks that a session over pages is as a board that takes each step alone.
-fn session_agrees(
-    alloc: Global,
-    row: Row<'_>,
-    timed: &[u8],
-    calls: Calls,
-) -> Result<(), &'static str> {
+fn session_agrees(alloc: Global, row: Row<'_>, timed: &[u8], calls: Calls) -> Checked<()> {
     let mut session = paged_session(alloc, row, timed, 64)?;
     let timeline = timeline(alloc, timed)?;
     let program = program(alloc, row)?;
     let mut alone = flat_board(alloc, &program)?;
-    if !same_in_calls(&mut session, &mut alone, timeline.inputs(), calls) {
-        return Err("the boards are different after calls of many steps\n");
-    }
-    Ok(())
+    let same = same_in_calls(&mut session, &mut alone, timeline.inputs(), calls);
+    check(same, "the boards are different after calls of many steps\n")
 }
 
 /// Checks that a board over pages, which runs the events of these inputs in parts, is as one that takes each
 /// alone.
-fn board_agrees(
-    alloc: Global,
-    row: Row<'_>,
-    events: &[Event],
-    size: usize,
-) -> Result<(), &'static str> {
+fn board_agrees(alloc: Global, row: Row<'_>, events: &[Event], size: usize) -> Checked<()> {
     let program = program(alloc, row)?;
     let mut board = paged_board(alloc, &program, 64)?;
     let mut alone = flat_board(alloc, &program)?;
-    if !same_in_runs(&mut board, &mut alone, events, size) {
-        return Err("the boards are different after runs of many events\n");
-    }
-    Ok(())
+    let same = same_in_runs(&mut board, &mut alone, events, size);
+    check(same, "the boards are different after runs of many events\n")
 }
 
 /// Checks sessions with these inputs in calls of each size, up to each of these ends.
@@ -130,7 +117,7 @@ fn sessions_agree(
     timed: &[u8],
     breakpoint: Option<u32>,
     ends: &[u64],
-) -> Result<(), &'static str> {
+) -> Checked<()> {
     for size in SIZES {
         for &end in ends {
             let steps = end.min(limit(row));
@@ -146,7 +133,7 @@ fn sessions_agree(
 }
 
 /// Checks boards with these inputs in runs of each size.
-fn boards_agree(alloc: Global, row: Row<'_>, timed: &[u8]) -> Result<(), &'static str> {
+fn boards_agree(alloc: Global, row: Row<'_>, timed: &[u8]) -> Checked<()> {
     let timeline = timeline(alloc, timed)?;
     let events = events_of(alloc, timeline.inputs()).ok().ok_or(NO_MEMORY)?;
     for size in SIZES {
@@ -156,14 +143,14 @@ fn boards_agree(alloc: Global, row: Row<'_>, timed: &[u8]) -> Result<(), &'stati
 }
 
 /// Checks the first steps of the row with its own inputs.
-pub fn calls_agree(alloc: Global, row: Row<'_>) -> Result<(), &'static str> {
+pub fn calls_agree(alloc: Global, row: Row<'_>) -> Checked<()> {
     let timed = timed_inputs(alloc, row, 0).ok().ok_or(NO_MEMORY)?;
     sessions_agree(alloc, row, timed.as_slice(), None, &[STEPS])
 }
 
 /// Checks the first steps of the row with its own inputs and with random ones, in calls that end at an
 /// earlier step too and in runs of events, and with a breakpoint at each of the first `count` words.
-pub fn more_calls_agree(alloc: Global, row: Row<'_>, count: u32) -> Result<(), &'static str> {
+pub fn more_calls_agree(alloc: Global, row: Row<'_>, count: u32) -> Checked<()> {
     for seed in 0..3u32 {
         let timed = timed_inputs(alloc, row, seed).ok().ok_or(NO_MEMORY)?;
         sessions_agree(alloc, row, timed.as_slice(), None, &[97, STEPS])?;

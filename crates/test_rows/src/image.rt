@@ -14,27 +14,20 @@ fn append_group(group: &[u8], text: &mut Vec<u8>) -> Result<(), NoMemory> {
     Ok(())
 }
 
-/// Appends a line of bytes with their address, `size` of them as one number.
-fn append_line(
-    address: u32,
-    bytes: &[u8],
-    size: usize,
-    text: &mut Vec<u8>,
-) -> Result<(), NoMemory> {
-    text.extend_from_slice(&word_digits(address))?;
+/// Appends a line of bytes with the address that they are at, `size` of them as one number.
+fn append_line(at: u32, bytes: &[u8], size: usize, text: &mut Vec<u8>) -> Result<(), NoMemory> {
+    text.extend_from_slice(&word_digits(at))?;
     text.extend_from_slice(b":")?;
     for group in bytes.chunks(size.max(1)) {
         append_group(group, text)?;
     }
-    text.extend_from_slice(b"\n")?;
-    Ok(())
+    Ok(text.extend_from_slice(b"\n")?)
 }
 
 /// Appends the size of an image.
 fn append_size(alloc: Global, size: usize, text: &mut Vec<u8>) -> Result<(), NoMemory> {
     let line = format!(in alloc; "{size} bytes\n")?;
-    text.extend_from_slice(line.as_bytes())?;
-    Ok(())
+    Ok(text.extend_from_slice(line.as_bytes())?)
 }
 
 /// Appends the size of an image, and then all its bytes, `size` of them as one number; none where `size` is
@@ -59,14 +52,11 @@ fn append_image(
 
 /// Appends the value of a name, or that there is no such name.
 fn append_value(alloc: Global, value: Option<i64>, text: &mut Vec<u8>) -> Result<(), NoMemory> {
-    match value {
-        Some(value) => {
-            let shown = format!(in alloc; "value {value}\n")?;
-            text.extend_from_slice(shown.as_bytes())?;
-        }
-        None => text.extend_from_slice(b"no such name\n")?,
-    }
-    Ok(())
+    let Some(value) = value else {
+        return Ok(text.extend_from_slice(b"no such name\n")?);
+    };
+    let shown = format!(in alloc; "value {value}\n")?;
+    Ok(text.extend_from_slice(shown.as_bytes())?)
 }
 
 /// Appends a line of a row with the answer to it, or nothing where the line is an answer itself.

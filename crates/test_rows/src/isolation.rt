@@ -6,7 +6,7 @@ mod exchange;
 mod runs;
 mod secrets;
 
-use crate::isolation::boards::Checked;
+use crate::checked::Checked;
 use std::alloc::Global;
 use std::io::Write;
 

@@ -32,6 +32,7 @@
 mod boards;
 mod calls;
 mod check;
+mod checked;
 mod devices;
 mod hostile;
 mod image;

@@ -41,19 +41,6 @@ fn append_quoted(report: &[u8], text: &mut Vec<u8>) -> Result<(), NoMemory> {
     Ok(())
 }
 
-/// Appends these diagnoses of a source.
-fn append_diagnoses(
-    alloc: Global,
-    source: &[u8],
-    found: &[Diagnosis],
-    text: &mut Vec<u8>,
-) -> Result<(), NoMemory> {
-    for one in found {
-        append_diagnosis(alloc, source, one, text)?;
-    }
-    Ok(())
-}
-
 /// Appends the report of these diagnoses of a source.
 fn append_quoted_report(
     alloc: Global,
@@ -78,10 +65,12 @@ fn answer_line(
         return Ok(());
     }
     if argument(line) == b"report".as_slice() {
-        append_quoted_report(alloc, source, found, text)
-    } else {
-        append_diagnoses(alloc, source, found, text)
+        return append_quoted_report(alloc, source, found, text);
     }
+    for one in found {
+        append_diagnosis(alloc, source, one, text)?;
+    }
+    Ok(())
 }
 
 /// Appends the row with what is said of its source.

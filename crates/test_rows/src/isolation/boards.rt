@@ -1,12 +1,10 @@
 //! Boards with user code, and checks of them.
+use crate::checked::Checked;
 use rv_asm::assemble;
 use rv_board::{BootedBoard, Event, TrapRecord};
 use rv_plic::Source;
 use rv_pmp::Mode;
 use std::alloc::Global;
-
-/// A value, or what was wrong.
-pub type Checked<T> = Result<T, &'static str>;
 
 /// Boots a board of one page with the image of a source.
 pub fn boot(alloc: Global, source: &[u8]) -> Checked<BootedBoard> {
@@ -41,11 +39,6 @@ pub fn boot_to_user_code(alloc: Global, source: &[u8]) -> Checked<BootedBoard> {
 pub fn line_event(number: u8, high: bool) -> Checked<Event> {
     let source = Source::new(number).ok_or("there is no such source")?;
     Ok(Event::Line { source, high })
-}
-
-/// Checks that something holds; `what` names it where it doesn't.
-pub fn check(holds: bool, what: &'static str) -> Checked<()> {
-    if holds { Ok(()) } else { Err(what) }
 }
 
 /// Returns the last trap.

@@ -1,5 +1,6 @@
 //! Outside events in both orders: some may be exchanged, and levels of one source may not.
-use crate::isolation::boards::{Checked, boot, check, line_event, run};
+use crate::checked::{Checked, check};
+use crate::isolation::boards::{boot, line_event, run};
 use rv_board::{BootedBoard, Event};
 use std::alloc::Global;
 use test_compare::same_everywhere;

@@ -1,5 +1,6 @@
 //! Runs of user code.
-use crate::isolation::boards::{Checked, boot, boot_to_user_code, check, last_trap_is, run_user};
+use crate::checked::{Checked, check};
+use crate::isolation::boards::{boot, boot_to_user_code, last_trap_is, run_user};
 use rv_board::{BootedBoard, Event};
 use rv_pmp::Mode;
 use std::alloc::Global;

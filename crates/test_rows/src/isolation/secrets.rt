@@ -1,7 +1,6 @@
 //! User code on two boards that differ in what it may not see.
-use crate::isolation::boards::{
-    Checked, boot_to_user_code, check, last_cause_is, last_trap_is, run_user,
-};
+use crate::checked::{Checked, check};
+use crate::isolation::boards::{boot_to_user_code, last_cause_is, last_trap_is, run_user};
 use rv_board::{BootedBoard, Event};
 use std::alloc::Global;
 use test_compare::same_but_for_memory;
