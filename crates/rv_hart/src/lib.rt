@@ -3,7 +3,9 @@
 #![tactic(auto)]
 
 mod access;
+mod course;
 mod hart;
+mod kept;
 mod laws;
 mod marks;
 mod plain;
