@@ -10,7 +10,7 @@ use Rattle.rv_board.specs.BoardState.{BoardState}
 use Rattle.rv_board.specs.declared.event.BootFault.{BootFault}
 use Rattle.rv_board.specs.declared.event.BootFault.TheVariants.{BadPages, BadSlots, ImageTooLarge}
 
--- the fault for which an image of so many bytes can't be booted with these pages of memory and slots: the first that
+-- the fault for which an image of that size can't be booted with these pages of memory and slots: the first that
 -- applies. A page has 4096 bytes
 unfoldable pub boot_fault : ℕ → ℕ → ℕ → Option BootFault
 boot_fault image_size pages slots =
