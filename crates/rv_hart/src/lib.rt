@@ -3,9 +3,11 @@
 #![tactic(auto)]
 
 mod access;
+mod burst;
 mod course;
 mod hart;
 mod kept;
+mod known;
 mod laws;
 mod marks;
 mod plain;

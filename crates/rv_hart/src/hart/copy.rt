@@ -1,8 +1,8 @@
 //! Copies of a hart.
 ghost use Rattle.std.specs.Prelude.{◌≡◌, ℕ, None, IfOk};
-ghost use Rattle.rv_hart.specs.Support.Coherent.{Coherent};
 
 use super::Hart;
+use crate::known::Known;
 use rv_base::NoMemory;
 use rv_cache::Decoded;
 use rv_ram::PagedRam;
@@ -15,7 +15,6 @@ impl<C: Decoded> Hart<PagedRam, C> {
     /// # Errors
     ///
     /// `NoMemory` if memory runs out.
-    #[tactic(auto, unfolding(crate::specs::Support::Coherent::Coherent))]
     pub fn try_clone<D: Decoded>(
         &self,
         alloc: Global,
@@ -31,7 +30,7 @@ impl<C: Decoded> Hart<PagedRam, C> {
             mode: self.mode,
             csrs: self.csrs.copy(),
             bus: self.bus.try_clone(alloc)?,
-            cache,
+            known: Known::new(cache),
             shortcuts: self.shortcuts,
         })
     }
