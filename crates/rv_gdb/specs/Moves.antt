@@ -1,7 +1,7 @@
 -- To audit: public contracts cite this.
 -- The moves of a target, and what gdb is told of their ends (Debugging with GDB, appendix "GDB Remote Serial Protocol",
 -- "Stop Reply Packets"; the numbers of the signals are gdb's).
-use Rattle.std.specs.Prelude.{ℕ, ◌-◌, ◌==◌, ◌||◌, ◌&&◌, ◌++◌, Bool, true, false, List, if◌then◌else◌, is_none, is_some, min, Option, Some, None}
+use Rattle.std.specs.Prelude.{◌≡◌, ℕ, ◌-◌, ◌==◌, ◌||◌, ◌&&◌, ◌++◌, Bool, true, false, List, if◌then◌else◌, is_none, is_some, min, MatchOption, Option, Some, None}
 use Rattle.std.specs.FinSet as set
 use Rattle.std.specs.Option.{option_map_or}
 use Rattle.rv_board.specs.BoardState.{BoardState}
@@ -12,7 +12,7 @@ use Rattle.rv_monitor.specs.State.{SessionState, with_due}
 use Rattle.rv_monitor.specs.Stops.{may_step}
 use Rattle.rv_recording.specs.Recording.{gone_back}
 use Rattle.rv_recording.specs.declared.until.End.{End}
-use Rattle.rv_recording.specs.declared.until.End.TheVariants.{Limit}
+use Rattle.rv_recording.specs.declared.until.End.TheVariants.{Limit, Stuck}
 use Rattle.rv_lab.specs.State.{board}
 use Rattle.rv_moves.specs.Back.{first_state, last_stop, left_by}
 use Rattle.rv_moves.specs.Runs.{open_for, reached, run_ends}
@@ -23,8 +23,9 @@ use Rattle.rv_moves.specs.declared.watch.Watch.{Watch}
 use Rattle.rv_packets.specs.Items.{framed}
 use Rattle.rv_replies.specs.Texts.{state_text}
 use Rattle.rv_replies.specs.declared.stops.Reason.{Reason}
+use Rattle.rv_replies.specs.declared.stops.Reason.TheVariants as reason
 use Rattle.rv_replies.specs.declared.stops.Reason.TheVariants.{Plain, Breakpoint, Stored, Loaded, Accessed, Begin}
-use Rattle.rv_gdb.specs.Target.{TargetState, console_text, moved, with_console, with_recording}
+use Rattle.rv_gdb.specs.Target.{TargetState, console_text, moved, note_packet, with_console, with_recording}
 
 -- ---- stops
 
@@ -49,6 +50,13 @@ state_packet signal reason t =
 -- that, after what the console got
 abbrev pub stop_packets : ℕ → Reason → TargetState → List ℕ
 stop_packets signal reason t = console_text t ++ state_packet signal reason t
+
+-- a packet with some text for the console, and one with whatever it has, after some bytes
+unfoldable pub Notes : (before after : List ℕ) → Type 0
+Notes before after = (text : List ℕ) × (after ≡ before ++ note_packet text)
+
+unfoldable pub IsPacket : (before after : List ℕ) → Type 0
+IsPacket before after = (contents : List ℕ) × (after ≡ before ++ framed contents)
 
 -- ---- moves
 
@@ -77,6 +85,13 @@ lost_by t =
 -- where a move ends: a trap without a handler is undone, so that the board stands at the instruction that trapped
 abbrev pub landed : TargetState → TargetState
 landed t = if is_some (lost_by t) then went_back t (taken t - 1) else with_console t
+
+-- what is told of that: the stop, and of a trap without a handler why it came and the signal of its cause
+unfoldable pub Lands : Reason → TargetState → (before after : List ℕ) → Type 0
+Lands reason t before after = MatchOption (lost_by t)
+    (after ≡ before ++ stop_packets 5 reason t)
+    (λ cause. (noted : List ℕ) × Notes (before ++ console_text t) noted
+    × (after ≡ noted ++ state_packet (signal_of cause) Plain (went_back t (taken t - 1))))
 
 -- the target whose recording has another session
 abbrev pub with_session : TargetState → SessionState → TargetState
@@ -123,6 +138,19 @@ run_reason t =
     if is_at_break t then Breakpoint
     else if reached t.aim t.calls (board t.lab) then Plain
     else met_reason (met_next t)
+
+-- why a part of a run ends, and what is told then
+abbrev pub end_reason : End → TargetState → Reason
+end_reason Stuck t = reason.End
+end_reason end t = run_reason t
+
+abbrev pub EndSays : End → TargetState → (before after : List ℕ) → Type 0
+EndSays Limit t before after = after ≡ before ++ console_text t
+EndSays end t before after = Lands (end_reason end t) t before after
+
+-- why a step back ends that no watch keeps from being taken
+abbrev pub begin_reason : TargetState → Reason
+begin_reason t = if taken t == 0 then Begin else Plain
 
 -- why a run back ends
 abbrev pub back_reason : Option Back → Reason

@@ -31,11 +31,15 @@ abbrev pub begun : LabState → FilesState → TargetState
 begun l files =
     record { lab = with_session l (with_break l.recording.session 0); files = files; told = 0; watches = []; aim = Stop; calls = 0 }
 
+-- a packet with a text for the console
+abbrev pub note_packet : List ℕ → List ℕ
+note_packet text = framed (0x4f ∷ digits text)
+
 -- the packet with what the console got since it was told, if it got anything
 abbrev pub console_text : TargetState → List ℕ
 console_text t =
     let untold = drop t.told (board t.lab).machine.bus.serial.sent in
-    if length untold == 0 then [] else framed (0x4f ∷ digits untold)
+    if length untold == 0 then [] else note_packet untold
 
 -- the target whose console was told
 abbrev pub with_console : TargetState → TargetState

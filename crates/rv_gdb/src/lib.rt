@@ -2,13 +2,17 @@
 #![tactic(auto)]
 
 mod descriptions;
+mod laws;
 mod monitor;
 mod moves;
 mod served;
 mod server;
+mod talk;
 mod target;
 
 pub use descriptions::{features, memory_map};
+pub use laws::{output_grows, pieces_join};
 pub use served::Then;
-pub use server::{Next, Server};
+pub use server::Server;
+pub use talk::Next;
 pub use target::Target;

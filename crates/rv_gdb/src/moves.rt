@@ -1,11 +1,13 @@
 //! Moves of the board, and their stops.
-ghost use Rattle.std.specs.Prelude.{◌≡◌, ◌-◌, ◌++◌, IfOk, OnOk, false, if◌then◌else◌, is_none, is_some};
+ghost use Rattle.std.specs.Prelude.{◌≡◌, ◌-◌, ◌++◌, IfOk, MatchOption, OnOk, false, if◌then◌else◌, is_some};
 ghost use Rattle.rv_monitor.specs.Stops.{steps_between};
 ghost use Rattle.rv_recording.specs.Until.{HasRun};
 ghost use Rattle.rv_moves.specs.declared.forward.Aim.TheVariants.{Outside};
 ghost use Rattle.rv_lab.specs.Commands.{stepped};
-ghost use Rattle.rv_gdb.specs.Moves.{after_part, back_reason, calls_of, ends_of, goes_on, is_at_break, is_lost, landed, lost_by, met_before, met_next, met_reason, ran_back, run_reason, signal_of, state_packet, step_reason, stop_packets, taken, watch_reason, went_back, with_aim, with_session};
+ghost use Rattle.rv_gdb.specs.Moves.{EndSays, Lands, Notes, after_part, back_reason, begin_reason, calls_of, ends_of, goes_on, is_at_break, is_lost, landed, last_stop_of, lost_by, met_before, met_next, met_reason, ran_back, run_reason, signal_of, state_packet, step_reason, stop_packets, taken, watch_reason, went_back, with_aim, with_session};
+ghost use Rattle.rv_gdb.specs.Serves.{StepSays};
 ghost use Rattle.rv_gdb.specs.Target.{with_console, with_recording};
+ghost use Rattle.rv_replies.specs.declared.stops.Reason.TheVariants.{Plain};
 
 use crate::target::{NO_HANDLER, Target};
 use rv_base::NoMemory;
@@ -21,7 +23,7 @@ const INTERRUPTED: u8 = 2;
 
 const ILLEGAL: u8 = 4;
 
-const TRAPPED: u8 = 5;
+pub(crate) const TRAPPED: u8 = 5;
 
 const MISALIGNED: u8 = 10;
 
@@ -88,7 +90,12 @@ fn is_lost(board: &BootedBoard) -> bool
 
 impl Target {
     /// Appends the stop of the board by a signal, or its end.
-    fn append_state(&self, signal: u8, reason: Reason, out: &mut Vec<u8>) -> Result<(), NoMemory>
+    pub(crate) fn append_state(
+        &self,
+        signal: u8,
+        reason: Reason,
+        out: &mut Vec<u8>,
+    ) -> Result<(), NoMemory>
         ensures { OnOk result (out.new.items ≡ out.old.items ++ state_packet signal reason self.now) }
     {
         let mut contents = Vec::new(self.alloc);
@@ -106,11 +113,12 @@ impl Target {
     }
 
     /// Appends a packet with why the last trap came.
-    fn append_why(&self, out: &mut Vec<u8>) -> Result<(), NoMemory> {
-        let mut contents = Vec::new(self.alloc);
-        contents.extend_from_slice(b"O")?;
-        self.append_explanation(&mut contents)?;
-        append_packet(self.alloc, &contents, out)
+    #[tactic(auto, using(crate::proofs::Told::noted))]
+    fn append_why(&self, out: &mut Vec<u8>) -> Result<(), NoMemory>
+        ensures { OnOk result (Notes out.old.items out.new.items) }
+    {
+        let why = self.explanation()?;
+        self.append_note(why.bytes(), out)
     }
 
     /// Goes back to after the first `steps` steps.
@@ -140,8 +148,10 @@ impl Target {
 
     /// Tells where a move ended. A trap without a handler is told as a signal at the instruction that trapped, to which
     /// the board goes back.
+    #[tactic(auto, using(crate::proofs::Told::lost, crate::proofs::Told::stays))]
     fn land(&mut self, reason: Reason, out: &mut Vec<u8>) -> Result<(), NoMemory>
-        ensures { OnOk result (self.new ≡ landed self.old) }
+        ensures state { OnOk result (self.new ≡ landed self.old) }
+        ensures says { OnOk result (Lands reason self.old out.old.items out.new.items) }
     {
         let Some(cause) = self.lost_by()? else {
             return self.append_halt(TRAPPED, reason, out);
@@ -154,7 +164,7 @@ impl Target {
     }
 
     /// Returns the watch that the next instruction meets.
-    fn met_next(&self) -> Option<Watch>
+    pub(crate) fn met_next(&self) -> Option<Watch>
         ensures { result ≡ met_next self.now }
     {
         self.watches.met(self.board())
@@ -207,7 +217,9 @@ impl Target {
 
     /// Takes a step, and tells where it ends.
     fn take_step(&mut self, out: &mut Vec<u8>) -> Result<(), NoMemory>
-        ensures { OnOk result (self.new ≡ landed (with_recording self.old (stepped self.old.lab.recording))) }
+        ensures state { OnOk result (self.new ≡ landed (with_recording self.old (stepped self.old.lab.recording))) }
+        ensures says { OnOk result (let new = with_recording self.old (stepped self.old.lab.recording) in
+            Lands (step_reason new) new out.old.items out.new.items) }
     {
         let _outcome = self.lab.recording_mut().take_step()?;
         let reason = self.step_reason();
@@ -216,8 +228,9 @@ impl Target {
 
     /// Takes a step, unless that would meet a watch, and tells where it ends.
     pub(crate) fn step(&mut self, out: &mut Vec<u8>) -> Result<(), NoMemory>
-        ensures { OnOk result (self.new ≡ (if is_some (met_next self.old) then with_console self.old
+        ensures state { OnOk result (self.new ≡ (if is_some (met_next self.old) then with_console self.old
             else landed (with_recording self.old (stepped self.old.lab.recording)))) }
+        ensures says { OnOk result (StepSays self.old out.old.items out.new.items) }
     {
         match self.met_next() {
             Some(watch) => self.append_halt(TRAPPED, watch_reason(watch), out),
@@ -225,24 +238,25 @@ impl Target {
         }
     }
 
-    /// Begins a run until the pc leaves some addresses, unless its first step would meet a watch, which is told. Returns
-    /// whether the run goes on.
+    /// Begins a run until the pc leaves some addresses, unless its first step would meet a watch, which is told.
     pub(crate) fn begin_within(
         &mut self,
         from: u32,
         to: u32,
         out: &mut Vec<u8>,
-    ) -> Result<bool, NoMemory>
+    ) -> Result<(), NoMemory>
         ensures state { OnOk result (self.new ≡ (if is_some (met_next self.old) then with_console self.old
             else with_aim (Outside from to) self.old)) }
-        ensures more { IfOk result (λ more. more ≡ is_none (met_next self.old)) }
+        ensures says { OnOk result (MatchOption (met_next self.old) (out.new.items ≡ out.old.items)
+            (λ w. out.new.items ≡ out.old.items ++ stop_packets 5 (watch_reason w) self.old)) }
     {
-        if let Some(watch) = self.met_next() {
-            self.append_halt(TRAPPED, watch_reason(watch), out)?;
-            return Ok(false);
+        match self.met_next() {
+            Some(watch) => self.append_halt(TRAPPED, watch_reason(watch), out),
+            None => {
+                self.begin(Aim::Outside(from, to));
+                Ok(())
+            }
         }
-        self.begin(Aim::Outside(from, to));
-        Ok(true)
     }
 
     /// Begins a run.
@@ -253,20 +267,30 @@ impl Target {
         self.calls = 0;
     }
 
+    /// Returns why a step back ends that is taken.
+    fn begin_reason(&self) -> Reason
+        ensures { result ≡ begin_reason self.now }
+    {
+        if self.lab.steps() == 0 {
+            Reason::Begin
+        } else {
+            Reason::Plain
+        }
+    }
+
     /// Takes a step back, unless the last step met a watch, and tells where it ends.
     pub(crate) fn step_back(&mut self, out: &mut Vec<u8>) -> Result<(), NoMemory>
-        ensures { OnOk result (self.new ≡ (if is_some (met_before self.old) then self.old
+        ensures state { OnOk result (self.new ≡ (if is_some (met_before self.old) then self.old
             else went_back self.old (taken self.old - 1))) }
+        ensures says { OnOk result (MatchOption (met_before self.old)
+            (out.new.items ≡ out.old.items ++ state_packet 5 (begin_reason self.old) self.new)
+            (λ w. out.new.items ≡ out.old.items ++ state_packet 5 (watch_reason w) self.old)) }
     {
         if let Some(watch) = self.met_before()? {
             return self.append_state(TRAPPED, watch_reason(watch), out);
         }
+        let reason = self.begin_reason();
         let steps = self.lab.steps();
-        let reason = if steps == 0 {
-            Reason::Begin
-        } else {
-            Reason::Plain
-        };
         self.go_back(steps.saturating_sub(1))?;
         self.append_state(TRAPPED, reason, out)
     }
@@ -298,6 +322,7 @@ impl Target {
     /// `NoMemory` if memory runs out.
     pub fn end_part(&mut self, end: End, out: &mut Vec<u8>) -> Result<bool, NoMemory>
         ensures state { OnOk result (self.new ≡ after_part end self.old) }
+        ensures says { OnOk result (EndSays end self.old out.old.items out.new.items) }
         ensures more { IfOk result (λ more. more ≡ goes_on end) }
     {
         match end {
@@ -316,6 +341,7 @@ impl Target {
     /// Tells where a run ended.
     fn end_run(&mut self, reason: Reason, out: &mut Vec<u8>) -> Result<bool, NoMemory>
         ensures state { OnOk result (self.new ≡ landed self.old) }
+        ensures says { OnOk result (Lands reason self.old out.old.items out.new.items) }
         ensures more { IfOk result (λ more. more ≡ false) }
     {
         self.land(reason, out)?;
@@ -324,14 +350,17 @@ impl Target {
 
     /// Tells that a run was interrupted.
     pub(crate) fn interrupt(&mut self, out: &mut Vec<u8>) -> Result<(), NoMemory>
-        ensures { OnOk result (self.new ≡ with_console self.old) }
+        ensures state { OnOk result (self.new ≡ with_console self.old) }
+        ensures says { OnOk result (out.new.items ≡ out.old.items ++ stop_packets 2 Plain self.old) }
     {
         self.append_halt(INTERRUPTED, Reason::Plain, out)
     }
 
     /// Goes back to the last stop before the present step, or to the first one, and tells where that is.
     pub(crate) fn run_back(&mut self, out: &mut Vec<u8>) -> Result<(), NoMemory>
-        ensures { OnOk result (self.new ≡ ran_back self.old) }
+        ensures state { OnOk result (self.new ≡ ran_back self.old) }
+        ensures says { OnOk result (out.new.items
+            ≡ out.old.items ++ state_packet 5 (back_reason (last_stop_of self.old)) self.new) }
     {
         let found = run_back(self.lab.recording_mut(), &self.watches)?;
         self.told = self.board().console().len();

@@ -1,20 +1,21 @@
 //! Requests, one by one.
-ghost use Rattle.std.specs.Prelude.{◌≡◌, ◌==◌, ◌++◌, IfOk, MatchOption, OnOk, false, if◌then◌else◌, is_some, true};
+ghost use Rattle.std.specs.Prelude.{◌≡◌, ◌==◌, ◌++◌, IfOk, MatchOption, OnOk, codes, false, if◌then◌else◌, true};
 ghost use Rattle.rv_monitor.specs.State.{without_break};
-ghost use Rattle.rv_moves.specs.declared.forward.Aim.TheVariants.{Outside};
 ghost use Rattle.rv_packets.specs.Items.{framed};
 ghost use Rattle.rv_lab.specs.State.{board};
 ghost use Rattle.rv_replies.specs.Looks.{look_text};
-ghost use Rattle.rv_gdb.specs.Moves.{met_next, went_back, with_aim, with_session};
-ghost use Rattle.rv_gdb.specs.Serves.{Replies, Serves, inserted, removed, watch_of};
-ghost use Rattle.rv_gdb.specs.Target.{mode_text, thread_text, with_console};
+ghost use Rattle.rv_gdb.specs.Moves.{state_packet, went_back, with_session};
+ghost use Rattle.rv_gdb.specs.Serves.{Replies, Says, Serves, inserted, removed, then_of, watch_of};
+ghost use Rattle.rv_gdb.specs.Target.{mode_text, thread_text};
+ghost use Rattle.rv_replies.specs.declared.stops.Reason.TheVariants.{Plain};
 
+use crate::moves::TRAPPED;
 use crate::target::{NO_HANDLER, Target};
 use rv_base::NoMemory;
 use rv_moves::{Aim, Watch};
 use rv_packets::append_packet;
 use rv_pmp::Mode;
-use rv_replies::{append_hex_text, append_look};
+use rv_replies::{Reason, append_hex_text, append_look};
 use rv_requests::{Point, Request};
 
 /// What follows a request.
@@ -58,11 +59,10 @@ fn mode_text(mode: Mode) -> &'static [u8]
 
 impl Target {
     /// Appends a packet.
-    pub(crate) fn say(&self, contents: &[u8], out: &mut Vec<u8>) -> Result<Then, NoMemory>
+    pub(crate) fn say(&self, contents: &[u8], out: &mut Vec<u8>) -> Result<(), NoMemory>
         ensures { OnOk result (out.new.items ≡ out.old.items ++ framed contents.now) }
     {
-        append_packet(self.alloc, contents, out)?;
-        Ok(Then::Waits)
+        append_packet(self.alloc, contents, out)
     }
 
     /// Inserts a point.
@@ -72,8 +72,9 @@ impl Target {
         address: u32,
         size: u32,
         out: &mut Vec<u8>,
-    ) -> Result<Then, NoMemory>
-        ensures { OnOk result (self.new ≡ inserted point address size self.old) }
+    ) -> Result<(), NoMemory>
+        ensures state { OnOk result (self.new ≡ inserted point address size self.old) }
+        ensures says { OnOk result (out.new.items ≡ out.old.items ++ framed (codes "OK")) }
     {
         match watch_of(point, address, size) {
             Some(watch) => self.watches.insert(watch)?,
@@ -89,8 +90,9 @@ impl Target {
         address: u32,
         size: u32,
         out: &mut Vec<u8>,
-    ) -> Result<Then, NoMemory>
-        ensures { OnOk result (self.new ≡ removed point address size self.old) }
+    ) -> Result<(), NoMemory>
+        ensures state { OnOk result (self.new ≡ removed point address size self.old) }
+        ensures says { OnOk result (out.new.items ≡ out.old.items ++ framed (codes "OK")) }
     {
         match watch_of(point, address, size) {
             Some(watch) => self.watches.remove(watch),
@@ -110,12 +112,54 @@ impl Target {
     }
 
     /// Goes back to the first step.
-    fn restart(&mut self, out: &mut Vec<u8>) -> Result<Then, NoMemory>
-        ensures { OnOk result (self.new ≡ went_back self.old 0) }
+    fn restart(&mut self, out: &mut Vec<u8>) -> Result<(), NoMemory>
+        ensures state { OnOk result (self.new ≡ went_back self.old 0) }
+        ensures says { OnOk result (out.new.items ≡ out.old.items ++ state_packet 5 Plain self.new) }
     {
         self.go_back(0)?;
-        self.look(&Request::LastStop, out)?;
-        Ok(Then::Waits)
+        self.append_state(TRAPPED, Reason::Plain, out)
+    }
+
+    /// Returns what follows a request.
+    #[tactic(auto, unfolding(crate::specs::Serves::then_of))]
+    fn then_of(&self, request: &Request) -> Then
+        ensures { result ≡ then_of request.now self.now }
+    {
+        match request {
+            Request::StepWithin(_, _) => match self.met_next() {
+                Some(_) => Then::Waits,
+                None => Then::Runs,
+            },
+            Request::Continue => Then::Runs,
+            Request::Detach | Request::End => Then::Ends,
+            _ => Then::Waits,
+        }
+    }
+
+    /// Does what a request asks for, and replies to it.
+    #[tactic(auto, unfolding(crate::specs::Serves::Serves, crate::specs::Serves::Says))]
+    fn answer(&mut self, request: &Request, out: &mut Vec<u8>) -> Result<(), NoMemory>
+        ensures state { OnOk result (Serves request.now self.old self.new) }
+        ensures says { OnOk result (Says request.now self.old self.new out.old.items out.new.items) }
+    {
+        match request {
+            Request::Step => self.step(out),
+            Request::StepWithin(from, to) => self.begin_within(*from, *to, out),
+            Request::StepBack => self.step_back(out),
+            Request::ContinueBack => self.run_back(out),
+            Request::Continue => {
+                self.begin(Aim::Stop);
+                Ok(())
+            }
+            Request::Insert(point, address, size) => self.insert(*point, *address, *size, out),
+            Request::Remove(point, address, size) => self.remove(*point, *address, *size, out),
+            Request::Run => self.restart(out),
+            Request::Command(line) => self.answer_line(line.bytes(), out),
+            Request::ThreadText => self.describe_thread(out),
+            Request::Detach => self.say(b"OK", out),
+            Request::End | Request::Answered(_) => Ok(()),
+            _ => self.tell(request, out),
+        }
     }
 
     /// Serves a request, and returns what follows it.
@@ -123,65 +167,23 @@ impl Target {
     /// # Errors
     ///
     /// `NoMemory` if memory runs out. A move may have been made then.
-    #[tactic(auto, unfolding(crate::specs::Serves::Serves))]
     pub fn serve(&mut self, request: &Request, out: &mut Vec<u8>) -> Result<Then, NoMemory>
-        ensures { OnOk result (Serves request.now self.old self.new) }
+        ensures state { OnOk result (Serves request.now self.old self.new) }
+        ensures says { OnOk result (Says request.now self.old self.new out.old.items out.new.items) }
+        ensures next { IfOk result (λ next. next ≡ then_of request.now self.old) }
     {
-        match request {
-            Request::Step => {
-                self.step(out)?;
-                Ok(Then::Waits)
-            }
-            Request::StepWithin(from, to) => self.step_within(*from, *to, out),
-            Request::StepBack => {
-                self.step_back(out)?;
-                Ok(Then::Waits)
-            }
-            Request::ContinueBack => {
-                self.run_back(out)?;
-                Ok(Then::Waits)
-            }
-            Request::Continue => {
-                self.begin(Aim::Stop);
-                Ok(Then::Runs)
-            }
-            Request::Insert(point, address, size) => self.insert(*point, *address, *size, out),
-            Request::Remove(point, address, size) => self.remove(*point, *address, *size, out),
-            Request::Run => self.restart(out),
-            Request::Command(line) => self.answer_line(line.bytes(), out),
-            Request::ThreadText => self.describe_thread(out),
-            Request::Detach => self.detach(out),
-            Request::End => Ok(Then::Ends),
-            Request::Answered(_) => Ok(Then::Waits),
-            _ => self.tell(request, out),
-        }
-    }
-
-    /// Begins a run until the pc leaves some addresses.
-    fn step_within(&mut self, from: u32, to: u32, out: &mut Vec<u8>) -> Result<Then, NoMemory>
-        ensures { OnOk result (self.new ≡ (if is_some (met_next self.old) then with_console self.old
-            else with_aim (Outside from to) self.old)) }
-    {
-        if self.begin_within(from, to, out)? {
-            Ok(Then::Runs)
-        } else {
-            Ok(Then::Waits)
-        }
+        let then = self.then_of(request);
+        self.answer(request, out)?;
+        Ok(then)
     }
 
     /// Replies with what is said of the one thread: the board's mode.
-    fn describe_thread(&self, out: &mut Vec<u8>) -> Result<Then, NoMemory>
+    fn describe_thread(&self, out: &mut Vec<u8>) -> Result<(), NoMemory>
         ensures { OnOk result (out.new.items ≡ out.old.items ++ framed (thread_text (board self.now.lab))) }
     {
         let mut contents = Vec::new(self.alloc);
         append_hex_text(&mut contents, mode_text(self.board().mode()))?;
         self.say(&contents, out)
-    }
-
-    /// Ends the talk.
-    fn detach(&self, out: &mut Vec<u8>) -> Result<Then, NoMemory> {
-        let _then = self.say(b"OK", out)?;
-        Ok(Then::Ends)
     }
 
     /// Replies to a request that leaves the board as it stands, and returns whether it is one.
@@ -199,11 +201,11 @@ impl Target {
     }
 
     /// Replies to a request that doesn't move the board: what it asks for, or else that it is agreed to.
-    fn tell(&self, request: &Request, out: &mut Vec<u8>) -> Result<Then, NoMemory>
+    fn tell(&self, request: &Request, out: &mut Vec<u8>) -> Result<(), NoMemory>
         ensures { OnOk result (Replies request.now self.now out.old.items out.new.items) }
     {
         if self.look(request, out)? {
-            return Ok(Then::Waits);
+            return Ok(());
         }
         self.say(b"OK", out)
     }

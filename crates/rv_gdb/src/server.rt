@@ -1,44 +1,20 @@
-//! The server: the talk with gdb.
-use crate::served::Then;
+//! The server: the talk with gdb over a stream of bytes.
+ghost use Rattle.std.specs.Prelude.{◌≡◌, OnOk, option_to_list};
+ghost use Rattle.rv_packets.specs.Items.{after, items, outside, step};
+ghost use Rattle.rv_gdb.specs.Talk.{GoesOn, Talks, next_of, opened};
+
+use crate::talk::{Next, Talk};
 use crate::target::Target;
 use rv_base::NoMemory;
-use rv_packets::{Item, Receiver, append_packet};
-use rv_requests::{Request, read_request};
+use rv_packets::Receiver;
 use std::alloc::Global;
+use std::marker::Model;
 
-/// The question whether gdb asks to stop: whether its file 0 is a terminal. No memory is touched by it.
-const QUESTION: &[u8] = b"Fisatty,0";
-
-/// What the server goes on with.
-#[derive(Clone, Copy, PartialEq, Eq, Debug)]
-pub enum Next {
-    /// It waits for bytes.
-    Bytes,
-    /// A run goes on: `go_on` takes steps of it.
-    Steps,
-    /// The talk is over.
-    End,
-}
-
-/// A server of gdb's remote protocol.
+/// A server of gdb's remote protocol; its view is a talk, and where the stream of gdb's bytes stands.
 pub struct Server {
     alloc: Global,
-    target: Target,
+    talk: Talk,
     receiver: Receiver,
-    /// What was sent last.
-    last: Vec<u8>,
-    /// Whether each packet is acknowledged.
-    acks: bool,
-    /// Whether gdb is asked, between parts of a run, if it is to stop.
-    asks: bool,
-    /// Whether a run isn't over.
-    is_running: bool,
-    /// Whether gdb was asked, and didn't answer yet.
-    is_asked: bool,
-    /// Whether it asked to stop.
-    is_interrupted: bool,
-    /// Whether the talk is over.
-    is_over: bool,
 }
 
 // Hand-written: a derived `Drop` would be proved anew at each exit (docs/PROVING.md).
@@ -46,146 +22,72 @@ impl Drop for Server {
     fn drop(self) {
         let Server {
             alloc: _,
-            target: _,
+            talk: _,
             receiver: _,
-            last: _,
-            acks: _,
-            asks: _,
-            is_running: _,
-            is_asked: _,
-            is_interrupted: _,
-            is_over: _,
         } = self;
     }
 }
 
+impl Model for Server {
+    ghost use Rattle.std.specs.Coded.{codes, coded_ℕ};
+    ghost use Rattle.std.specs.FinSet as set;
+    ghost use Rattle.std.specs.Ordering.{nat_cmp};
+    ghost use Rattle.rv_plic.specs.Support.Codes.{plic_code};
+    ghost use Rattle.rv_gdb.specs.Talk.{ServerState};
+
+    ghost Value = { ServerState };
+
+    ghost coded = { Prim.hlevel (codes, plic_code, set.code {R = nat_cmp} coded_ℕ) };
+
+    ghost view = { λ s. record { talk = s.talk; stream = s.receiver } };
+}
+
 impl Server {
     /// Makes a server of a target. `asks` tells whether gdb is asked during a run if it is to stop.
-    pub fn new(alloc: Global, target: Target, asks: bool) -> Server {
+    pub fn new(alloc: Global, target: Target, asks: bool) -> Server
+        ensures { result ≡ record { talk = opened target asks; stream = outside } }
+    {
         Server {
             alloc,
-            target,
+            talk: Talk::new(alloc, target, asks),
             receiver: Receiver::new(alloc),
-            last: Vec::new(alloc),
-            acks: true,
-            asks,
-            is_running: false,
-            is_asked: false,
-            is_interrupted: false,
-            is_over: false,
         }
     }
 
     /// Returns what the server goes on with.
-    pub fn next(&self) -> Next {
-        if self.is_over {
-            return Next::End;
-        }
-        if self.is_running && !self.is_asked {
-            return Next::Steps;
-        }
-        Next::Bytes
+    pub fn next(&self) -> Next
+        ensures { result ≡ next_of self.now.talk }
+    {
+        self.talk.next()
     }
 
-    /// Ends a run by hand.
-    fn interrupt(&mut self, sent: &mut Vec<u8>) -> Result<(), NoMemory> {
-        self.is_running = false;
-        self.is_interrupted = false;
-        self.target.interrupt(sent)
+    /// Takes a byte of gdb, and appends what answers it.
+    #[tactic(auto, using(crate::proofs::Talking::one, crate::proofs::Talking::none))]
+    fn take_byte(&mut self, byte: u8, out: &mut Vec<u8>) -> Result<(), NoMemory>
+        ensures stream { OnOk result (self.new.stream ≡ (step self.old.stream.phase self.old.stream byte).state) }
+        ensures talk { OnOk result (Talks (option_to_list (step self.old.stream.phase self.old.stream byte).item)
+            self.old.talk self.new.talk out.old.items out.new.items) }
+    {
+        match self.receiver.feed(self.alloc, byte)? {
+            Some(item) => self.talk.take_item(&item, out),
+            None => Ok(()),
+        }
     }
 
-    /// Takes gdb's answer to the question.
-    fn answered(&mut self, stops: bool, sent: &mut Vec<u8>) -> Result<(), NoMemory> {
-        self.is_asked = false;
-        if stops || self.is_interrupted {
-            return self.interrupt(sent);
-        }
-        Ok(())
-    }
-
-    /// Serves a request.
-    fn serve(&mut self, request: &Request, sent: &mut Vec<u8>) -> Result<(), NoMemory> {
-        if let Request::Answered(stops) = request {
-            if self.is_asked {
-                return self.answered(*stops, sent);
-            }
-            return Ok(());
-        }
-        match self.target.serve(request, sent)? {
-            Then::Waits => {}
-            Then::Runs => self.is_running = true,
-            Then::Ends => self.is_over = true,
-        }
-        if let Request::StopAcks = request {
-            self.acks = false;
-        }
-        Ok(())
-    }
-
-    /// Takes a packet.
-    fn take_packet(&mut self, contents: &[u8], sent: &mut Vec<u8>) -> Result<(), NoMemory> {
-        let request = read_request(self.alloc, contents)?;
-        self.serve(&request, sent)
-    }
-
-    /// Takes what the stream says, and appends the answer.
-    fn take_item(&mut self, item: &Item, out: &mut Vec<u8>) -> Result<(), NoMemory> {
-        match item {
-            Item::Packet(contents) => {
-                if self.acks {
-                    out.extend_from_slice(b"+")?;
-                }
-                let mut sent = Vec::new(self.alloc);
-                self.take_packet(contents.bytes(), &mut sent)?;
-                out.extend_from_slice(&sent)?;
-                self.last = sent;
-            }
-            Item::BadSum => {
-                if self.acks {
-                    out.extend_from_slice(b"-")?;
-                }
-            }
-            Item::Again => {
-                if self.acks {
-                    out.extend_from_slice(&self.last)?;
-                }
-            }
-            Item::Interrupt => self.is_interrupted = self.is_running,
-            Item::Ack => {}
-        }
-        Ok(())
-    }
-
-    /// Takes bytes of gdb, and appends the bytes that answer them.
+    /// Takes bytes of gdb, and appends the bytes that answer them. Bytes in several pieces are answered as they are in one.
     ///
     /// # Errors
     ///
     /// `NoMemory` if memory runs out.
-    pub fn feed(&mut self, bytes: &[u8], out: &mut Vec<u8>) -> Result<(), NoMemory> {
+    #[tactic(auto, using(crate::proofs::Talking::fed_begins, crate::proofs::Talking::fed_more, crate::proofs::Talking::fed_ends))]
+    pub fn feed(&mut self, bytes: &[u8], out: &mut Vec<u8>) -> Result<(), NoMemory>
+        ensures stream { OnOk result (self.new.stream ≡ after self.old.stream bytes.now) }
+        ensures talk { OnOk result (Talks (items self.old.stream bytes.now) self.old.talk self.new.talk
+            out.old.items out.new.items) }
+    {
         for byte in bytes {
-            if let Some(item) = self.receiver.feed(self.alloc, *byte)? {
-                self.take_item(&item, out)?;
-            }
+            self.take_byte(*byte, out)?;
         }
-        Ok(())
-    }
-
-    /// Asks gdb whether it is to stop, unless it isn't to be asked.
-    fn ask(&mut self, sent: &mut Vec<u8>) -> Result<(), NoMemory> {
-        if !self.asks {
-            return Ok(());
-        }
-        self.is_asked = true;
-        append_packet(self.alloc, QUESTION, sent)
-    }
-
-    /// Takes at most `most` steps of the run, and asks gdb whether it is to stop, if it isn't over.
-    fn take_part(&mut self, most: u64, sent: &mut Vec<u8>) -> Result<(), NoMemory> {
-        let end = self.target.take_part(most)?;
-        if self.target.end_part(end, sent)? {
-            return self.ask(sent);
-        }
-        self.is_running = false;
         Ok(())
     }
 
@@ -194,15 +96,10 @@ impl Server {
     /// # Errors
     ///
     /// `NoMemory` if memory runs out.
-    pub fn go_on(&mut self, most: u64, out: &mut Vec<u8>) -> Result<(), NoMemory> {
-        let mut sent = Vec::new(self.alloc);
-        if self.is_interrupted {
-            self.interrupt(&mut sent)?;
-        } else {
-            self.take_part(most, &mut sent)?;
-        }
-        out.extend_from_slice(&sent)?;
-        self.last = sent;
-        Ok(())
+    pub fn go_on(&mut self, most: u64, out: &mut Vec<u8>) -> Result<(), NoMemory>
+        ensures stream { OnOk result (self.new.stream ≡ self.old.stream) }
+        ensures talk { OnOk result (GoesOn most self.old.talk self.new.talk out.old.items out.new.items) }
+    {
+        self.talk.go_on(most, out)
     }
 }

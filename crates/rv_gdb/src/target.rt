@@ -1,6 +1,6 @@
 //! What gdb debugs: a lab, and the files that gdb reads of it.
 ghost use Rattle.std.specs.Prelude.{◌≡◌, ◌++◌, IfOk, OnOk, drop};
-ghost use Rattle.rv_gdb.specs.Target.{begun, console_text, with_console};
+ghost use Rattle.rv_gdb.specs.Target.{begun, console_text, note_packet, with_console};
 ghost use Rattle.rv_lab.specs.State.{board};
 
 use rv_base::NoMemory;
@@ -93,6 +93,16 @@ impl Target {
         console.split_at(console.len().min(self.told)).1
     }
 
+    /// Appends a packet with a text for the console.
+    pub(crate) fn append_note(&self, text: &[u8], out: &mut Vec<u8>) -> Result<(), NoMemory>
+        ensures { OnOk result (out.new.items ≡ out.old.items ++ note_packet text.now) }
+    {
+        let mut contents = Vec::new(self.alloc);
+        contents.extend_from_slice(b"O")?;
+        append_hex_text(&mut contents, text)?;
+        append_packet(self.alloc, &contents, out)
+    }
+
     /// Appends a packet with what the console got and wasn't told, if it got anything.
     fn append_untold(&self, out: &mut Vec<u8>) -> Result<(), NoMemory>
         ensures { OnOk result (out.new.items ≡ out.old.items ++ console_text self.now) }
@@ -101,10 +111,7 @@ impl Target {
         if untold.is_empty() {
             return Ok(());
         }
-        let mut contents = Vec::new(self.alloc);
-        contents.extend_from_slice(b"O")?;
-        append_hex_text(&mut contents, untold)?;
-        append_packet(self.alloc, &contents, out)
+        self.append_note(untold, out)
     }
 
     /// Tells what the console got.

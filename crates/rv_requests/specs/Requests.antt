@@ -1,7 +1,7 @@
 -- To audit: public contracts cite this.
 -- What the contents of a packet ask for, one row a packet (Debugging with GDB, appendix "GDB Remote Serial Protocol":
 -- "Packets", "General Query Packets", "Stop Reply Packets", "Host I/O Packets", "The F Reply Packet").
-use Rattle.std.specs.Prelude.{ℕ, ◌+◌, ◌-◌, ◌==◌, ◌||◌, Bool, List, [], ◌∷◌, length, take, drop, if◌then◌else◌, Option, Some, None, option_and_then, unwrap_or, codes, slice_index}
+use Rattle.std.specs.Prelude.{ℕ, ◌+◌, ◌-◌, ◌==◌, ◌||◌, Bool, List, [], ◌∷◌, length, take, drop, if◌then◌else◌, nat_le, Option, Some, None, option_and_then, unwrap_or, codes, slice_index}
 use Rattle.std.specs.List.{position}
 use Rattle.std.specs.Option.{option_map_or}
 use Rattle.std.specs.Str.{bytes_eq}
@@ -59,8 +59,9 @@ insert text = at_point text (λ p address size. Insert p address size)
 abbrev pub remove : List ℕ → Request
 remove text = at_point text (λ p address size. Remove p address size)
 
+-- addresses from one on, below another that isn't lower
 abbrev pub range : List ℕ → Request
-range text = or_malformed (pair text) (λ r. StepWithin r.0 r.1)
+range text = or_malformed (pair text) (λ r. if nat_le r.0 r.1 then StepWithin r.0 r.1 else Malformed)
 
 abbrev pub register : List ℕ → Request
 register text = or_malformed (number text) (λ n. Register n)

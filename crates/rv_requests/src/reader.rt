@@ -45,13 +45,13 @@ fn point(kind: u32) -> Option<Point>
     }
 }
 
-/// Reads the operands of `r` of `vCont`.
+/// Reads the operands of `r` of `vCont`: addresses from one on, below another that isn't lower.
 fn read_range(more: &[u8]) -> Request
     ensures { result ≡ spec.range more.now }
 {
     match pair(more) {
-        Some((from, to)) => Request::StepWithin(from, to),
-        None => Request::Malformed,
+        Some((from, to)) if from <= to => Request::StepWithin(from, to),
+        _ => Request::Malformed,
     }
 }
 
