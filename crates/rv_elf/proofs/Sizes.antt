@@ -136,7 +136,7 @@ parts_are p count =
 object_size : (n : ℕ) (attributes abbreviations image : List ℕ) (t : Tables) (frames macros : List ℕ) (count : ℕ) (names : List (List ℕ))
     (symbols : List Symbol) (lines : List PlacedLine) (name folder : List ℕ) →
     n ≡ 84 + 40 * length (sections_of (parts attributes abbreviations image t frames macros) count) + length (bodies (sections_of (parts attributes abbreviations image t frames macros) count)) →
-    length attributes ≡ 52 → length abbreviations ≡ 34 →
+    length attributes ≡ 52 → length abbreviations ≡ 58 →
     length t.symbols.table.items + length t.symbols.strings.items ≡ 17 + symbols_size names →
     length t.info.items ≡ info_size name folder symbols → length t.lines.items ≡ lines_size name lines →
     length t.ranges.items ≡ 32 → n ≡ file_size image names lines name + info_size name folder symbols + length frames + length macros
@@ -146,7 +146,7 @@ object_size n attributes abbreviations image t frames macros count names symbols
 pub object_has : (file attributes abbreviations image : List ℕ) (t : Tables) (frames macros : List ℕ) (count : ℕ) (names : List (List ℕ))
     (symbols : List Symbol) (lines : List PlacedLine) (name folder : List ℕ) → sections file ≡ sections_of (parts attributes abbreviations image t frames macros) count →
     length file ≡ 84 + 40 * length (sections file) + length (bodies (sections file)) →
-    length attributes ≡ 52 → length abbreviations ≡ 34 →
+    length attributes ≡ 52 → length abbreviations ≡ 58 →
     length t.symbols.table.items + length t.symbols.strings.items ≡ 17 + symbols_size names →
     length t.info.items ≡ info_size name folder symbols → length t.lines.items ≡ lines_size name lines →
     length t.ranges.items ≡ 32 → length file ≡ file_size image names lines name + info_size name folder symbols + length frames + length macros

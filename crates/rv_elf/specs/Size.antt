@@ -55,4 +55,4 @@ info_size name folder symbols = 49 + length name + length folder + functions_siz
 -- the file: its headers and what all files have, the image, the symbols and the lines of a source of this name; its
 -- compilation unit, frames and macros have sizes of their own
 abbrev pub file_size : List ℕ → List (List ℕ) → List PlacedLine → List ℕ → ℕ
-file_size image names lines name = 829 + length image + symbols_size names + lines_size name lines
+file_size image names lines name = 853 + length image + symbols_size names + lines_size name lines

@@ -1,7 +1,7 @@
 //! The line table: which line of the source has its bytes where.
 ghost use Rattle.std.specs.Prelude.{◌≡◌, ◌++◌, ◌+◌, ◌*◌, ◌^◌, ◌<◌, ◌≤◌, ◌∷◌, [], IfOk, IfErr, OnOk, Some, SomeIff, length};
 ghost use Rattle.rv_elf.specs.declared.fault.ElfFault.TheVariants.{OutOfMemory, TooLarge};
-ghost use Rattle.rv_elf.specs.Support.LineBytes.{end_bytes, header_bytes, leb_bytes, program_bytes, row_bytes, rows_bytes, set_address, table_bytes, AreSmall};
+ghost use Rattle.rv_elf.specs.Support.LineBytes.{end_bytes, header_bytes, leb_bytes, program_bytes, row_bytes, rows_bytes, set_address, table_bytes, unit_bytes, AreSmall};
 ghost use Rattle.rv_elf.specs.LineNumbers as spec;
 ghost use Rattle.rv_elf.specs.LineNumbers.{rows_after, Rises};
 ghost use Rattle.rv_elf.specs.Size.{lines_size};
@@ -10,6 +10,10 @@ use crate::bytes::{append_halves, append_words};
 use crate::fault::ElfFault;
 use rv_base::NoMemory;
 use std::alloc::Global;
+
+/// A header from the size of an instruction to the folders: a special opcode advances the line by -5 to 8, the first of
+/// them is 13, and the numbers of operands are the standard's (DWARF 4, section 6.2.4).
+const OPCODES: &[u8] = &[1, 1, 1, 0xfb, 14, 13, 0, 1, 1, 1, 1, 0, 0, 0, 1, 0, 0, 1, 0];
 
 /// A line of a source, counted from 1, and the address of its first byte.
 #[derive(Clone, Copy)]
@@ -78,9 +82,7 @@ fn header_of(alloc: Global, name: &[u8]) -> Result<Vec<u8>, NoMemory>
     ensures { IfOk result (λ h. h.items ≡ header_bytes name.now) }
 {
     let mut out = Vec::new(alloc);
-    out.extend_from_slice(&[1, 1, 1, 0xfb, 14, 13])?;
-    out.extend_from_slice(&[0, 1, 1, 1, 1, 0, 0, 0, 1, 0, 0, 1])?;
-    out.extend_from_slice(&[0])?;
+    out.extend_from_slice(OPCODES)?;
     out.extend_from_slice(name)?;
     out.extend_from_slice(&[0, 0, 0, 0, 0])?;
     Ok(out)
@@ -105,6 +107,23 @@ fn sizes_of(header: &[u8], program: &[u8]) -> Option<(u32, u32)>
     Some((size, unit))
 }
 
+/// Appends a unit, of version 4, with its sizes.
+fn append_unit(out: &mut Vec<u8>, header: &[u8], program: &[u8]) -> Result<(), ElfFault>
+    ensures bytes { OnOk result (out.new.items ≡ out.old.items ++ unit_bytes header.now program.now) }
+    ensures within { OnOk result (6 + length header.now + length program.now < 2 ^ 32) }
+    ensures large { IfErr result (λ e. e ≡ TooLarge → 2 ^ 32 ≤ 6 + length header.now + length program.now) }
+{
+    let Some((header_size, unit_size)) = sizes_of(header, program) else {
+        return Err(ElfFault::TooLarge);
+    };
+    append_words(out, &[unit_size])?;
+    append_halves(out, &[4])?;
+    append_words(out, &[header_size])?;
+    out.extend_from_slice(header)?;
+    out.extend_from_slice(program)?;
+    Ok(())
+}
+
 /// Returns the table of lines.
 #[tactic(auto, unfolding(crate::specs::Support::LineBytes::table_bytes))]
 fn table_of(alloc: Global, name: &[u8], lines: &[PlacedLine], end: u32) -> Result<Vec<u8>, ElfFault>
@@ -117,15 +136,8 @@ fn table_of(alloc: Global, name: &[u8], lines: &[PlacedLine], end: u32) -> Resul
 {
     let program = program_of(alloc, lines, end)?;
     let header = header_of(alloc, name)?;
-    let Some((header_size, unit_size)) = sizes_of(&header, &program) else {
-        return Err(ElfFault::TooLarge);
-    };
     let mut out = Vec::new(alloc);
-    append_words(&mut out, &[unit_size])?;
-    append_halves(&mut out, &[4])?;
-    append_words(&mut out, &[header_size])?;
-    out.extend_from_slice(&header)?;
-    out.extend_from_slice(&program)?;
+    append_unit(&mut out, &header, &program)?;
     Ok(out)
 }
 

@@ -2,7 +2,6 @@
 ghost use Rattle.std.specs.Prelude.{◌≡◌, ◌+◌, IfOk, OnOk, length};
 ghost use Rattle.rv_elf.specs.Size.{macros_size};
 
-use crate::bytes::{append_halves, append_words};
 use rv_base::NoMemory;
 use std::alloc::Global;
 
@@ -22,18 +21,24 @@ fn append_macro(out: &mut Vec<u8>, text: &[u8]) -> Result<(), NoMemory>
     Ok(())
 }
 
+/// Appends macros, each of which is known at every line.
+fn append_macros(out: &mut Vec<u8>, macros: &[Macro]) -> Result<(), NoMemory>
+    ensures { OnOk result (length out.new.items + 12 ≡ length out.old.items + macros_size macros.now) }
+{
+    for each in macros {
+        append_macro(out, &each.text)?;
+    }
+    Ok(())
+}
+
 /// Returns the table of macros of the one source, in the form that DWARF 4 has as an extension of GNU's.
 pub fn write_macros(alloc: Global, macros: &[Macro]) -> Result<Vec<u8>, NoMemory>
     ensures { IfOk result (λ t. length t.items ≡ macros_size macros.now) }
 {
     let mut out = Vec::new(alloc);
-    append_halves(&mut out, &[4])?;
-    // The offset of the table of lines follows, and offsets have four bytes.
-    out.extend_from_slice(&[2])?;
-    append_words(&mut out, &[0])?;
-    for each in macros {
-        append_macro(&mut out, &each.text)?;
-    }
+    // Version 4, that an offset of four bytes follows, and this: it is that of the table of lines.
+    out.extend_from_slice(&[4, 0, 2, 0, 0, 0, 0])?;
+    append_macros(&mut out, macros)?;
     // The source's file begins and ends, as the table does.
     out.extend_from_slice(&[3, 0, 1, 4, 0])?;
     Ok(out)

@@ -74,6 +74,40 @@ struct Tables {
     ranges: Vec<u8>,
 }
 
+/// Returns the sections of an object and its tables, among them that many symbols.
+fn sections_of<'a>(object: &Object<'a>, tables: &'a Tables, count: u32) -> [Section<'a>; 12]
+    ensures { result ≡ sections_of (parts ATTRIBUTES.now ABBREVIATIONS.now object.now.image.now tables.now object.now.frames.now object.now.macros.now) count }
+{
+    [
+        Section {
+            alignment: 0,
+            ..plain(0, 0, &[])
+        },
+        Section {
+            link: 3,
+            info: count,
+            alignment: 4,
+            entry_size: 16,
+            ..plain(1, 2, &tables.symbols.table)
+        },
+        Section {
+            flags: 7,
+            address: RAM_BASE,
+            alignment: 4,
+            ..plain(9, 1, object.image)
+        },
+        plain(15, 3, &tables.symbols.strings),
+        plain(23, 0x7000_0003, ATTRIBUTES),
+        plain(41, 1, ABBREVIATIONS),
+        plain(55, 1, &tables.info),
+        plain(67, 1, &tables.lines),
+        plain(79, 1, &tables.ranges),
+        plain(94, 1, object.frames),
+        plain(107, 1, object.macros),
+        plain(120, 3, SECTION_NAMES),
+    ]
+}
+
 /// Writes the file of an object and its tables, among them that many symbols.
 fn write_sections(
     alloc: Global,
@@ -89,31 +123,7 @@ fn write_sections(
     ensures within { IfOk result (λ f. length f.items < 2 ^ 32) }
     ensures large { IfErr result (λ e. e ≡ TooLarge → 2 ^ 32 ≤ 564 + length (bodies (sections_of (parts ATTRIBUTES.now ABBREVIATIONS.now object.now.image.now tables.now object.now.frames.now object.now.macros.now) count))) }
 {
-    let mut null = plain(0, 0, &[]);
-    null.alignment = 0;
-    let mut symbols = plain(1, 2, &tables.symbols.table);
-    symbols.link = 3;
-    symbols.info = count;
-    symbols.alignment = 4;
-    symbols.entry_size = 16;
-    let mut text = plain(9, 1, object.image);
-    text.flags = 7;
-    text.address = RAM_BASE;
-    text.alignment = 4;
-    let sections = [
-        null,
-        symbols,
-        text,
-        plain(15, 3, &tables.symbols.strings),
-        plain(23, 0x7000_0003, ATTRIBUTES),
-        plain(41, 1, ABBREVIATIONS),
-        plain(55, 1, &tables.info),
-        plain(67, 1, &tables.lines),
-        plain(79, 1, &tables.ranges),
-        plain(94, 1, object.frames),
-        plain(107, 1, object.macros),
-        plain(120, 3, SECTION_NAMES),
-    ];
+    let sections = sections_of(object, tables, count);
     let bytes = write_file(alloc, &sections, 2)?;
     Ok(bytes)
 }

@@ -10,6 +10,6 @@ appended (g ∷ fs) f = omega (arith, appended fs f)
 
 -- one more function, of that many words
 pub one_more : (old new : List Function) (f : Function) (start end : ℕ) → new ≡ old ++ f ∷ [] → start < end →
-    length f.instructions.items ≤ 20 + 136 * (end - start) → frames_size old ≤ 40 + 192 * start →
+    length f.instructions.items ≤ 20 + 140 * (end - start) → frames_size old ≤ 40 + 192 * start →
     frames_size new ≤ 40 + 192 * end
 one_more old new f start end is some few h = rw is (omega (arith, appended old f, few, h))

@@ -6,6 +6,9 @@ use rv_isa::{Fields, Operation};
 /// The number of mtvec, which has the address of the trap handler.
 const MTVEC: i32 = 0x305;
 
+/// The number of mscratch, which handlers exchange with sp.
+pub const MSCRATCH: i32 = 0x340;
+
 /// The number of mepc, which has the address at which MRET goes on.
 pub const MEPC: i32 = 0x341;
 

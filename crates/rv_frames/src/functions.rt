@@ -34,7 +34,7 @@ fn function_of(
     start: usize,
     count: usize,
 ) -> Result<Function, AllocError>
-    ensures { IfOk result (λ f. length f.instructions.items ≤ 20 + 136 * count) }
+    ensures { IfOk result (λ f. length f.instructions.items ≤ 20 + 140 * count) }
 {
     let walk = follow(alloc, code, start, count)?;
     let instructions = instructions_of(alloc, entry, &walk)?;

@@ -5,7 +5,7 @@ ghost use Rattle.std.specs.Prelude.{◌+◌, ◌*◌, ◌≤◌, IfOk, OnOk, len
 
 use crate::code::bytes_of;
 use crate::places::Entry;
-use crate::state::{Rule, SAVED, State};
+use crate::state::{Rule, SAVED, SP, Stack, State};
 use crate::walk::Walk;
 use std::alloc::{AllocError, Global};
 
@@ -110,6 +110,23 @@ fn append_offset(out: &mut Vec<u8>, old: Option<i32>, new: Option<i32>) -> Resul
     }
 }
 
+/// Appends the instruction that says where the caller's sp is, if that has changed.
+fn append_stack(out: &mut Vec<u8>, old: Stack, new: Stack) -> Result<(), AllocError>
+    ensures { OnOk result (length out.new.items ≤ length out.old.items + 4) }
+{
+    if old == new {
+        return Ok(());
+    }
+    match new {
+        // DW_CFA_val_offset
+        Stack::Own => out.extend_from_slice(&[0x14, SP, 0]),
+        // DW_CFA_register, the column of mscratch
+        Stack::Exchanged => out.extend_from_slice(&[0x09, SP, 0xc0, 0x26]),
+        // DW_CFA_undefined
+        Stack::Lost => out.extend_from_slice(&[0x07, SP]),
+    }
+}
+
 /// Appends the instruction that goes on by a number of words.
 fn append_advance(out: &mut Vec<u8>, words: usize) -> Result<(), AllocError>
     ensures { OnOk result (length out.new.items ≤ length out.old.items + 5) }
@@ -144,9 +161,10 @@ fn append_change(
     old: &State,
     new: &State,
 ) -> Result<(), AllocError>
-    ensures { OnOk result (length out.new.items ≤ length out.old.items + 131) }
+    ensures { OnOk result (length out.new.items ≤ length out.old.items + 135) }
 {
     append_offset(out, old.offset, new.offset)?;
+    append_stack(out, old.stack, new.stack)?;
     match entry {
         Entry::Start => Ok(()),
         Entry::Resumed => Ok(()),
@@ -163,7 +181,7 @@ fn append_change(
 
 /// Returns the instructions of a function.
 pub fn instructions_of(alloc: Global, entry: Entry, walk: &Walk) -> Result<Vec<u8>, AllocError>
-    ensures { IfOk result (λ v. length v.items ≤ 20 + 136 * length walk.now.reached.items) }
+    ensures { IfOk result (λ v. length v.items ≤ 20 + 140 * length walk.now.reached.items) }
 {
     let mut out = Vec::new(alloc);
     append_beginning(&mut out, entry)?;

@@ -1,21 +1,21 @@
 //! What a function has done to the registers that its caller wants back.
 ghost use Rattle.std.specs.Prelude.{◌<◌, IfSome};
 
-use crate::entries::MEPC;
+use crate::entries::{MEPC, MSCRATCH};
 use rv_isa::{Fields, Operation};
 
 /// The registers that a caller wants back: ra, and s0 to s11.
 pub const SAVED: [u8; 13] = [1, 8, 9, 18, 19, 20, 21, 22, 23, 24, 25, 26, 27];
 
 /// The number of sp.
-const SP: u8 = 2;
+pub const SP: u8 = 2;
 
 /// Where the caller's value of a register is.
 #[derive(Clone, Copy, PartialEq, Eq)]
 pub enum Rule {
     /// In the register itself.
     Same,
-    /// In memory, that many words below the caller's sp.
+    /// In memory, that many words below where the frame begins.
     Below(i32),
     /// In another register.
     In(u8),
@@ -23,11 +23,24 @@ pub enum Rule {
     Lost,
 }
 
+/// Where the caller's sp is.
+#[derive(Clone, Copy, PartialEq, Eq)]
+pub enum Stack {
+    /// It is where the frame begins.
+    Own,
+    /// In mscratch, with which the function has exchanged sp: the frame begins on another stack.
+    Exchanged,
+    /// Nowhere that is known.
+    Lost,
+}
+
 /// The state before an instruction of a function.
 #[derive(Clone, Copy, PartialEq, Eq)]
 pub struct State {
-    /// The number of bytes from sp up to the caller's sp, if it is known.
+    /// The number of bytes from sp up to where the frame begins, if it is known.
     pub offset: Option<i32>,
+    /// Where the caller's sp is.
+    pub stack: Stack,
     /// Where the registers of `SAVED` are.
     pub rules: [Rule; 13],
     /// Whether the function has written mepc.
@@ -64,11 +77,25 @@ fn overwritten(rule: Rule, register: u8) -> Rule {
     }
 }
 
+/// Returns whether an instruction other than CSRRW may write a control register: one that only reads it names x0, or
+/// the immediate 0, as what changes it.
+fn writes_csr(fields: &Fields) -> bool {
+    match fields.operation {
+        Operation::Csrrwi => true,
+        Operation::Csrrs => fields.rs1.number() != 0,
+        Operation::Csrrc => fields.rs1.number() != 0,
+        Operation::Csrrsi => fields.rs1.number() != 0,
+        Operation::Csrrci => fields.rs1.number() != 0,
+        _ => false,
+    }
+}
+
 impl State {
     /// Returns the state in which a function begins.
     pub fn first() -> State {
         State {
             offset: Some(0),
+            stack: Stack::Own,
             rules: [Rule::Same; 13],
             wrote_mepc: false,
         }
@@ -89,7 +116,7 @@ impl State {
         }
     }
 
-    /// Returns how many words below the caller's sp an address is that is given by its distance from a register.
+    /// Returns how many words below where the frame begins an address is that is given by its distance from a register.
     fn depth(&self, base: u8, distance: i32) -> Option<i32> {
         if base != SP {
             return None;
@@ -97,12 +124,54 @@ impl State {
         words_in(self.offset?.checked_sub(distance)?)
     }
 
+    /// Forgets what was saved in the frame: where that begins isn't known any more.
+    fn leave_frame(&mut self) {
+        for slot in 0..13 {
+            if let Rule::Below(_) = self.rules[slot] {
+                self.rules[slot] = Rule::Lost;
+            }
+        }
+    }
+
+    /// Follows an instruction that writes sp.
+    fn lose_stack(&mut self) {
+        self.leave_frame();
+        self.offset = None;
+        self.stack = Stack::Lost;
+    }
+
+    /// Follows an exchange of sp and mscratch: a handler gets a stack of its own, or gives it back.
+    fn exchange(&mut self) {
+        let stack = match (self.offset, self.stack) {
+            (Some(0), Stack::Own) => Stack::Exchanged,
+            (Some(0), Stack::Exchanged) => Stack::Own,
+            _ => return self.lose_stack(),
+        };
+        self.leave_frame();
+        self.stack = stack;
+    }
+
+    /// Follows a write of a control register: the caller's sp is lost where mscratch had it.
+    fn write_csr(&mut self, csr: i32) {
+        self.wrote_mepc = self.wrote_mepc || csr == MEPC;
+        if csr == MSCRATCH && self.stack == Stack::Exchanged {
+            self.stack = Stack::Lost;
+        }
+    }
+
+    /// Follows CSRRW.
+    fn swap(&mut self, to: u8, from: u8, csr: i32) {
+        if csr == MSCRATCH && to == SP && from == SP {
+            return self.exchange();
+        }
+        self.write_csr(csr);
+        self.write(to);
+    }
+
     /// Follows an instruction that writes a register.
     fn write(&mut self, register: u8) {
         if register == SP {
-            self.offset = None;
-            self.rules = [Rule::Same; 13];
-            return;
+            return self.lose_stack();
         }
         for slot in 0..13 {
             self.rules[slot] = overwritten(self.rules[slot], register);
@@ -168,11 +237,13 @@ impl State {
             Operation::Addi => next.add(to, from, fields.imm),
             Operation::Sw => next.store(fields.rs2.number(), from, fields.imm),
             Operation::Lw => next.load(to, from, fields.imm),
-            Operation::Csrrw => {
-                next.wrote_mepc = next.wrote_mepc || fields.imm == MEPC;
+            Operation::Csrrw => next.swap(to, from, fields.imm),
+            _ => {
+                if writes_csr(fields) {
+                    next.write_csr(fields.imm);
+                }
                 next.write(to);
             }
-            _ => next.write(to),
         }
         next
     }

@@ -28,9 +28,6 @@ sum_is : (xs : List ℕ) → sum (with_sum xs) % 256 ≡ 0
 sum_is xs =
     let e = sum_by-append (λ (x : ℕ). x) xs ((256 - sum xs % 256) % 256 ∷ []) in omega (arith, e)
 
-length_sum : (xs : List ℕ) → length (with_sum xs) ≡ length xs + 1
-length_sum xs = length-append xs ((256 - sum xs % 256) % 256 ∷ [])
-
 in_back : (kind offset : ℕ) (content : List ℕ) →
     record_in (with_sum (fields kind offset content)) ≡ Some (record { offset = offset; kind = kind; content = content })
 unfolding record_in

@@ -38,11 +38,14 @@ abbrev pub header_bytes : List ℕ → List ℕ
 header_bytes name = (1 ∷ 1 ∷ 1 ∷ 251 ∷ 14 ∷ 13 ∷ 0 ∷ 1 ∷ 1 ∷ 1 ∷ 1 ∷ 0 ∷ 0 ∷ 0 ∷ 1 ∷ 0 ∷ 0 ∷ 1 ∷ 0 ∷ [])
     ++ (name ++ 0 ∷ 0 ∷ 0 ∷ 0 ∷ 0 ∷ [])
 
+-- a unit of a header and a program
+abbrev pub unit_bytes : List ℕ → List ℕ → List ℕ
+unit_bytes header program =
+    word (6 + length header + length program) ++ (half 4 ++ (word (length header) ++ (header ++ program)))
+
 -- a table
 unfoldable pub table_bytes : List ℕ → ℕ → List PlacedLine → List ℕ
-table_bytes name end ls =
-    word (6 + length (header_bytes name) + length (program_bytes end ls))
-    ++ (half 4 ++ (word (length (header_bytes name)) ++ (header_bytes name ++ program_bytes end ls)))
+table_bytes name end ls = unit_bytes (header_bytes name) (program_bytes end ls)
 
 -- the numbers of lines fit
 abbrev pub AreSmall : List PlacedLine → Type 0
