@@ -113,9 +113,22 @@ pub struct Explained {
     /// The last step before that wrote the word there, if it was another one at reset.
     pub writer: Option<Write>,
     pub reason: Reason,
-    /// The instruction before, if the word at pc couldn't be fetched.
+    /// The instruction before, if there was one.
     pub before: Option<Before>,
     pub handler: Handler,
+}
+
+/// The last of the traps that a board keeps.
+#[derive(Clone, Copy)]
+pub struct Repeated {
+    /// What mcause was.
+    pub cause: u32,
+    /// What mtval was.
+    pub value: u32,
+    /// What pc was.
+    pub address: u32,
+    /// How often it came in a row, of the traps that are kept.
+    pub times: u64,
 }
 
 /// The first trap that met no handler, or else the last one.
@@ -124,4 +137,6 @@ pub struct Explanation {
     pub trap: Option<Explained>,
     /// The number of steps that were not looked at, after the others.
     pub unseen: u64,
+    /// The last trap of all steps.
+    pub repeated: Option<Repeated>,
 }

@@ -42,7 +42,7 @@ pub use command::{Command, Move, command_named, command_word};
 pub use convention::{Breach, Checked, Deviation, Entry, Return, Unrestored};
 pub use devices::threshold;
 pub use explained::{
-    Area, Barrier, Before, Explained, Explanation, Handler, Reason, Sum, Unfetched,
+    Area, Barrier, Before, Explained, Explanation, Handler, Reason, Repeated, Sum, Unfetched,
 };
 pub use extent::{Extent, Format, read_extent};
 pub use lines::Lines;

@@ -8,21 +8,11 @@ use std::alloc::Global;
 use std::marker::Model;
 
 /// A text that answers are appended to. Where memory runs out it takes nothing more, and remembers that.
+#[derive(Drop)]
 pub struct Printer {
     alloc: Global,
     bytes: Vec<u8>,
     is_cut: bool,
-}
-
-// Hand-written: a derived `Drop` would be proved anew at each exit (docs/PROVING.md).
-impl Drop for Printer {
-    fn drop(self) {
-        let Printer {
-            alloc: _,
-            bytes: _,
-            is_cut: _,
-        } = self;
-    }
 }
 
 impl Model for Printer {

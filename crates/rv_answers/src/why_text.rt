@@ -1,6 +1,6 @@
 //! The text of an explained trap.
 use crate::explained::{
-    Area, Barrier, Before, Explained, Explanation, Handler, Reason, Sum, Unfetched,
+    Area, Barrier, Before, Explained, Explanation, Handler, Reason, Repeated, Sum, Unfetched,
 };
 use crate::origin::Write;
 use crate::origin_text::append_writer;
@@ -10,7 +10,7 @@ use crate::registers::register_name;
 use crate::traps::append_cause;
 use crate::values::Place;
 use crate::{Lines, Printer};
-use rv_isa::decode;
+use rv_isa::{Kind, decode};
 use rv_pmp::Mode;
 
 /// Returns what is at an address that isn't in the memory.
@@ -140,6 +140,51 @@ fn missing_name(missing: Unfetched) -> &'static str {
     }
 }
 
+/// How many traps a board keeps.
+const KEPT: u64 = 64;
+
+/// The bit of a cause that tells an interrupt.
+const INTERRUPT: u32 = 1 << 31;
+
+impl Repeated {
+    /// Returns whether all traps that are kept are the same.
+    fn is_endless(self) -> bool {
+        self.times >= KEPT
+    }
+
+    /// Returns whether this is a trap that is explained.
+    fn is_of(self, trap: &Explained) -> bool {
+        self.cause == trap.cause && self.value == trap.value && self.address == trap.address
+    }
+
+    /// Appends how often it came in a row.
+    fn append_times(self, text: &mut Printer) {
+        let form = " came %d times in a row%{| or more}";
+        text.fill(form, &[self.times, self.is_endless() as u64]);
+    }
+}
+
+impl Before {
+    /// Returns whether this is the return from a handler.
+    fn is_return(self) -> bool {
+        let Some(word) = self.word else {
+            return false;
+        };
+        match decode(word) {
+            Some(instr) => matches!(instr.kind(), Kind::Mret),
+            None => false,
+        }
+    }
+}
+
+/// Returns whether a trap came right after the return from a handler.
+fn follows_return(trap: &Explained) -> bool {
+    match trap.before {
+        Some(before) => before.is_return(),
+        None => false,
+    }
+}
+
 impl Handler {
     /// Returns whether this is the place of an interrupt of its own in a table of handlers.
     fn is_slot(self) -> bool {
@@ -231,10 +276,61 @@ impl Lines<'_> {
         if let Some(write) = trap.writer {
             self.append_changer(write, text);
         }
-        if let Some(before) = trap.before {
+        if trap.cause == 1
+            && let Some(before) = trap.before
+        {
             self.append_before(before, trap.address, text);
         }
         self.append_handler(trap.handler, text);
+    }
+
+    /// Returns whether two addresses lie behind the same label.
+    fn is_near(self, first: u32, second: u32) -> bool {
+        let (first, second) = (
+            self.listing.label_before(first),
+            self.listing.label_before(second),
+        );
+        match (first, second) {
+            (Some(first), Some(second)) => first.name.bytes() == second.name.bytes(),
+            _ => false,
+        }
+    }
+
+    /// Appends why an explained trap came again, and ends the line.
+    fn append_again(self, trap: &Explained, text: &mut Printer) {
+        let returns = follows_return(trap);
+        if returns && trap.cause >= INTERRUPT {
+            text.say(": mret led to it at once, so the handler doesn't withdraw the interrupt");
+        } else if returns {
+            text.say(": mret led to it at once; the next instruction is at mepc + 4");
+        } else if self.is_near(trap.address, trap.handler.address) {
+            text.say(": it comes in the handler itself");
+        }
+        text.end();
+    }
+
+    /// Appends that the last trap came again and again, if it did.
+    fn append_repeated(self, trap: &Explained, last: Repeated, text: &mut Printer) {
+        if !last.is_endless() || trap.handler.missing.is_some() {
+            return;
+        }
+        if last.is_of(trap) {
+            text.say("  the same trap");
+            last.append_times(text);
+            return self.append_again(trap, text);
+        }
+        self.append_last(last, text);
+        text.end();
+    }
+
+    /// Appends a trap that came again and again.
+    fn append_last(self, last: Repeated, text: &mut Printer) {
+        text.say("  the last trap, ");
+        append_cause(last.cause, text);
+        text.say(", at");
+        self.append_short_place(self.place_at(last.address, None), text);
+        text.say(",");
+        last.append_times(text);
     }
 
     /// Appends what is told of the traps of some steps.
@@ -249,6 +345,9 @@ impl Lines<'_> {
                     text.fill(form, &[is_cut]);
                 }
                 self.append_explained(&trap, text);
+                if let Some(last) = told.repeated {
+                    self.append_repeated(&trap, last, text);
+                }
             }
         }
     }

@@ -1,7 +1,7 @@
 -- To audit: public contracts cite this.
 -- The JSON of an answer (this project's own: docs/JSON.md), by the labels of the source with their addresses.
-use Rattle.std.specs.Prelude.{◌≡◌, ℕ, ℤ, List, [], ◌∷◌, codes, encode_utf8_all, filter, map, nat_le, Option, Some, None, option_and_then, option_map}
-use Rattle.std.specs.List.{last_or}
+use Rattle.std.specs.Prelude.{◌≡◌, ℕ, ℤ, ◌-◌, ◌==◌, Bool, List, [], ◌∷◌, codes, encode_utf8_all, filter, map, nat_le, Option, Some, None, option_and_then, option_map}
+use Rattle.std.specs.List.{count_by, last_or}
 use Prim.Native.String.{String}
 use Rattle.serde_json.specs.Data.{Data, Members, null, boolean, number, negative, unsigned, string, array, object, no_members, member}
 use Rattle.serde_json.specs.View.{items_of}
@@ -35,6 +35,7 @@ use Rattle.rv_answers.specs.declared.explained.Barrier.TheVariants as barriers
 use Rattle.rv_answers.specs.declared.explained.Before.{Before}
 use Rattle.rv_answers.specs.declared.explained.Explained.{Explained}
 use Rattle.rv_answers.specs.declared.explained.Explanation.{Explanation}
+use Rattle.rv_answers.specs.declared.explained.Repeated.{Repeated}
 use Rattle.rv_answers.specs.declared.explained.Handler.{Handler}
 use Rattle.rv_answers.specs.declared.explained.Reason.{Reason}
 use Rattle.rv_answers.specs.declared.explained.Reason.TheVariants as reasons
@@ -78,6 +79,7 @@ use Rattle.rv_answers.specs.declared.values.Rights.{Rights}
 use Rattle.rv_answers.specs.declared.values.SourceState.{SourceState}
 use Rattle.rv_answers.specs.declared.values.Standing.{Standing}
 use Rattle.rv_answers.specs.declared.values.Trap.{Trap}
+use Rattle.rv_diagnosis.specs.Diagnosed.{fault_of}
 use Rattle.rv_json.specs.declared.faults.Fault.{Fault}
 
 -- ---- parts
@@ -329,8 +331,14 @@ explained_data e = object (members (("step", natural e.step) ∷ ("cause", natur
     ∷ ("overwritten", option_data natural e.overwritten) ∷ ("writer", option_data write_data e.writer)
     ∷ ("reason", reason_data e.reason) ∷ ("before", option_data before_data e.before) ∷ ("handler", handler_data e.handler) ∷ []))
 
+-- the last trap, with how often it came in a row
+unfoldable pub repeated_data : Repeated → Data
+repeated_data r = object (members (("cause", natural r.cause) ∷ ("value", natural r.value)
+    ∷ ("address", natural r.address) ∷ ("times", natural r.times) ∷ []))
+
 unfoldable pub explanation_data : Explanation → Data
-explanation_data e = kind "why" (("trap", option_data explained_data e.trap) ∷ ("unseen", natural e.unseen) ∷ [])
+explanation_data e = kind "why" (("trap", option_data explained_data e.trap) ∷ ("unseen", natural e.unseen)
+    ∷ ("repeated", option_data repeated_data e.repeated) ∷ [])
 
 unfoldable pub origin_data : Origin → Data
 origin_data o = kind "origin" (("target", target_data o.target) ∷ ("steps", natural o.steps)
@@ -447,16 +455,26 @@ unfoldable pub fault_name : FaultKind → Data
 fault_name k = string (title_of k).1
 
 unfoldable pub fault_data : Fault → Data
-fault_data f = object (members (("line", natural f.line) ∷ ("column", natural f.column)
-    ∷ ("length", natural f.length) ∷ ("number", natural (fault_number f.kind)) ∷ ("name", fault_name f.kind)
+fault_data f = object (members (("line", natural f.diagnosis.line) ∷ ("column", natural f.diagnosis.column)
+    ∷ ("length", natural f.diagnosis.length) ∷ ("number", natural (fault_number f.diagnosis.kind))
+    ∷ ("name", fault_name f.diagnosis.kind)
     ∷ ("message", text_data f.message) ∷ ("advice", text_data f.advice) ∷ []))
 
+-- an instruction whose address is no multiple of 4: E8 Misplaced
+abbrev pub is_misplaced : Fault → Bool
+is_misplaced f = fault_number f.diagnosis.kind == 8
+
+-- how many instructions at such addresses follow the first: mostly from it
+abbrev pub following : List Fault → ℕ
+following faults = count_by is_misplaced faults - 1
+
 unfoldable pub faults_data : List Fault → Data
-faults_data faults = kind "faults" (("faults", list_data fault_data faults) ∷ [])
+faults_data faults = kind "faults" (("faults", list_data fault_data faults)
+    ∷ ("following", natural (following faults)) ∷ [])
 
 -- the line and the kind of a fault
 abbrev pub kind_at : Fault → AsmFault
-kind_at f = record { line = f.line; kind = f.kind }
+kind_at f = fault_of f.diagnosis
 
 -- a text is that of the faults of a source, whatever their sentences
 abbrev pub TellsFaults : List ℕ → List ℕ → Type 0

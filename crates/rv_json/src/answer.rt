@@ -1,12 +1,10 @@
 //! The JSON of an answer, and of commands whose operands have no meaning.
 ghost use Rattle.rv_json.specs.Json.{answer_data, command_data, lineless, refusal_data, why_data};
-ghost use Rattle.rv_json.specs.Support.Labels.{labels};
-ghost use Rattle.rv_json.specs.Support.Sends.{Sends};
-ghost use Rattle.serde_json.specs.Data.{member, no_members, object, string};
-ghost use Rattle.std.specs.Prelude.{OnOk, codes, ◌≡◌};
+ghost use Rattle.serde_json.specs.Data.{string};
+ghost use Rattle.std.specs.Prelude.{◌≡◌};
 
 use crate::names::Names;
-use crate::object::{End, Member, send_members, send_object};
+use crate::object::{send_kind, send_members, send_one};
 use crate::sent::{Text, ToJson, send_word};
 use rv_answers::{Answer, Command, Refusal, Why, command_word};
 use serde::Serializer;
@@ -81,36 +79,6 @@ impl ToJson for Refusal {
             address = lineless(self.why)
         )
     }
-}
-
-/// Sends an object that has a kind alone.
-fn send_kind<S: Serializer>(kind: &str, names: &Names<'_>, out: &mut S) -> Result<(), S::Error>
-    ensures { OnOk result (Sends (object (member (codes "kind") (string kind.now) no_members))
-        (S.written out.old) (S.written out.new)) }
-{
-    send_members!(_, names, out, kind)
-}
-
-/// Sends an object that has a kind and one other member.
-fn send_one<T: ToJson, S: Serializer>(
-    kind: &str,
-    name: &str,
-    value: &T,
-    names: &Names<'_>,
-    out: &mut S,
-) -> Result<(), S::Error>
-    ensures { OnOk result (Sends (object (member (codes "kind") (string kind.now)
-        (member name.now (T.json (labels names.now) value.now) no_members)))
-        (S.written out.old) (S.written out.new)) }
-{
-    let rest = Member {
-        name,
-        value,
-        rest: End,
-    };
-    let name = "kind";
-    let value = &kind;
-    send_object(&Member { name, value, rest }, names, out)
 }
 
 impl ToJson for Answer {

@@ -3,7 +3,7 @@ ghost use Rattle.serde_json.specs.Data.{string};
 ghost use Rattle.rv_json.specs.Json.{breach_data, checked_data, deviation_data, entry_data, return_data, unrestored_data};
 
 use crate::names::Names;
-use crate::object::send_members;
+use crate::object::{send_members, send_one};
 use crate::sent::{ToJson, send_word};
 use rv_answers::{Breach, Checked, Deviation, Entry, Return, Unrestored};
 use serde::Serializer;
@@ -62,10 +62,7 @@ impl ToJson for Deviation {
     #[tactic(auto, unfolding(crate::specs::Json::deviation_data, crate::specs::Support::Sends::Sends))]
     fn send<S: Serializer>(&self, names: &Names<'_>, out: &mut S) -> Result<(), S::Error> {
         match self {
-            Deviation::Below(address) => {
-                let address = *address;
-                send_members!(_, names, out, kind = "below", address)
-            }
+            Deviation::Below(address) => send_one("below", "address", address, names, out),
             Deviation::Return(back) => back.send(names, out),
         }
     }

@@ -1,12 +1,13 @@
 //! What `why` finds.
 ghost use Rattle.serde_json.specs.Data.{string};
-ghost use Rattle.rv_json.specs.Json.{area_data, barrier_data, before_data, explained_data, explanation_data, handler_data, origin_data, reason_data, sum_data, unfetched_data, write_data};
+ghost use Rattle.rv_json.specs.Json.{area_data, barrier_data, before_data, explained_data, explanation_data, handler_data, origin_data, reason_data, repeated_data, sum_data, unfetched_data, write_data};
 
 use crate::names::Names;
-use crate::object::send_members;
+use crate::object::{send_kind, send_members, send_one};
 use crate::sent::{ToJson, send_word};
 use rv_answers::{
-    Area, Barrier, Before, Explained, Explanation, Handler, Origin, Reason, Sum, Unfetched, Write,
+    Area, Barrier, Before, Explained, Explanation, Handler, Origin, Reason, Repeated, Sum,
+    Unfetched, Write,
 };
 use serde::Serializer;
 
@@ -35,7 +36,7 @@ impl ToJson for Barrier {
             Barrier::Protection { mode, entry } => {
                 send_members!(_, names, out, kind = "protection", mode, entry)
             }
-            Barrier::Absent(area) => send_members!(_, names, out, kind = "absent", area),
+            Barrier::Absent(area) => send_one("absent", "area", &area, names, out),
         }
     }
 }
@@ -45,13 +46,9 @@ impl ToJson for Unfetched {
 
     #[tactic(auto, unfolding(crate::specs::Json::unfetched_data, crate::specs::Support::Sends::Sends))]
     fn send<S: Serializer>(&self, names: &Names<'_>, out: &mut S) -> Result<(), S::Error> {
-        match *self {
-            Unfetched::Refused(barrier) => {
-                send_members!(_, names, out, kind = "refused", barrier)
-            }
-            Unfetched::NoInstruction(word) => {
-                send_members!(_, names, out, kind = "no_instruction", word)
-            }
+        match self {
+            Unfetched::Refused(barrier) => send_one("refused", "barrier", barrier, names, out),
+            Unfetched::NoInstruction(word) => send_one("no_instruction", "word", word, names, out),
         }
     }
 }
@@ -70,21 +67,28 @@ impl ToJson for Reason {
 
     #[tactic(auto, unfolding(crate::specs::Json::reason_data, crate::specs::Support::Sends::Sends))]
     fn send<S: Serializer>(&self, names: &Names<'_>, out: &mut S) -> Result<(), S::Error> {
-        match *self {
-            Reason::Interrupt(line) => send_members!(_, names, out, kind = "interrupt", line),
-            Reason::NotFetched(why) => send_members!(_, names, out, kind = "not_fetched", why),
-            Reason::Call => send_members!(_, names, out, kind = "call"),
-            Reason::Break => send_members!(_, names, out, kind = "break"),
-            Reason::Target(sum) => send_members!(_, names, out, kind = "target", sum),
+        match self {
+            Reason::Interrupt(line) => send_one("interrupt", "line", line, names, out),
+            Reason::NotFetched(why) => send_one("not_fetched", "why", why, names, out),
+            Reason::Call => send_kind("call", names, out),
+            Reason::Break => send_kind("break", names, out),
+            Reason::Target(sum) => send_one("target", "sum", sum, names, out),
             Reason::Misaligned { size, sum } => {
-                send_members!(_, names, out, kind = "misaligned", size, sum)
+                send_members!(_, names, out, kind = "misaligned", size = *size, sum = *sum)
             }
             Reason::Refused { sum, barrier } => {
-                send_members!(_, names, out, kind = "refused", sum, barrier)
+                send_members!(
+                    _,
+                    names,
+                    out,
+                    kind = "refused",
+                    sum = *sum,
+                    barrier = *barrier
+                )
             }
-            Reason::NoRegister(csr) => send_members!(_, names, out, kind = "no_register", csr),
-            Reason::ReadOnly(csr) => send_members!(_, names, out, kind = "read_only", csr),
-            Reason::MachineOnly => send_members!(_, names, out, kind = "machine_only"),
+            Reason::NoRegister(csr) => send_one("no_register", "csr", csr, names, out),
+            Reason::ReadOnly(csr) => send_one("read_only", "csr", csr, names, out),
+            Reason::MachineOnly => send_kind("machine_only", names, out),
         }
     }
 }
@@ -131,12 +135,21 @@ impl ToJson for Explained {
     }
 }
 
+impl ToJson for Repeated {
+    ghost json = { λ _ r. repeated_data r };
+
+    #[tactic(auto, unfolding(crate::specs::Json::repeated_data))]
+    fn send<S: Serializer>(&self, names: &Names<'_>, out: &mut S) -> Result<(), S::Error> {
+        send_members!(self, names, out, cause, value, address, times)
+    }
+}
+
 impl ToJson for Explanation {
     ghost json = { λ _ e. explanation_data e };
 
     #[tactic(auto, unfolding(crate::specs::Json::explanation_data))]
     fn send<S: Serializer>(&self, names: &Names<'_>, out: &mut S) -> Result<(), S::Error> {
-        send_members!(self, names, out, kind = "why", trap, unseen)
+        send_members!(self, names, out, kind = "why", trap, unseen, repeated)
     }
 }
 

@@ -1,24 +1,20 @@
 //! The faults of a source that is rejected.
 ghost use Rattle.std.specs.Prelude.{◌≡◌};
-ghost use Rattle.rv_json.specs.Json.{fault_data, fault_name, fault_number, faults_data};
+ghost use Rattle.std.specs.List.{count_by};
+ghost use Rattle.rv_json.specs.Json.{fault_data, fault_name, fault_number, faults_data, following, is_misplaced};
 
 use crate::names::Names;
 use crate::object::send_members;
 use crate::sent::{Text, ToJson, send_word};
 use rv_answers::Many;
+use rv_diagnosis::Diagnosis;
 use rv_program::FaultKind;
 use serde::Serializer;
 
-/// A faulty line, with the place that is meant.
+/// A faulty line, with the place that is meant and its sentences.
 #[derive(Drop)]
 pub struct Fault {
-    /// The number of the line, from 1.
-    pub line: usize,
-    /// The number of the place's first byte in the line, from 1.
-    pub column: usize,
-    /// The number of the place's bytes.
-    pub length: usize,
-    pub kind: FaultKind,
+    pub diagnosis: Diagnosis,
     /// What is wrong, in one sentence.
     pub message: Many<u8>,
     /// What mends it; empty if there is nothing to say.
@@ -47,19 +43,43 @@ impl ToJson for Fault {
 
     #[tactic(auto, unfolding(crate::specs::Json::fault_data))]
     fn send<S: Serializer>(&self, names: &Names<'_>, out: &mut S) -> Result<(), S::Error> {
+        let diagnosis = self.diagnosis;
         send_members!(
-            self,
+            diagnosis,
             names,
             out,
             line,
             column,
             length,
-            number = number_of(self.kind),
-            name = self.kind,
+            number = number_of(diagnosis.kind),
+            name = diagnosis.kind,
             message = Text(&self.message),
             advice = Text(&self.advice)
         )
     }
+}
+
+/// The number of the fault of an instruction whose address is no multiple of 4.
+const MISPLACED: u8 = 8;
+
+/// Returns how many faults are those of instructions whose address is no multiple of 4.
+fn misplaced(faults: &[Fault]) -> usize
+    ensures { result ≡ count_by is_misplaced faults.now }
+{
+    let mut count: usize = 0;
+    for fault in faults {
+        if number_of(fault.diagnosis.kind) == MISPLACED {
+            count += 1;
+        }
+    }
+    count
+}
+
+/// Returns how many of them follow the first.
+fn following(faults: &Many<Fault>) -> usize
+    ensures { result ≡ following faults.now }
+{
+    misplaced(faults.items()).saturating_sub(1)
 }
 
 /// The faults of a source.
@@ -71,6 +91,13 @@ impl ToJson for Faults<'_> {
 
     #[tactic(auto, unfolding(crate::specs::Json::faults_data))]
     fn send<S: Serializer>(&self, names: &Names<'_>, out: &mut S) -> Result<(), S::Error> {
-        send_members!(self, names, out, kind = "faults", faults = *self.0)
+        send_members!(
+            self,
+            names,
+            out,
+            kind = "faults",
+            faults = *self.0,
+            following = following(self.0)
+        )
     }
 }

@@ -1,6 +1,6 @@
 //! Objects by their members.
-ghost use Rattle.std.specs.Prelude.{◌≡◌, ◌<◌, List, ℕ, OnOk, min};
-ghost use Rattle.serde_json.specs.Data.{Members, member, no_members, object};
+ghost use Rattle.std.specs.Prelude.{◌≡◌, ◌<◌, List, ℕ, OnOk, codes, min};
+ghost use Rattle.serde_json.specs.Data.{Members, member, no_members, object, string};
 ghost use Rattle.serde_json.specs.Events.{members_len};
 ghost use Rattle.rv_json.specs.Support.Sends.{Sends, SendsAll};
 ghost use Rattle.rv_json.specs.Support.Labels.{labels};
@@ -107,3 +107,37 @@ macro_rules! send_members {
 }
 
 pub(crate) use send_members;
+
+/// Sends an object that has a kind alone.
+pub(crate) fn send_kind<S: Serializer>(
+    kind: &str,
+    names: &Names<'_>,
+    out: &mut S,
+) -> Result<(), S::Error>
+    ensures { OnOk result (Sends (object (member (codes "kind") (string kind.now) no_members))
+        (S.written out.old) (S.written out.new)) }
+{
+    send_members!(_, names, out, kind)
+}
+
+/// Sends an object that has a kind and one other member.
+pub(crate) fn send_one<T: ToJson, S: Serializer>(
+    kind: &str,
+    name: &str,
+    value: &T,
+    names: &Names<'_>,
+    out: &mut S,
+) -> Result<(), S::Error>
+    ensures { OnOk result (Sends (object (member (codes "kind") (string kind.now)
+        (member name.now (T.json (labels names.now) value.now) no_members)))
+        (S.written out.old) (S.written out.new)) }
+{
+    let rest = Member {
+        name,
+        value,
+        rest: End,
+    };
+    let name = "kind";
+    let value = &kind;
+    send_object(&Member { name, value, rest }, names, out)
+}

@@ -18,10 +18,7 @@ fn explained(alloc: Global, source: &[u8], diagnosis: &Diagnosis) -> Result<Faul
 {
     let Explanation { sentence, advice } = explain(alloc, source, diagnosis)?;
     Ok(Fault {
-        line: diagnosis.line,
-        column: diagnosis.column,
-        length: diagnosis.length,
-        kind: diagnosis.kind,
+        diagnosis: *diagnosis,
         message: Many::of(sentence),
         advice: Many::of(advice),
     })

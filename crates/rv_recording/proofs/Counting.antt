@@ -1,6 +1,5 @@
 -- How many steps a run takes.
-use Rattle.std.proofs.Common.{rules}
-use Rattle.std.proofs.Common.{◌≡◌, ◌∙◌, ℕ, zero, suc, ◌+◌, ◌-◌, ◌<◌, ◌≤◌, Bool, true, false, add-one, refl, sym, arith, inl, inr, ⊎_elim}
+use Rattle.std.proofs.Common.{rules, ◌≡◌, ◌∙◌, ℕ, zero, suc, ◌+◌, ◌-◌, ◌<◌, ◌≤◌, Bool, true, false, add-one, refl, sym, arith, inl, inr, ⊎_elim}
 use native.Mathlib.Numerals.{unary_clauses}
 use Rattle.std.specs.Prelude.{if◌then◌else◌, is_some, Option, Some, None}
 use Rattle.std.proofs.lemmas.Bool.{cases_lt, false≢true}

@@ -1,6 +1,5 @@
 -- Runs out of calls, step by step.
-use Rattle.std.proofs.Common.{rules}
-use Rattle.std.proofs.Common.{◌≡◌, ◌∙◌, ℕ, suc, ◌+◌, ◌<◌, ◌==◌, Bool, refl, sym, ap, arith, inl, inr}
+use Rattle.std.proofs.Common.{rules, ◌≡◌, ◌∙◌, ℕ, suc, ◌+◌, ◌<◌, ◌==◌, Bool, refl, sym, ap, arith, inl, inr}
 use Rattle.std.proofs.Math.Numerals.{add-one}
 use Rattle.std.specs.Prelude.{Option, Some, None, Result, Ok, Err}
 use Rattle.rv_base.specs.declared.memory.NoMemory.{NoMemory}
@@ -29,13 +28,6 @@ begins_out first old before in_time at e =
 
 none_is : (end : End) → None ≡ Some end → ⊥
 none_is end h = cc
-
--- a step by its end alone
-takes : (calls left : ℕ) (old new : RecordingState) (r : Result (Option End) NoMemory)
-    → StepsOut calls left old new r → TakesOne (end_after (left == 0) (next_of old.session)) old new r
-takes calls left old new (Ok end) (inl t) = inl (t.0, t.2)
-takes calls left old new (Ok end) (inr t) = inr (t.0, t.1, t.3)
-takes calls left old new (Err why) t = (t.0, t.1, t.2)
 
 module _ (first : ℕ) (old : RecordingState) where
   abbrev ends : ℕ → Option End

@@ -1,6 +1,5 @@
 -- Runs, step by step.
-use Rattle.std.proofs.Common.{rules}
-use Rattle.std.proofs.Common.{◌≡◌, ◌∙◌, ℕ, suc, ◌+◌, ◌-◌, ◌<◌, ◌≤◌, ◌==◌, Bool, true, false, refl, sym, ap, subst, arith, inl, inr, ⊎_elim}
+use Rattle.std.proofs.Common.{rules, ◌≡◌, ◌∙◌, ℕ, suc, ◌+◌, ◌-◌, ◌<◌, ◌≤◌, ◌==◌, Bool, true, false, refl, sym, ap, subst, arith, inl, inr, ⊎_elim}
 use Rattle.std.specs.Prelude.{◌&&◌, zero, nat_lt, if◌then◌else◌, is_none, is_some, unwrap_or, Option, Some, None, Ok, Err}
 use Rattle.std.proofs.Math.Numerals.{add-one}
 use Rattle.std.proofs.lemmas.Bool.{cases_lt, false≢true}
@@ -10,7 +9,6 @@ use Rattle.rv_board.specs.Support.State.{halted_of}
 use Rattle.rv_monitor.specs.State.{Addresses, IsInTime, SessionState, TimedState, after, with_due}
 use Rattle.rv_monitor.specs.Stops.{may_step, steps_between}
 use Rattle.rv_monitor.proofs.Steps.{after_none, after_more}
-use Rattle.rv_hart.specs.Step.{step}
 use Rattle.rv_recording.specs.Recording.{RecordingState, with_timed}
 use Rattle.rv_recording.specs.Until.{HasRun, comes, end_at, holds, steps_of, until_ends}
 use Rattle.rv_recording.specs.Refused.{IsRefusedIn, NoneEnds}
@@ -30,9 +28,6 @@ pub record Going (ends : ℕ → Option End) (old now : RecordingState) (n : ℕ
   pub state : now ≡ stands old n
   pub going : NoneEnds ends (suc n)
   pub may : may_step now.session ≡ true
-
-none_is : (end : End) → None ≡ Some end → ⊥
-none_is end h = cc
 
 pub taken_is : (old now : RecordingState) (n : ℕ) → now ≡ stands old n
     → n ≡ steps_between old.session.timed now.session.timed
@@ -85,6 +80,9 @@ over_before ends old most before end in_time is e =
           ∙ ap (λ (n : ℕ). record old.session { timed = after old.session.timed n }) (sym none);
       ended = sym (ap (λ (n : ℕ). unwrap_or (ends n) Limit) none ∙ ap (λ (o : Option End). unwrap_or o Limit) (sym is ∙ e));
     }
+
+none_is : (end : End) → None ≡ Some end → ⊥
+none_is end h = cc
 
 module _ (ends : ℕ → Option End) (old : RecordingState) where
   -- one step more of a recording

@@ -1,6 +1,5 @@
 -- What the calls of a session leave is a recording as well.
-use Rattle.std.proofs.Common.{rules}
-use Rattle.std.proofs.Common.{◌≡◌, ◌∙◌, ℕ, ◌-◌, ◌*◌, ◌<◌, ◌≤◌, Bool, true, false, List, [], ◌∷◌, length, refl, sym, ap, arith, inl, inr}
+use Rattle.std.proofs.Common.{rules, ◌≡◌, ◌∙◌, ℕ, ◌-◌, ◌*◌, ◌<◌, ◌≤◌, Bool, true, false, List, [], ◌∷◌, length, refl, sym, ap, arith, inl, inr}
 use Rattle.std.proofs.lemmas.Bool.Decides.{nat_tests}
 use Rattle.std.specs.FinSet as set
 use Rattle.std.specs.Prelude.{◌⊎◌, ◌&&◌, nat_le, nat_lt, is_none, min, if◌then◌else◌, option_and_then, Option, Some, None, Result, Ok, Err, OnOk, OnErr, OnOk}
@@ -23,7 +22,6 @@ use Rattle.rv_monitor.specs.Events.{events_of}
 use Rattle.rv_monitor.specs.Laws.{IsReached}
 use Rattle.rv_monitor.specs.Resumed.{resumed, resumed_at}
 use Rattle.rv_monitor.specs.State.{Addresses, SessionState, TimedState, begun, after, with_due, given, with_break, without_break}
-use Rattle.rv_monitor.specs.State as monitor
 use Rattle.rv_monitor.specs.Stops.{Took, WasRefused, TakesStep}
 use Rattle.rv_monitor.specs.declared.stop.Stop.{Stop}
 use Rattle.rv_monitor.proofs.Given.{given_stands, reached_steps}
@@ -184,14 +182,7 @@ module _ (s new : SessionState) (p q : ℕ) (ks : List KeptBoard) (h : Stands s 
   left (Some (Go n)) t = took s.breakpoints.addresses (going_for s n) t
   left (Some (SetBreak addr)) e = search (rules, arith, same_timed)
   left (Some (ClearBreak addr)) e = search (rules, arith, same_timed)
-  left (Some Registers) e = unchanged e
-  left (Some (ControlRegister name csr)) e = unchanged e
-  left (Some (Memory addr count)) e = unchanged e
-  left (Some (Instruction addr)) e = unchanged e
-  left (Some Traps) e = unchanged e
-  left (Some (Edges source)) e = unchanged e
-  left (Some Quit) e = unchanged e
-  left (Some Nothing) e = unchanged e
+  left c e = unchanged e
 
   step_refused : (a : Addresses) (n : ℕ) → (new ≡ s) ⊎ WasRefused a n s new → Stands new p q ks
   step_refused a n (inl e) = unchanged e
@@ -203,14 +194,7 @@ module _ (s new : SessionState) (p q : ℕ) (ks : List KeptBoard) (h : Stands s 
   left_refused (Some (Go n)) f = step_refused s.breakpoints.addresses (going_for s n) f
   left_refused (Some (SetBreak addr)) e = unchanged e
   left_refused (Some (ClearBreak addr)) e = unchanged e
-  left_refused (Some Registers) e = unchanged e
-  left_refused (Some (ControlRegister name csr)) e = unchanged e
-  left_refused (Some (Memory addr count)) e = unchanged e
-  left_refused (Some (Instruction addr)) e = unchanged e
-  left_refused (Some Traps) e = unchanged e
-  left_refused (Some (Edges source)) e = unchanged e
-  left_refused (Some Quit) e = unchanged e
-  left_refused (Some Nothing) e = unchanged e
+  left_refused c e = unchanged e
 
   pub commanded : {A : Type 0} (c : Option Command) (r : Result A NoMemory) → OnOk r (Leaves c s new)
       → OnErr r (LeavesRefused c s new) → Stands new p q ks

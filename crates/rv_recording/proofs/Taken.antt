@@ -1,9 +1,7 @@
 -- Calls of a session are runs.
-use Rattle.std.proofs.Common.{rules}
-use Rattle.std.proofs.Common.{◌≡◌, ◌∙◌, ℕ, suc, ◌+◌, ◌-◌, ◌<◌, ◌≤◌, Bool, true, false, refl, ap, subst, arith, inl, inr, ⊎_elim}
+use Rattle.std.proofs.Common.{rules, ◌≡◌, ◌∙◌, ℕ, suc, ◌+◌, ◌-◌, ◌<◌, ◌≤◌, Bool, true, false, refl, ap, subst, arith, inl, inr, ⊎_elim}
 use Rattle.std.specs.Prelude.{◌&&◌, min, nat_lt, if◌then◌else◌, is_some, unwrap_or, Option, Some, None, Result, Ok, Err, OnErr}
 use Rattle.rv_base.specs.declared.memory.NoMemory.{NoMemory}
-use Rattle.std.specs.FinSet as set
 use Rattle.std.proofs.lemmas.Bool.{cases_lt, false≢true}
 use Rattle.rv_monitor.specs.State.{Addresses, SessionState, TimedState, after, with_due}
 use Rattle.rv_monitor.specs.Stops.{Took, WasRefused, steps_between, stop_after, stop_of}

@@ -58,15 +58,9 @@ impl KeptState {
 ///
 /// There are few. A new one takes the place of one whose neighbours are near to each other, so that states
 /// lie the closer the nearer they are to the present.
+#[derive(Drop)]
 pub(crate) struct KeptStates {
     states: Vec<KeptState>,
-}
-
-// Hand-written: a derived `Drop` would be proved anew at each exit (docs/PROVING.md).
-impl Drop for KeptStates {
-    fn drop(self) {
-        let KeptStates { states: _ } = self;
-    }
 }
 
 impl Model for KeptStates {

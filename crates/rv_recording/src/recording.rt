@@ -30,6 +30,7 @@ use std::marker::Model;
 pub const LAST_STEP: u64 = 9_999_999_999;
 
 /// A session of a booted board, with what is needed to run it again.
+#[derive(Drop)]
 pub struct Recording {
     alloc: Global,
     session: Session<PagedRam, DecodeCache>,
@@ -37,19 +38,6 @@ pub struct Recording {
     slots: u32,
     /// States on the way, which going back begins at.
     kept: KeptStates,
-}
-
-// Hand-written: a derived `Drop` would be proved anew at each exit (docs/PROVING.md).
-impl Drop for Recording {
-    fn drop(self) {
-        let Recording {
-            alloc: _,
-            session: _,
-            pages: _,
-            slots: _,
-            kept: _,
-        } = self;
-    }
 }
 
 impl Model for Recording {

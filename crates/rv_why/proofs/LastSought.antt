@@ -84,9 +84,6 @@ last_later x s k (suc m) h =
 
 module _ (r : RecordingState) (reached : IsReached (first_board r) r.session.timed) (t : TimedState) (k : ℕ)
     (e : t ≡ (gone_back r k).session.timed) where
-  pub near_in_time : IsInTime t
-  near_in_time = subst IsInTime (sym e) (in_time_after (first_state r) k (first_in_time r reached))
-
   pub near_running : (most i : ℕ) → k + most ≤ r.session.timed.taken → i < most → halted_of (after t i).board ≡ None
   near_running most i h l =
       ap (λ (u : TimedState). halted_of (after u i).board) e

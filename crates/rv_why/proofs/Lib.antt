@@ -4,3 +4,4 @@ pub mod Told
 pub mod Replays
 pub mod SameFetch
 pub mod LastSought
+pub mod Repeating

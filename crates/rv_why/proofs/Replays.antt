@@ -12,6 +12,8 @@ use Rattle.rv_hart.specs.declared.trap.Outcome.{Outcome}
 use Rattle.rv_hart.specs.declared.trap.Outcome.TheVariants.{Trapped}
 use Rattle.rv_answers.specs.declared.explained.Explained.{Explained}
 use Rattle.rv_answers.specs.declared.explained.Explanation.{Explanation}
+use Rattle.rv_answers.specs.declared.explained.Repeated.{Repeated}
+use Rattle.rv_why.specs.Repeats.{last_repeated}
 use Rattle.rv_why.specs.Taken.{board_at, first_state, outcome_at}
 use Rattle.rv_why.specs.Why.{explained, explanation, told}
 use Rattle.rv_why.specs.Support.Found.{IsTold}
@@ -34,9 +36,6 @@ module _ (r : RecordingState) (reached : IsReached (first_board r) r.session.tim
       let none : min 0 r.session.timed.taken ≡ 0 = omega arith in
       e ∙ (ap (after (first_state r)) none ∙ after_none (first_state r) (first_in_time r reached))
 
-  pub begins_in_time : IsInTime t
-  begins_in_time = subst IsInTime (sym is_first) (first_in_time r reached)
-
   pub begins_running : (most i : ℕ) → most ≤ r.session.timed.taken → i < most → halted_of (after t i).board ≡ None
   begins_running most i h l =
       ap (λ (u : TimedState). halted_of (after u i).board) is_first ∙ reached.running i (omega (arith, h, l))
@@ -48,25 +47,27 @@ module _ (r : RecordingState) (reached : IsReached (first_board r) r.session.tim
   told_first most o h = subst (λ (u : TimedState). IsTold u most o) is_first h
 
 module _ (r : RecordingState) (most unseen : ℕ) (all : most ≡ min r.session.timed.taken 20000000)
-    (left : unseen ≡ r.session.timed.taken - 20000000) where
+    (left : unseen ≡ r.session.timed.taken - 20000000) (repeated : Option Repeated)
+    (again : repeated ≡ last_repeated r.session.timed.board.traps) where
   abbrev trap_of : Option ℕ → Option Explained
   trap_of n = option_and_then (λ n. explained (first_state r) n (outcome_at (first_state r) n)) n
 
   told_by : (trap : Option Explained) (n : Option ℕ) → told (first_state r) most ≡ n → trap_of n ≡ trap
-      → ◌≡◌ {A = Explanation} (record { trap = trap; unseen = unseen }) (explanation r)
+      → ◌≡◌ {A = Explanation} (record { trap = trap; unseen = unseen; repeated = repeated }) (explanation r)
   unfolding explanation
   told_by trap n is e =
       let here : trap_of (told (first_state r) (min r.session.timed.taken 20000000)) ≡ trap =
       ap (λ (k : ℕ). trap_of (told (first_state r) k)) (sym all) ∙ (ap trap_of is ∙ e) in
-      ap (λ (o : Option Explained). record { trap = o; unseen = unseen }) (sym here)
-      ∙ ap (λ (k : ℕ). record { trap = trap_of (told (first_state r) (min r.session.timed.taken 20000000)); unseen = k }) left
+      ap (λ (o : Option Explained). record { trap = o; unseen = unseen; repeated = repeated }) (sym here)
+      ∙ (ap (λ (k : ℕ). record { trap = trap_of (told (first_state r) (min r.session.timed.taken 20000000)); unseen = k; repeated = repeated }) left
+      ∙ ap (λ (t : Option Repeated). record { trap = trap_of (told (first_state r) (min r.session.timed.taken 20000000)); unseen = r.session.timed.taken - 20000000; repeated = t }) again)
 
   pub none_told : IsTold (first_state r) most None
-      → ◌≡◌ {A = Explanation} (record { trap = None; unseen = unseen }) (explanation r)
+      → ◌≡◌ {A = Explanation} (record { trap = None; unseen = unseen; repeated = repeated }) (explanation r)
   none_told h = told_by None None h refl
 
   pub some_told : (f : Found) (x : Explained) → IsTold (first_state r) most (Some f)
       → explained (first_state r) f.step (Trapped f.cause f.epc f.tval) ≡ Some x
-      → ◌≡◌ {A = Explanation} (record { trap = Some x; unseen = unseen }) (explanation r)
+      → ◌≡◌ {A = Explanation} (record { trap = Some x; unseen = unseen; repeated = repeated }) (explanation r)
   some_told f x h e =
       told_by (Some x) (Some f.step) h.0 (ap (λ (o : Outcome). explained (first_state r) f.step o) h.2.0 ∙ e)

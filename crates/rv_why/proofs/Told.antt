@@ -102,7 +102,3 @@ module _ (first now : SessionState) (found : Option Found) (n : ℕ) (h : IsInTi
           let later = ap (told first.timed) (sym sum)
           ∙ stays first.timed (n + 1) (most - (n + 1)) (ends_is ∙ e) in
           (later ∙ told_now.0, omega (arith, trap.0, l), told_now.2)
-
-pub all_seen : (first now : SessionState) (found : Option Found) (n most : ℕ) → Searching first now found n
-    → n ≡ most → IsTold first.timed most found
-all_seen first now found n most at e = subst (λ (k : ℕ). IsTold first.timed k found) e at.told

@@ -1,4 +1,5 @@
 pub mod Taken
 pub mod Origins
+pub mod Repeats
 pub mod Why
 pub mod Support

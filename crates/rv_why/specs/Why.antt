@@ -42,6 +42,7 @@ use Rattle.rv_answers.specs.declared.explained.Handler.{Handler}
 use Rattle.rv_answers.specs.declared.explained.Explained.{Explained}
 use Rattle.rv_answers.specs.declared.explained.Explanation.{Explanation}
 use Rattle.rv_why.specs.Origins.{last_write}
+use Rattle.rv_why.specs.Repeats.{last_repeated}
 use Rattle.rv_why.specs.Taken.{board_at, first_state, is_trap, outcome_at}
 
 -- ---- what lets no access through
@@ -131,10 +132,9 @@ before_of b = record {
   sum = option_and_then (jump_sum b) (option_and_then means (word_at b b.machine.pc));
 }
 
--- the instruction before the step that follows n steps, where the word at pc couldn't be fetched (cause 1)
-abbrev pub before_trap : TimedState → (cause n : ℕ) → Option Before
-before_trap s cause n =
-    if cause == 1 then (if n == 0 then None else Some (before_of (board_at s (n - 1)))) else None
+-- the instruction before the step that follows n steps
+abbrev pub before_step : TimedState → ℕ → Option Before
+before_step s n = if n == 0 then None else Some (before_of (board_at s (n - 1)))
 
 -- the word at an address on a board, if it is another one on a later board
 abbrev pub overwritten : (first now : BoardState) → ℕ → Option ℕ
@@ -158,7 +158,7 @@ explained s n (Trapped cause epc tval) = Some (record {
   overwritten = overwritten (board_at s 0) (board_at s n) epc;
   writer = writer s epc n (overwritten (board_at s 0) (board_at s n) epc);
   reason = why_trapped (board_at s n) (Trapped cause epc tval);
-  before = before_trap s cause n;
+  before = before_step s n;
   handler = handler_of (board_at s (n + 1));
 })
 explained s n did = None
@@ -182,4 +182,5 @@ explanation r = record {
   trap = option_and_then (λ n. explained (first_state r) n (outcome_at (first_state r) n))
       (told (first_state r) (min r.session.timed.taken 20000000));
   unseen = r.session.timed.taken - 20000000;
+  repeated = last_repeated r.session.timed.board.traps;
 }

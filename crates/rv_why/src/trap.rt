@@ -1,14 +1,16 @@
 //! A trap that is told, with why it came.
 ghost use Rattle.std.specs.Prelude.{◌≡◌, ◌==◌, ◌+◌, ◌-◌, ◌<◌, ◌≤◌, if◌then◌else◌, None, Some, IfOk};
 ghost use Rattle.rv_hart.specs.declared.trap.Outcome.TheVariants.{Trapped};
+ghost use Rattle.rv_why.specs.Repeats.{last_repeated};
 ghost use Rattle.rv_why.specs.Why as spec;
 ghost use Rattle.rv_why.specs.Taken.{board_at, first_state};
 ghost use Rattle.rv_why.specs.Why.{explanation, handler_of};
 
 use crate::reason::{before_of, why_trapped};
+use crate::repeats::last_repeated;
 use crate::search::{Found, find_trap};
 use crate::writes::last_write;
-use rv_answers::{Before, Explained, Explanation, Write};
+use rv_answers::{Before, Explained, Explanation, Repeated, Write};
 use rv_base::NoMemory;
 use rv_board::BootedBoard;
 use rv_cache::DecodeCache;
@@ -34,25 +36,13 @@ pub(crate) fn at_step(
 /// Returns the instruction before the step that follows some steps, if there is one.
 fn before_step(recording: &Recording, steps: u64) -> Result<Option<Before>, NoMemory>
     requires { steps ≤ recording.now.session.timed.taken }
-    ensures { IfOk result (λ b. b ≡ (if steps == 0 then None
-        else Some (spec.before_of (board_at (first_state recording.now) (steps - 1))))) }
+    ensures { IfOk result (λ b. b ≡ spec.before_step (first_state recording.now) steps) }
 {
     if steps == 0 {
         return Ok(None);
     }
     let run = at_step(recording, steps - 1)?;
     Ok(Some(before_of(run.board())))
-}
-
-/// Returns the instruction before a trap, if that is a fetch that was refused.
-fn before_trap(recording: &Recording, cause: u32, steps: u64) -> Result<Option<Before>, NoMemory>
-    requires { steps ≤ recording.now.session.timed.taken }
-    ensures { IfOk result (λ b. b ≡ spec.before_trap (first_state recording.now) cause steps) }
-{
-    if cause == 1 {
-        return before_step(recording, steps);
-    }
-    Ok(None)
 }
 
 /// Returns the word that was at an address first, if it is another one now.
@@ -98,7 +88,7 @@ fn explained(recording: &Recording, found: Found) -> Result<Explained, NoMemory>
         tval,
         handler,
     } = found;
-    let before = before_trap(recording, cause, step)?;
+    let before = before_step(recording, step)?;
     let first = at_step(recording, 0)?;
     let run = at_step(recording, step)?;
     let board = run.board();
@@ -119,6 +109,13 @@ fn explained(recording: &Recording, found: Found) -> Result<Explained, NoMemory>
     })
 }
 
+/// Returns the last trap of a recording, if there was one.
+fn last_of(recording: &Recording) -> Option<Repeated>
+    ensures { result ≡ last_repeated recording.now.session.timed.board.traps }
+{
+    last_repeated(recording.session().board())
+}
+
 /// Explains the first trap of a recording that met no handler, or else the last one.
 ///
 /// # Errors
@@ -137,5 +134,6 @@ pub fn explain(recording: &Recording) -> Result<Explanation, NoMemory>
     Ok(Explanation {
         trap,
         unseen: taken.saturating_sub(MOST),
+        repeated: last_of(recording),
     })
 }

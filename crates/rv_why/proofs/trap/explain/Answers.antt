@@ -38,9 +38,10 @@ returns c =
     elim c.match-branch-3.branch [
       | in-Some+in_ok-explained-in-Some w ↦
           rw w.trap-is
-          (some_told c.args.recording.now c.min.result c.saturating_sub.result most left w.in-Some.found _
+          (some_told c.args.recording.now c.min.result c.saturating_sub.result most left c.last_of.result c.last_of.ensures w.in-Some.found _
           (rw w.in-Some.is at told) w.in_ok-explained-in-Some.ensures)
       | in-None w ↦
           rw w.trap-is
-          (none_told c.args.recording.now c.min.result c.saturating_sub.result most left (rw w.in-None.is at told))
+          (none_told c.args.recording.now c.min.result c.saturating_sub.result most left c.last_of.result c.last_of.ensures
+          (rw w.in-None.is at told))
     ]
