@@ -74,11 +74,10 @@ locals_on k here (label.Local number ∷ ls) = search (rules, All-cons, here, lo
 pub up_to_labelled : (k : ℕ) (known : Known) (ls : List Label) → IsUpTo k known → IsUpTo k (labelled k known ls)
 up_to_labelled k known ls h = search (rules, All-append, locals_on)
 
--- ---- a line by its labels and its statement
-
-pub not_stated : (k : ℕ) (known : Known) → stated k known None ≡ known
-unfolding emitted
-not_stated k known = rw (append-nil, add-zero) refl
+pub up_to_before : (lines : List Parsed) (n : ℕ) → IsUpTo n (known_before lines n)
+unfolding known_before
+up_to_before lines zero = All-nil (λ (d : LocalLabel). d.line ≤ 0)
+up_to_before lines (suc n) = search (rules, All-weaker, up_to_labelled, up_to_before lines n)
 
 -- ---- the fault of a line in phase two
 
@@ -86,13 +85,6 @@ pub phase_two_is : (lines : List Parsed) (n : ℕ) →
     phase_two_fault lines n ≡ fault_on n (known_before lines n) (line_at lines n)
 unfolding phase_two_fault fault_on
 phase_two_is lines n = search (rules, redefines-append)
-
--- ---- local labels are in order of lines
-
-pub up_to_before : (lines : List Parsed) (n : ℕ) → IsUpTo n (known_before lines n)
-unfolding known_before
-up_to_before lines zero = All-nil (λ (d : LocalLabel). d.line ≤ 0)
-up_to_before lines (suc n) = search (rules, All-weaker, up_to_labelled, up_to_before lines n)
 
 -- ---- one more line
 
@@ -121,6 +113,10 @@ pub not_some : {A : Type 0} (o : Option A) → is_some o ≡ false → o ≡ Non
 not_some o h = search rules
 
 -- ---- a line by its labels and its statement
+
+pub not_stated : (k : ℕ) (known : Known) → stated k known None ≡ known
+unfolding emitted
+not_stated k known = rw (append-nil, add-zero) refl
 
 module _ (k : ℕ) (known : Known) (line : Parsed) (items : List Item) where
   pub lays_duplicate : (after : Known) (more : List Item) → relabels known line.labels ≡ true →

@@ -49,11 +49,6 @@ module _ (lines : List Parsed) where
       let more = length-append (joined (λ k. listed_of (bytes_by ds lines k)) n) (listed_of (bytes_by ds lines n)) in
       rw joined_more (omega (arith, more, before, last))
 
--- ---- no fault
-
-none_at : (fault : ℕ → Option FaultKind) (n k : ℕ) → all_faults fault n ≡ [] → k < n → fault k ≡ None
-none_at fault n k h p = none_last fault k (none_before fault (suc k) n h (omega (arith, p)))
-
 -- ---- an accepted source has no fault
 
 pub record IsAccepted (source : List ℕ) (a : Assembly) : Type 0 where
@@ -108,15 +103,11 @@ record AreUpTo (here : ℕ) (xs : Labels) : Type 0 where
   below : All (λ (l : List ℕ × ℕ). l.1 ≤ here) xs
   rises : IsNonDecreasingBy (λ (l : List ℕ × ℕ). l.1) xs
 
-below_at : (here : ℕ) (xs : Labels) (d : List ℕ × ℕ) (k : ℕ) → All (λ (l : List ℕ × ℕ). l.1 ≤ here) xs →
-    k < length xs → (get_or xs k d).1 ≤ here
-below_at here xs d k h p = All-get_or (λ (l : List ℕ × ℕ). l.1 ≤ here) xs k d p h
-
 push_up : (here : ℕ) (xs : Labels) (name : List ℕ) → AreUpTo here xs → AreUpTo here (xs ++ (name, here) ∷ [])
 push_up here xs name h = record {
   below = All-push (λ (l : List ℕ × ℕ). l.1 ≤ here) xs (name, here) h.below (omega arith);
   rises = IsNonDecreasingBy-push (λ (l : List ℕ × ℕ). l.1) xs (name, here) h.rises
-      (λ d p. below_at here xs d (length xs - 1) h.below (omega (arith, p)));
+      (λ d p. All-get_or (λ (l : List ℕ × ℕ). l.1 ≤ here) xs (length xs - 1) d (omega (arith, p)) h.below);
 }
 
 labels_up : (here : ℕ) (xs : Labels) (ls : List Label) → AreUpTo here xs →
@@ -217,8 +208,8 @@ module _ (source : List ℕ) (a : Assembly) where
   pub are_lines : assembled source ≡ Ok a → AreLinesOf source listing
   are_lines h = let ok = accepted source a h in record {
     value = listing_is h;
-    each = λ k p. is_ok ok (line_bytes parsed k) (none_at (phase_three_fault parsed) n k ok.three p) ∙
-        ap (λ bs. Ok bs) (sym (line_is ok k p));
+    each = λ k p. is_ok ok (line_bytes parsed k) (none_last (phase_three_fault parsed) k
+        (none_before (phase_three_fault parsed) (suc k) n ok.three (omega (arith, p)))) ∙ ap (λ bs. Ok bs) (sym (line_is ok k p));
     all = all_joined ok;
     end = reaches_end ok;
   }

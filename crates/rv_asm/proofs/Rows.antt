@@ -180,12 +180,11 @@ row_is early c here statement k = search rules
 
 -- ---- the bytes of a statement are as many as its row says
 
-module _ (early late : Valuation) (here : ℕ) (bs : List ℕ) where
-  pub statement_size : (statement : Statement) → (emitted early here statement).contents late ≡ Ok bs →
-      length bs ≡ (emitted early here statement).size
-  unfolding emitted
-  statement_size statement h =
-      search (rules, placed_counted, then_counted, mapped_counted, length_bytes, length-append, length-replicate)
+pub statement_size : (early late : Valuation) (here : ℕ) (bs : List ℕ) (statement : Statement)
+    → (emitted early here statement).contents late ≡ Ok bs → length bs ≡ (emitted early here statement).size
+unfolding emitted
+statement_size early late here bs statement h =
+    search (rules, placed_counted, then_counted, mapped_counted, length_bytes, length-append, length-replicate)
 
 -- ---- the last test of a statement in phase two
 

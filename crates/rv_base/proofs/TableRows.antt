@@ -5,7 +5,6 @@ use Rattle.std.specs.Borrow.{Bor}
 use Rattle.std.specs.Str.{bytes_eq}
 use Rattle.std.proofs.lemmas.Bool.Decides.{nat_tests}
 use Rattle.std.proofs.lemmas.List.{drop_all, drop_more}
-use Rattle.std.proofs.lemmas.Slice.Eq.{bytes_eq-Decides}
 use Rattle.rv_base.specs.Tables.{lookup, rows}
 
 -- a row of another name
@@ -34,8 +33,5 @@ bytes_eq-swapped [] [] = refl
 bytes_eq-swapped [] (y ∷ ys) = refl
 bytes_eq-swapped (x ∷ xs) [] = refl
 bytes_eq-swapped (x ∷ xs) (y ∷ ys) = rw (same_byte x y, bytes_eq-swapped xs ys) refl
-
-pub same_bytes : (xs ys : List ℕ) → bytes_eq xs ys ≡ true → xs ≡ ys
-same_bytes xs ys h = (bytes_eq-Decides xs ys).0 h
 
 pub ruleset row_steps = (other_row, same_row, no_row)

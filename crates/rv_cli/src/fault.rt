@@ -1,10 +1,11 @@
 //! How a run ends, the faults for which it has no ending, the line of each, and the exit statuses.
 ghost use Rattle.std.specs.Prelude.{◌≡◌, ◌++◌, Err, IfErr, IfOk, Ok, OnErr, OnOk, Some, false};
-ghost use Rattle.rv_monitor.specs.Views as spec;
+ghost use Rattle.rv_monitor.specs.Views as views;
 ghost use Rattle.rv_cli.specs.Support.Shown.{IsAppended, input_line_of};
 ghost use Rattle.rv_cli.specs.Faults.{fault_row, status_of};
 ghost use Rattle.rv_cli.specs.Support.Numbered.{has_number, line_of, source_line_of};
-ghost use Rattle.rv_cli.specs.Conversions.{unreadable};
+ghost use Rattle.rv_cli.specs.Conversions.{unbooted_fault};
+ghost use Rattle.rv_cli.specs.Conversions as spec;
 
 use rv_base::NoMemory;
 use rv_board::BootFault;
@@ -72,19 +73,14 @@ impl From<NoMemory> for CliFault {
     }
 }
 
-/// A text that can't be read: its file isn't opened, its reader fails, or it is too long.
-impl From<TextName> for CliFault {
-    ghost use Rattle.std.specs.Prelude.{◌≡◌};
-    ghost use Rattle.rv_cli.specs.Conversions.{unreadable};
-
-    ghost from_gives = { λ text fault. fault ≡ unreadable text };
-
-    fn from(text: TextName) -> Self {
-        match text {
-            TextName::Source => CliFault::ReadSource,
-            TextName::Input => CliFault::ReadInput,
-            TextName::Commands => CliFault::ReadCommands,
-        }
+/// Returns the fault of a text that can't be read: its file isn't opened, its reader fails, or it is too long.
+fn unreadable(text: TextName) -> CliFault
+    ensures { result ≡ spec.unreadable text }
+{
+    match text {
+        TextName::Source => CliFault::ReadSource,
+        TextName::Input => CliFault::ReadInput,
+        TextName::Commands => CliFault::ReadCommands,
     }
 }
 
@@ -97,26 +93,21 @@ impl From<ReadFault> for CliFault {
 
     fn from(why: ReadFault) -> Self {
         match why {
-            ReadFault::Unreadable(text) => CliFault::from(text),
+            ReadFault::Unreadable(text) => unreadable(text),
             ReadFault::OutOfMemory => CliFault::OutOfMemory,
         }
     }
 }
 
-/// The fault of a board that isn't booted.
-impl From<BootFault> for CliFault {
-    ghost use Rattle.std.specs.Prelude.{◌≡◌};
-    ghost use Rattle.rv_cli.specs.Conversions.{unbooted_fault};
-
-    ghost from_gives = { λ why fault. fault ≡ unbooted_fault why };
-
-    fn from(why: BootFault) -> Self {
-        match why {
-            BootFault::BadPages => CliFault::BadPages,
-            BootFault::BadSlots => CliFault::BadSlots,
-            BootFault::ImageTooLarge => CliFault::ImageTooLarge,
-            BootFault::OutOfMemory => CliFault::OutOfMemory,
-        }
+/// Returns the fault of a board that isn't booted.
+fn unbooted(why: BootFault) -> CliFault
+    ensures { result ≡ unbooted_fault why }
+{
+    match why {
+        BootFault::BadPages => CliFault::BadPages,
+        BootFault::BadSlots => CliFault::BadSlots,
+        BootFault::ImageTooLarge => CliFault::ImageTooLarge,
+        BootFault::OutOfMemory => CliFault::OutOfMemory,
     }
 }
 
@@ -145,7 +136,7 @@ impl From<OpenFault> for CliFault {
     fn from(why: OpenFault) -> Self {
         match why {
             OpenFault::Input(line) => CliFault::Input(line),
-            OpenFault::Board(why) => CliFault::from(why),
+            OpenFault::Board(why) => unbooted(why),
             OpenFault::OutOfMemory => CliFault::OutOfMemory,
         }
     }
@@ -166,11 +157,11 @@ impl From<OutFailed> for CliFault {
 /// Returns the file of a text, or the fault of the text's reader if the file can't be opened.
 pub fn file_or_fault<F: Drop>(text: TextName, file: io::Result<F>) -> Result<F, CliFault>
     ensures ok { IfOk file (λ f. result ≡ Ok f) }
-    ensures err { IfErr file (λ _. result ≡ Err (unreadable text)) }
+    ensures err { IfErr file (λ _. result ≡ Err (spec.unreadable text)) }
 {
     match file {
         Ok(file) => Ok(file),
-        Err(_) => Err(CliFault::from(text)),
+        Err(_) => Err(unreadable(text)),
     }
 }
 
@@ -244,7 +235,7 @@ pub(crate) fn append_line<D: fmt::Display>(shown: &D, line: &mut Vec<u8>) -> Res
 ///
 /// `NoMemory` if memory runs out. `line` is left as it was.
 pub fn fault_line(fault: &CliFault, line: &mut Vec<u8>) -> Result<(), NoMemory>
-    ensures ok { OnOk result (line.new.items ≡ line.old.items ++ spec.line (fault_row fault.now).0) }
+    ensures ok { OnOk result (line.new.items ≡ line.old.items ++ views.line (fault_row fault.now).0) }
     ensures err { OnErr result (line.new.items ≡ line.old.items) }
 {
     match *fault {

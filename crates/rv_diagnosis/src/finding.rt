@@ -70,45 +70,55 @@ fn duplicate(
 
 // ---- values
 
-/// Returns whether a token is a symbol without a value on a line, where `early` counts only those that it or
-/// a line before it defines.
-fn is_unknown(review: &Reviewed, line: usize, early: bool, token: &Token) -> bool {
+/// A line that asks for values, where `is_early` counts only the symbols that it or a line before it defines.
+#[derive(Clone, Copy)]
+struct Asking<'r> {
+    review: &'r Reviewed,
+    line: usize,
+    is_early: bool,
+}
+
+/// Returns whether a token is a symbol without a value on a line.
+fn is_unknown(asking: &Asking<'_>, token: &Token) -> bool {
+    let Asking {
+        review,
+        line,
+        is_early,
+    } = *asking;
     match token {
         Token::Name(name) if name.bytes() != b".".as_slice() => {
             match review.line_of(name.bytes()) {
-                Some(origin) => early && origin > line,
+                Some(origin) => is_early && origin > line,
                 None => true,
             }
         }
         Token::Local {
             number,
             direction: Direction::Forward,
-        } => early || !review.has_local(line, *number, Direction::Forward),
+        } => is_early || !review.has_local(line, *number, Direction::Forward),
         Token::Local { number, direction } => !review.has_local(line, *number, *direction),
         _ => false,
     }
 }
 
 /// Returns how many tokens precede the first symbol without a value.
-fn count_known(review: &Reviewed, line: usize, early: bool, tokens: &[Token]) -> usize
+fn count_known(asking: &Asking<'_>, tokens: &[Token]) -> usize
     ensures { result ≤ length tokens.now }
 {
     let [first, rest @ ..] = tokens else {
         return 0;
     };
-    if is_unknown(review, line, early, first) {
+    if is_unknown(asking, first) {
         0
     } else {
-        1 + count_known(review, line, early, rest)
+        1 + count_known(asking, rest)
     }
 }
 
 /// Returns the index of the first token of an operand that is a symbol without a value.
 fn unknown(
     alloc: Global,
-    review: &Reviewed,
-    line: usize,
-    early: bool,
+    asking: &Asking<'_>,
     text: &[u8],
     operand: &Operand,
 ) -> Result<Option<usize>, NoMemory> {
@@ -118,25 +128,24 @@ fn unknown(
     let first = operand.first.min(tokens.len());
     let rest = tokens.as_slice().split_at(first).1;
     let count = operand.count.min(rest.len());
-    let known = count_known(review, line, early, rest.split_at(count).0);
+    let known = count_known(asking, rest.split_at(count).0);
     Ok((known < count).then_some(first.saturating_add(known)))
 }
 
 /// Returns the place that the value of an operand means which is missing or isn't in the range of a field.
 fn value_finding(
     alloc: Global,
-    review: &Reviewed,
-    line: usize,
-    early: bool,
+    asking: &Asking<'_>,
     text: &[u8],
     operand: &Operand,
     field: Field,
 ) -> Result<Finding, NoMemory>
     ensures { IfOk result (λ f. f.place.column + f.place.len ≤ length text.now) }
 {
-    let value = review.value(line, operand);
-    if (early || value.is_none())
-        && let Some(index) = unknown(alloc, review, line, early, text, operand)?
+    let review = asking.review;
+    let value = review.value(asking.line, operand);
+    if (asking.is_early || value.is_none())
+        && let Some(index) = unknown(alloc, asking, text, operand)?
     {
         return Ok(Finding {
             place: token_place(text, index),
@@ -145,7 +154,7 @@ fn value_finding(
     }
     let value = value.unwrap_or(0);
     let value = match field {
-        Field::Branch | Field::Jump => value.saturating_sub(i64::from(review.address(line))),
+        Field::Branch | Field::Jump => value.saturating_sub(i64::from(review.address(asking.line))),
         _ => value,
     };
     Ok(Finding {
@@ -256,7 +265,11 @@ fn statement_finding(
     ensures { IfOk result (λ f. f.place.column + f.place.len ≤ length text.now) }
 {
     let number = fault.line;
-    let early = matches!(fault.kind, FaultKind::NotConstant);
+    let asking = Asking {
+        review,
+        line: number,
+        is_early: matches!(fault.kind, FaultKind::NotConstant),
+    };
     let found = match fault.kind {
         FaultKind::DuplicateSymbol => {
             return Ok(duplicate(review, number, text, line, statement));
@@ -269,9 +282,7 @@ fn statement_finding(
         }
     };
     match found {
-        Some((operand, field)) => {
-            value_finding(alloc, review, number, early, text, operand, field)
-        }
+        Some((operand, field)) => value_finding(alloc, &asking, text, operand, field),
         None => Ok(word_finding(text, line, Detail::Nothing)),
     }
 }

@@ -61,22 +61,25 @@ pub(crate) fn is_in_name(byte: u8) -> bool {
     byte.is_ascii_alphanumeric() || byte == b'_' || byte == b'.' || byte == b'$'
 }
 
-/// Returns the bytes at the beginning of a text that a name may have.
-pub(crate) fn run_of(text: &[u8]) -> &[u8] {
+/// Cuts a text before its first byte of a kind.
+fn cut_before<F: Fn(u8) -> bool>(text: &[u8], is_of_kind: F) -> (&[u8], &[u8])
+    requires { F.IsAlwaysCallable is_of_kind }
+{
     let len = text
         .iter()
-        .position(|byte| !is_in_name(*byte))
+        .position(|byte| is_of_kind(*byte))
         .unwrap_or(text.len());
-    text.split_at(len.min(text.len())).0
+    text.split_at(len.min(text.len()))
+}
+
+/// Returns the bytes at the beginning of a text that a name may have.
+pub(crate) fn run_of(text: &[u8]) -> &[u8] {
+    cut_before(text, |byte| !is_in_name(byte)).0
 }
 
 /// Returns a text without the blanks at its beginning.
 pub(crate) fn skip_blanks(text: &[u8]) -> &[u8] {
-    let len = text
-        .iter()
-        .position(|byte| !is_blank(*byte))
-        .unwrap_or(text.len());
-    text.split_at(len.min(text.len())).1
+    cut_before(text, |byte| !is_blank(byte)).1
 }
 
 /// Returns the word with which a text begins, and the next one.

@@ -11,6 +11,9 @@ pub record MemoryText : Type 0 where
   pub good_calls : Option ℕ
   pub has_failed : Bool
 
+abbrev pub text_of : List ℕ → ℕ → Option ℕ → Bool → MemoryText
+text_of bytes most calls failed = record { bytes = bytes; most = most; good_calls = calls; has_failed = failed }
+
 -- the good calls that are left after a call, which are no longer counted after the one that fails
 abbrev pub after_call : Option ℕ → Option ℕ
 after_call None = None

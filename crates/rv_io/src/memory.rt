@@ -1,53 +1,73 @@
 //! Texts in memory, which are read and written some bytes a call, with a call that fails if one is asked for.
 ghost use Rattle.std.specs.Prelude.{◌≡◌, ◌≤◌, ◌↔◌, ◌==◌, ◌&&◌, ◌||◌, [], IfErr, IfOk, IsErr, None, OnErr, OnOk, Some, false, length, min, nat_lt, true};
 ghost use Rattle.std.specs.Io.KnownBytes.{ReadConsumes, WriteAppends};
-ghost use Rattle.rv_io.specs.Memory.{after_call};
+ghost use Rattle.rv_io.specs.Memory.{after_call, text_of};
 
 use crate::text::{InFailed, OutFailed, TextIn, TextOut};
 use std::alloc::Global;
 use std::marker::Model;
 
+/// How much a call of a text in memory moves, and which call fails.
+#[derive(Clone, Copy)]
+struct Calls {
+    most: usize,
+    good: Option<u64>,
+    has_failed: bool,
+}
+
+/// Calls that move as much as they can, and never fail.
+const FREE: Calls = Calls {
+    most: usize::MAX,
+    good: None,
+    has_failed: false,
+};
+
+impl Calls {
+    ghost use Rattle.std.specs.Prelude.{◌≡◌, ◌↔◌, ◌||◌, Some, true};
+    ghost use Rattle.rv_io.specs.Memory.{after_call};
+
+    /// Counts a call, and returns whether it is the one that fails.
+    fn fails(&mut self) -> bool
+        ensures fails { (result ≡ true) ↔ (self.old.good ≡ Some 0) }
+        ensures left { self.new ≡ record self.old {
+          good = after_call self.old.good;
+          has_failed = self.old.has_failed || result;
+        } }
+    {
+        let fails = self.good == Some(0);
+        self.good = match self.good {
+            Some(0) | None => None,
+            Some(good) => Some(good - 1),
+        };
+        self.has_failed |= fails;
+        fails
+    }
+}
+
 /// A reader of bytes in memory.
 #[derive(Drop)]
 pub struct MemoryIn<'a> {
     bytes: &'a [u8],
-    most: usize,
-    good_calls: Option<u64>,
-    has_failed: bool,
+    calls: Calls,
 }
 
 impl<'a> Model for MemoryIn<'a> {
     ghost use Rattle.std.specs.Prelude.{◌≤◌};
-    ghost use Rattle.rv_io.specs.Memory.{MemoryText};
+    ghost use Rattle.rv_io.specs.Memory.{MemoryText, text_of};
 
     ghost Value = { MemoryText };
 
-    ghost view = { λ m. record {
-      bytes = m.bytes.now;
-      most = m.most;
-      good_calls = m.good_calls;
-      has_failed = m.has_failed;
-    } };
+    ghost view = { λ m. text_of m.bytes.now m.calls.most m.calls.good m.calls.has_failed };
 
-    ghost invariant = { λ m. 1 ≤ m.most };
+    ghost invariant = { λ m. 1 ≤ m.calls.most };
 }
 
 impl<'a> MemoryIn<'a> {
     /// Returns a reader of `bytes` that fills the buffer of each call as far as it can, and never fails.
     pub fn new(bytes: &'a [u8]) -> MemoryIn<'a>
-        ensures { result ≡ record {
-          bytes = bytes.entry.now;
-          most = usize.MAX;
-          good_calls = None;
-          has_failed = false;
-        } }
+        ensures { result ≡ text_of bytes.entry.now usize.MAX None false }
     {
-        MemoryIn {
-            bytes,
-            most: usize::MAX,
-            good_calls: None,
-            has_failed: false,
-        }
+        MemoryIn { bytes, calls: FREE }
     }
 
     /// Returns the same reader, which gives at most `most` bytes a call.
@@ -55,27 +75,17 @@ impl<'a> MemoryIn<'a> {
         requires { 1 ≤ most }
         ensures { result ≡ record self.entry { most = most } }
     {
-        MemoryIn { most, ..self }
+        let calls = Calls { most, ..self.calls };
+        MemoryIn { calls, ..self }
     }
 
     /// Returns the same reader, whose next `calls` calls succeed and the one after them fails.
     pub fn with_failure_after(self, calls: u64) -> MemoryIn<'a>
         ensures { result ≡ record self.entry { good_calls = Some calls } }
     {
-        MemoryIn {
-            good_calls: Some(calls),
-            ..self
-        }
-    }
-}
-
-/// Returns how many good calls are left after a call, before the one that fails.
-fn left_after_call(calls: Option<u64>) -> Option<u64>
-    ensures { result ≡ after_call calls }
-{
-    match calls {
-        Some(0) | None => None,
-        Some(calls) => Some(calls - 1),
+        let good = Some(calls);
+        let calls = Calls { good, ..self.calls };
+        MemoryIn { calls, ..self }
     }
 }
 
@@ -97,13 +107,10 @@ impl<'a> TextIn for MemoryIn<'a> {
         ensures calls { self.new.good_calls ≡ after_call self.old.good_calls }
         ensures most { self.new.most ≡ self.old.most }
     {
-        let calls = self.good_calls;
-        self.good_calls = left_after_call(calls);
-        if calls == Some(0) {
-            self.has_failed = true;
+        if self.calls.fails() {
             return Err(InFailed);
         }
-        let count = self.most.min(self.bytes.len()).min(buffer.len());
+        let count = self.calls.most.min(self.bytes.len()).min(buffer.len());
         let (now, later) = self.bytes.split_at(count);
         buffer[..count].copy_from_slice(now);
         self.bytes = later;
@@ -111,7 +118,7 @@ impl<'a> TextIn for MemoryIn<'a> {
     }
 
     fn failed(&self) -> bool {
-        self.has_failed
+        self.calls.has_failed
     }
 }
 
@@ -119,57 +126,42 @@ impl<'a> TextIn for MemoryIn<'a> {
 #[derive(Drop)]
 pub struct MemoryOut {
     bytes: Vec<u8>,
-    most: usize,
-    good_calls: Option<u64>,
-    has_failed: bool,
+    calls: Calls,
 }
 
 impl Model for MemoryOut {
-    ghost use Rattle.rv_io.specs.Memory.{MemoryText};
+    ghost use Rattle.rv_io.specs.Memory.{MemoryText, text_of};
 
     ghost Value = { MemoryText };
 
-    ghost view = { λ m. record {
-      bytes = m.bytes.items;
-      most = m.most;
-      good_calls = m.good_calls;
-      has_failed = m.has_failed;
-    } };
+    ghost view = { λ m. text_of m.bytes.items m.calls.most m.calls.good m.calls.has_failed };
 }
 
 impl MemoryOut {
     /// Returns an empty writer that takes all bytes of each call, and fails only where memory runs out.
     pub fn new(alloc: Global) -> MemoryOut
-        ensures { result ≡ record {
-          bytes = [];
-          most = usize.MAX;
-          good_calls = None;
-          has_failed = false;
-        } }
+        ensures { result ≡ text_of [] usize.MAX None false }
     {
         MemoryOut {
             bytes: Vec::new(alloc),
-            most: usize::MAX,
-            good_calls: None,
-            has_failed: false,
+            calls: FREE,
         }
     }
 
     /// Returns the same writer, which takes at most `most` bytes a call.
-    pub fn with_most(self, most: usize) -> MemoryOut
+    pub fn with_most(mut self, most: usize) -> MemoryOut
         ensures { result ≡ record self { most = most } }
     {
-        MemoryOut { most, ..self }
+        self.calls.most = most;
+        self
     }
 
     /// Returns the same writer, whose next `calls` calls succeed and the one after them fails.
-    pub fn with_failure_after(self, calls: u64) -> MemoryOut
+    pub fn with_failure_after(mut self, calls: u64) -> MemoryOut
         ensures { result ≡ record self { good_calls = Some calls } }
     {
-        MemoryOut {
-            good_calls: Some(calls),
-            ..self
-        }
+        self.calls.good = Some(calls);
+        self
     }
 
     /// Returns the bytes that were written.
@@ -199,22 +191,19 @@ impl TextOut for MemoryOut {
         ensures calls { self.new.good_calls ≡ after_call self.old.good_calls }
         ensures most { self.new.most ≡ self.old.most }
     {
-        let calls = self.good_calls;
-        self.good_calls = left_after_call(calls);
-        if calls == Some(0) {
-            self.has_failed = true;
+        if self.calls.fails() {
             return Err(OutFailed);
         }
-        let count = self.most.min(bytes.len());
+        let count = self.calls.most.min(bytes.len());
         if self.bytes.extend_from_slice(&bytes[..count]).is_err() {
-            self.has_failed = true;
+            self.calls.has_failed = true;
             return Err(OutFailed);
         }
-        self.has_failed |= count == 0 && !bytes.is_empty();
+        self.calls.has_failed |= count == 0 && !bytes.is_empty();
         Ok(count)
     }
 
     fn failed(&self) -> bool {
-        self.has_failed
+        self.calls.has_failed
     }
 }

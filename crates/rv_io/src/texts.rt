@@ -14,21 +14,11 @@ use std::alloc::Global;
 use std::marker::Model;
 
 /// The texts of a run: its source, its timed list, and its commands, if it has any.
+#[derive(Drop)]
 pub struct Texts {
     source: Vec<u8>,
     inputs: Vec<u8>,
     commands: Option<Vec<u8>>,
-}
-
-// Hand-written: a derived `Drop` would be proved anew at each exit (docs/PROVING.md).
-impl Drop for Texts {
-    fn drop(self) {
-        let Texts {
-            source: _,
-            inputs: _,
-            commands: _,
-        } = self;
-    }
 }
 
 impl Model for Texts {

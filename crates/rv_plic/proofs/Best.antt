@@ -1,8 +1,7 @@
 -- The best source by its property, and the search for it.
 use Rattle.std.proofs.lemmas.Bool.Decides.{nat_tests}
 use Rattle.std.proofs.lemmas.Grind.{common_steps}
-use Rattle.std.proofs.Common.{rules}
-use Rattle.std.proofs.Common.{◌≡◌, ℕ, zero, suc, ◌+◌, ◌<◌, ◌≤◌, Bool, true, false, refl, sym, ◌∙◌, ap, subst, arith}
+use Rattle.std.proofs.Common.{rules, ◌≡◌, ℕ, zero, suc, ◌+◌, ◌<◌, ◌≤◌, Bool, true, false, refl, sym, ◌∙◌, ap, subst, arith}
 use Rattle.std.specs.Prelude.{◌&&◌, not, nat_lt, slice_index, Option, Some, None}
 use Rattle.std.specs.List.{range_with_len, find, list_any}
 use Rattle.std.specs.FinSet.{contains, intersection, empty, contains-empty, contains-intersection}
@@ -16,8 +15,7 @@ use Rattle.rv_plic.specs.Plic.{priority_of, best}
 use Rattle.rv_plic.specs.Support.Best.{IsFirst, IsBestBelow, IsBest, is_waiting}
 
 pub and_unless : (x y : Bool) → (x ≡ true → y ≡ false) → (x && y) ≡ false
-and_unless true y h = h refl
-and_unless false y h = refl
+and_unless x y h = search rules
 
 pub none-range : (test : ℕ → Bool) (a n : ℕ) → ((t : ℕ) → a ≤ t → t < a + n → test t ≡ false)
     → list_any test (range_with_len a n) ≡ false
@@ -78,11 +76,7 @@ best_by_property plic found is = search_finds_best (is_waiting plic) (priority_o
 pub best_of_intersection : (plic : PlicState) (found : Option ℕ)
     → IsBestBelow 32 (λ s. contains (intersection plic.pending plic.enabled) s
     && nat_lt 0 (slice_index plic.priorities s)) (slice_index plic.priorities) found → IsBest plic found
-best_of_intersection plic found is =
-    let same : (λ s. contains (intersection plic.pending plic.enabled) s) ≡ is_waiting plic =
-    λ i s. contains-intersection nat_cmp_total plic.pending plic.enabled s i in
-    subst (λ (w : ℕ → Bool). IsBestBelow 32 (λ s. w s && nat_lt 0 (slice_index plic.priorities s))
-    (slice_index plic.priorities) found) same is
+best_of_intersection plic found is = search (rules, contains, intersection, contains-intersection)
 
 pub best_of_empty : (plic : PlicState) → intersection plic.pending plic.enabled ≡ empty → IsBest plic None
 best_of_empty plic none =

@@ -1,8 +1,7 @@
 -- Counts of edges, where those of a set of sources are changed.
-use Rattle.std.proofs.Common.{rules}
+use Rattle.std.proofs.Common.{rules, ◌≡◌, ℕ, zero, suc, ◌+◌, ◌-◌, ◌^◌, ◌<◌, ◌≤◌, Bool, true, false, [], ◌∷◌, refl, sym, ◌∙◌, ap, arith, add-zero}
 use Rattle.std.proofs.lemmas.Bool.Decides.{nat_tests}
 use Rattle.std.proofs.lemmas.Grind.{common_steps}
-use Rattle.std.proofs.Common.{◌≡◌, ℕ, zero, suc, ◌+◌, ◌-◌, ◌^◌, ◌<◌, ◌≤◌, Bool, true, false, [], ◌∷◌, refl, sym, ◌∙◌, ap, arith, add-zero}
 use Rattle.std.specs.Prelude.{length, slice_index, slice_set, get_or, map, if◌then◌else◌}
 use Rattle.std.specs.List.{range_with_len}
 use Rattle.std.specs.FinSet.{contains}
@@ -40,8 +39,7 @@ again_same n is = search rules
 
 -- ---- taking an edge of each source of a set, as the definition says it
 less : (b : Bool) (m n : ℕ) → m ≡ n → m - (if b then 1 else 0) ≡ (if b then one_less n else n)
-less true m n same = ap one_less same
-less false m n same = omega (arith, same)
+less b m n same = search rules
 
 taken-from : (s : Sources) (all edges : Edges) (a : ℕ)
     → ((k : ℕ) → edges_of all (a + k) ≡ slice_index edges k)

@@ -1,6 +1,6 @@
 -- The rows of the registers are the registers by cases.
 use Rattle.std.proofs.lemmas.Grind.{common_steps}
-use Rattle.std.proofs.Common.{◌≡◌, ◌≢◌, ℕ, zero, suc, ◌+◌, ◌*◌, ◌/◌, ◌%◌, ◌<◌, ◌≤◌, Bool, true, false, cond, List, [], ◌∷◌, ◌++◌, map, Option, Some, None, refl, arith, nat_lt, nat_le, eqb-true}
+use Rattle.std.proofs.Common.{◌≡◌, ◌≢◌, ℕ, zero, suc, ◌+◌, ◌*◌, ◌/◌, ◌%◌, ◌<◌, ◌≤◌, Bool, true, false, cond, List, [], ◌∷◌, ◌++◌, map, Option, Some, None, refl, arith, nat_lt, nat_le, eqb-true, rules}
 use Rattle.std.specs.Prelude.{◌==◌, ◌&&◌, find, unwrap_or, slice_set, if◌then◌else◌}
 use Rattle.std.specs.List.{range_with_len}
 use Rattle.std.specs.Option.{option_map_or}
@@ -27,8 +27,7 @@ more : (plic : PlicState) (b : Bool) (r : ℕ × Register PlicState) (reg : Plic
     (rest : Option (ℕ × Register PlicState)) (others : Option PlicReg)
     → Agrees plic (Some r) (Some reg) → Agrees plic rest others
     → Agrees plic (cond b (Some r) rest) (if b then Some reg else others)
-more plic true r reg rest others here later = here
-more plic false r reg rest others here later = later
+more plic b r reg rest others here later = search rules
 
 -- ---- the rows of the priorities
 

@@ -61,13 +61,7 @@ and_word a b is =
 -- two functions of bits that are equal at each pair of bits
 same_at_bits : (f g : ℕ → ℕ → Bool) → f 0 0 ≡ g 0 0 → f 0 1 ≡ g 0 1 → f 1 0 ≡ g 1 0 → f 1 1 ≡ g 1 1
     → (x y : ℕ) → x < 2 → y < 2 → f x y ≡ g x y
-same_at_bits f g none right left both zero zero h k = none
-same_at_bits f g none right left both zero (suc zero) h k = right
-same_at_bits f g none right left both (suc zero) zero h k = left
-same_at_bits f g none right left both (suc zero) (suc zero) h k = both
-same_at_bits f g none right left both (suc (suc x)) y h k = absurd (omega arith)
-same_at_bits f g none right left both zero (suc (suc y)) h k = absurd (omega arith)
-same_at_bits f g none right left both (suc zero) (suc (suc y)) h k = absurd (omega arith)
+same_at_bits f g none right left both x y h k = search rules
 
 max_one : (x y : ℕ) → x < 2 → y < 2 → (max x y == 1) ≡ (x == 1 || y == 1)
 max_one = same_at_bits (λ x y. max x y == 1) (λ x y. x == 1 || y == 1) refl refl refl refl
@@ -80,13 +74,7 @@ min_not_one = same_at_bits (λ x y. min x (1 - y) == 1) (λ x y. x == 1 && not (
 
 pub union_word : (a b : ℕ) → IsSourceWord a → IsSourceWord b
     → sources_of (bit_or a b) ≡ union (sources_of a) (sources_of b)
-union_word a b is also =
-    same_sources _ _ (λ q.
-    contains-sources_of (bit_or a b) q (or_word a b is also)
-    ∙ ap (λ n. n == 1) (bit_at_or a b q)
-    ∙ max_one _ _ (bit_at-lt a q) (bit_at-lt b q)
-    ∙ sym (contains-union nat_cmp_total (sources_of a) (sources_of b) q
-    ∙ (λ i. contains-sources_of a q is i || contains-sources_of b q also i)))
+union_word a b is also = search (rules, same_sources, contains-sources_of, bit_or, or_word, bit_at_or, max_one, bit_at-lt, contains-union)
 
 pub intersection_word : (a b : ℕ) → IsSourceWord a → IsSourceWord b
     → sources_of (bit_and a b) ≡ intersection (sources_of a) (sources_of b)
@@ -176,12 +164,9 @@ pub empty_word : sources_of 0 ≡ empty
 unfolding sources_of sources
 empty_word = refl
 
-zero_word : IsSourceWord 0
-zero_word = record { fits = lit< tt; no_zero = refl }
-
 pub empty_is_zero : (word : ℕ) → IsSourceWord word → sources_of word ≡ empty → word ≡ 0
 empty_is_zero word is none =
-    sym (word_of-sources_of word is) ∙ ap word_of (none ∙ sym empty_word) ∙ word_of-sources_of 0 zero_word
+    sym (word_of-sources_of word is) ∙ ap word_of (none ∙ sym empty_word) ∙ word_of-sources_of 0 (record { fits = lit< tt; no_zero = refl })
 
 pub zero_is_empty : (word : ℕ) → word ≡ 0 → sources_of word ≡ empty
 zero_is_empty word is = ap sources_of is ∙ empty_word
@@ -189,8 +174,7 @@ zero_is_empty word is = ap sources_of is ∙ empty_word
 -- the test of a bit
 pub tested_bit : (word number : ℕ) → IsSourceWord word
     → contains (sources_of word) number ≡ (bit_and (word / 2 ^ number) 1 == 1)
-tested_bit word number is =
-    contains-sources_of word number is ∙ ap (λ n. n == 1) (sym (shr_and_one word number))
+tested_bit word number is = search (rules, contains-sources_of, shr_and_one)
 
 pub no_bit : (word number : ℕ) → IsSourceWord word → 32 ≤ number → contains (sources_of word) number ≡ false
 no_bit word number is high =

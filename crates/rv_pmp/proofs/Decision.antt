@@ -1,6 +1,5 @@
 -- The decision by spans is the one by number.
-use Rattle.std.proofs.Common.{rules}
-use Rattle.std.proofs.Common.{◌≡◌, ℕ, zero, suc, ◌+◌, ◌-◌, ◌*◌, ◌%◌, ◌^◌, ◌<◌, ◌≤◌, ◌⊎◌, inl, inr, Bool, true, false, cond, List, [], ◌∷◌, length, drop, get_or, Option, Some, None, refl, ap, sym, ◌∙◌, arith, add-one, add-zero, nat_lt, nat_le, ◌/◌, ◌==◌, eqb-true, mul_assoc, div-add-mod', add-sub_of_le}
+use Rattle.std.proofs.Common.{rules, ◌≡◌, ℕ, zero, suc, ◌+◌, ◌-◌, ◌*◌, ◌%◌, ◌^◌, ◌<◌, ◌≤◌, ◌⊎◌, inl, inr, Bool, true, false, cond, List, [], ◌∷◌, length, drop, get_or, Option, Some, None, refl, ap, sym, ◌∙◌, arith, add-one, add-zero, nat_lt, nat_le, ◌/◌, ◌==◌, eqb-true, mul_assoc, div-add-mod', add-sub_of_le}
 use Rattle.std.specs.Prelude.{if◌then◌else◌, ◌&&◌, ◌||◌, find, unwrap_or}
 use Rattle.std.specs.List.{list_any, list_all, range_with_len}
 use Rattle.std.specs.Option.{option_map_or}
@@ -33,17 +32,6 @@ step mode access first last a rest =
     if meets a.span first last
     then Some (holds a.span first last && permits a.entry mode access) else rest
 
-step-some : (mode : Mode) (access : Access) (first last : ℕ) (a : ActiveEntry) (rest : Option Bool)
-    (granted : Bool)
-    → entry_answer mode access first last a ≡ Some granted → step mode access first last a rest ≡ Some granted
-unfolding step
-step-some mode access first last a rest granted h = search rules
-
-step-none : (mode : Mode) (access : Access) (first last : ℕ) (a : ActiveEntry) (rest : Option Bool)
-    → entry_answer mode access first last a ≡ None → step mode access first last a rest ≡ rest
-unfolding step
-step-none mode access first last a rest h = search rules
-
 decision-drop : (mode : Mode) (access : Access) (first last : ℕ) (xs : List ActiveEntry) (i : ℕ)
     (a : ActiveEntry)
     → i < length xs
@@ -58,18 +46,17 @@ pub decision-entry_answer : (mode : Mode) (access : Access) (first last : ℕ) (
     (a : ActiveEntry) (granted : Bool)
     → i < length xs → entry_answer mode access first last (get_or xs i a) ≡ Some granted
     → decision mode access first last (drop i xs) ≡ Some granted
+unfolding step
 decision-entry_answer mode access first last xs i a granted h e =
-    decision-drop mode access first last xs i a h
-    ∙ step-some mode access first last (get_or xs i a)
-    (decision mode access first last (drop (suc i) xs)) granted e
+    rw (decision-drop mode access first last xs i a h) (search rules)
 
 pub decision-passed : (mode : Mode) (access : Access) (first last : ℕ) (xs : List ActiveEntry) (i : ℕ)
     (a : ActiveEntry)
     → i < length xs → entry_answer mode access first last (get_or xs i a) ≡ None
     → decision mode access first last (drop (i + 1) xs) ≡ decision mode access first last (drop i xs)
+unfolding step
 decision-passed mode access first last xs i a h e =
-    rw add-one (sym (decision-drop mode access first last xs i a h
-    ∙ step-none mode access first last (get_or xs i a) (decision mode access first last (drop (suc i) xs)) e))
+    rw (add-one, decision-drop mode access first last xs i a h) (search rules)
 
 pub decision-end : (mode : Mode) (access : Access) (first last : ℕ) (xs : List ActiveEntry) (i : ℕ)
     → length xs ≤ i → decision mode access first last (drop i xs) ≡ None
@@ -95,20 +82,15 @@ whole_top : (b : Bool) (lower address : ℕ) → nat_lt lower address ≡ b
 whole_top true lower address e = search rules
 whole_top false lower address e = whole_no_bytes
 
-pow_word : (k : ℕ) → (2 ^ (k + 3) % 4 ≡ 0) × (0 < 2 ^ (k + 3))
-pow_word k = (omega (arith, pow-add 2 k 3), omega (arith, pow_pos (k + 3)))
-
-blocks_word : (q k : ℕ) → q * 2 ^ (k + 3) % 4 ≡ 0
-blocks_word q k = omega (arith, ap (λ n. q * n) (pow-add 2 k 3), mul_assoc q (2 ^ k) 8)
-
 whole_span : (m : Matching) (lower address : ℕ) → IsWhole (span m lower address)
 whole_span Off lower address = whole_no_bytes
 whole_span Tor lower address = whole_top (nat_lt lower address) lower address refl
 whole_span Na4 lower address = search rules
 whole_span Napot lower address =
     let k = trailing_ones address in
-    let p = pow_word k in
-    let q = blocks_word (address / 2 ^ (k + 1)) k in
+    let p : (2 ^ (k + 3) % 4 ≡ 0) × (0 < 2 ^ (k + 3)) = (omega (arith, pow-add 2 k 3), omega (arith, pow_pos (k + 3))) in
+    let b : ℕ = address / 2 ^ (k + 1) in
+    let q : b * 2 ^ (k + 3) % 4 ≡ 0 = omega (arith, ap (λ n. b * n) (pow-add 2 k 3), mul_assoc b (2 ^ k) 8) in
     record { first_word = omega arith; last_word = omega arith; some_byte = inl (omega arith) }
 
 whole : (lower : ℕ) (e : Entry) → IsWhole (span_of lower e)

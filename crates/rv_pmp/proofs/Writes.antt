@@ -1,6 +1,5 @@
 -- The entries after a write.
-use Rattle.std.proofs.Common.{rules}
-use Rattle.std.proofs.Common.{◌≡◌, ◌≢◌, ℕ, zero, suc, ◌+◌, ◌<◌, ◌≤◌, true, false, List, length, get_or, refl}
+use Rattle.std.proofs.Common.{rules, ◌≡◌, ◌≢◌, ℕ, zero, suc, ◌+◌, ◌<◌, ◌≤◌, true, false, List, length, get_or, refl}
 use Rattle.std.specs.Prelude.{IsTrue, slice_set}
 use Rattle.std.proofs.lemmas.Option.{slice_get-get_or, slice_get_past}
 use Rattle.std.proofs.lemmas.List.Elements.{All-set, All-get_or}
@@ -13,11 +12,7 @@ use Rattle.rv_pmp.specs.Support.Registers.{changed_at, with_config, with_address
 -- the way to match of the values from 3 on
 pub matching_rest : (code : ℕ) → code ≢ 0 → code ≢ 1 → code ≢ 2 → matching_of code ≡ Napot
 unfolding matching_of
-matching_rest zero a b c = absurd (a refl)
-matching_rest (suc zero) a b c = absurd (b refl)
-matching_rest (suc (suc zero)) a b c = absurd (c refl)
-matching_rest (suc (suc (suc zero))) a b c = refl
-matching_rest (suc (suc (suc (suc n)))) a b c = refl
+matching_rest code a b c = search rules
 
 configured-readable : (e : Entry) (byte : ℕ) → (IsTrue e.writable → IsTrue e.readable)
     → IsTrue (configured e byte).writable → IsTrue (configured e byte).readable
@@ -29,22 +24,14 @@ addressed-readable : (e : Entry) (word : ℕ) → (IsTrue e.writable → IsTrue 
 unfolding addressed
 addressed-readable e word h = search rules
 
-changed-at : (es : List Entry) (place : ℕ) (f : Entry → Entry) (e : Entry) → place < length es
-    → changed_at es place f ≡ slice_set es place (f (get_or es place e))
-changed-at es place f e h = rw (slice_get-get_or es place e h) refl
-
-changed-past : (es : List Entry) (place : ℕ) (f : Entry → Entry) → length es ≤ place
-    → changed_at es place f ≡ es
-changed-past es place f h = rw (slice_get_past es place h) refl
-
 pub with_config-at : (es : List Entry) (place byte : ℕ) (e : Entry) → place < length es
     → with_config es place byte ≡ slice_set es place (configured (get_or es place e) byte)
 unfolding with_config
-with_config-at es place byte e h = changed-at es place (λ x. configured x byte) e h
+with_config-at es place byte e h = rw (slice_get-get_or es place e h) refl
 
 pub with_config-past : (es : List Entry) (place byte : ℕ) → length es ≤ place → with_config es place byte ≡ es
 unfolding with_config
-with_config-past es place byte h = changed-past es place (λ x. configured x byte) h
+with_config-past es place byte h = rw (slice_get_past es place h) refl
 
 pub config-readable : (es : List Entry) (place byte : ℕ) (e : Entry) → place < length es → AllReadable es
     → AllReadable (slice_set es place (configured (get_or es place e) byte))
@@ -54,7 +41,7 @@ pub with_address-at : (es : List Entry) (place word : ℕ) (e : Entry) → place
     → starts_locked es (place + 1) ≡ false
     → with_address es place word ≡ slice_set es place (addressed (get_or es place e) word)
 unfolding with_address
-with_address-at es place word e h free = rw free (changed-at es place (λ x. addressed x word) e h)
+with_address-at es place word e h free = rw (free, slice_get-get_or es place e h) refl
 
 pub with_address-locked : (es : List Entry) (place word : ℕ) → starts_locked es (place + 1) ≡ true
     → with_address es place word ≡ es
@@ -64,7 +51,7 @@ with_address-locked es place word locked = rw locked refl
 pub with_address-past : (es : List Entry) (place word : ℕ) → length es ≤ place
     → with_address es place word ≡ es
 unfolding with_address
-with_address-past es place word h = search (rules, changed-past)
+with_address-past es place word h = search (rules, slice_get_past)
 
 pub address-readable : (es : List Entry) (place word : ℕ) (e : Entry) → place < length es → AllReadable es
     → AllReadable (slice_set es place (addressed (get_or es place e) word))

@@ -1,5 +1,7 @@
 -- Cutting a line, token by token; and where the tokens stand.
-use Rattle.std.proofs.Common.{◌≡◌, ℕ, zero, suc, ◌-◌, ◌<◌, true, false, List, [], ◌∷◌, ◌++◌, length, drop, get_or, refl, sym, ap, arith, append_assoc, append-nil}
+use Rattle.std.proofs.lemmas.Grind.{common_steps}
+use Rattle.std.proofs.lemmas.Bool.Decides.{nat_tests}
+use Rattle.std.proofs.Common.{◌≡◌, ℕ, zero, suc, ◌-◌, ◌<◌, true, false, List, [], ◌∷◌, ◌++◌, length, drop, get_or, refl, sym, ap, arith, append_assoc, append-nil, rules}
 use Rattle.std.specs.Prelude.{None, Some, Result, Ok, Err, slice_get}
 use Rattle.rv_tokens.specs.declared.token.Token.{Token}
 use Rattle.rv_tokens.specs.declared.fault.LineFault.{LineFault}
@@ -20,39 +22,32 @@ cut_drop (b ∷ bs) (suc n) = cut_drop bs n
 
 pub cut_end : (line : List ℕ) → length line ≡ 0 → tokens_after line 0 ≡ Ok []
 unfolding tokens_after
-cut_end [] h = refl
-cut_end (b ∷ bs) h = absurd (omega arith)
+cut_end line h = grind (arith, nat_tests, common_steps)
 
 pub cut_blank : (line : List ℕ) → is_blank (get_or line 0 0) ≡ true
     → tokens_after line 0 ≡ tokens_after (drop 1 line) 0
 unfolding tokens_after
-cut_blank [] e = cc
-cut_blank (b ∷ bs) e = rw e refl
+cut_blank line e = search rules
 
 pub cut_comment : (line : List ℕ) → is_blank (get_or line 0 0) ≡ false → is_comment line ≡ true
     → tokens_after line 0 ≡ Ok []
 unfolding tokens_after
-cut_comment [] e f = refl
-cut_comment (b ∷ bs) e f = rw (e, f) refl
+cut_comment line e f = search rules
 
 pub cut_token : (line : List ℕ) (t : Token) (n : ℕ) → is_blank (get_or line 0 0) ≡ false
     → is_comment line ≡ false → front line ≡ Some (t, n) → 0 < n
     → tokens_after line 0 ≡ with_tokens (t ∷ []) (tokens_after (drop n line) 0)
 unfolding tokens_after longest
-cut_token [] t n e f g some = cc
-cut_token (b ∷ bs) t zero e f g some = absurd (omega arith)
-cut_token (b ∷ bs) t (suc n) e f g some = rw (e, f, g) (ap (with_tokens (t ∷ [])) (cut_drop bs n))
+cut_token line t n e f g some = search (rules, cut_drop)
 
 pub cut_none : (line : List ℕ) → 0 < length line → is_blank (get_or line 0 0) ≡ false
     → is_comment line ≡ false → front line ≡ None → tokens_after line 0 ≡ Err (fault_at (get_or line 0 0))
 unfolding tokens_after
-cut_none [] h e f g = absurd (omega arith)
-cut_none (b ∷ bs) h e f g = rw (e, f, g) refl
+cut_none line h e f g = search rules
 
 pub no_tokens : (r : Result (List Token) LineFault) → with_tokens [] r ≡ r
 unfolding with_tokens
-no_tokens (Ok ts) = refl
-no_tokens (Err fault) = refl
+no_tokens r = search rules
 
 pub last_tokens : (ts : List Token) → with_tokens ts (Ok []) ≡ Ok ts
 unfolding with_tokens
@@ -65,13 +60,11 @@ failed_tokens ts fault = refl
 pub more_tokens : (ts us : List Token) (r : Result (List Token) LineFault)
     → with_tokens ts (with_tokens us r) ≡ with_tokens (ts ++ us) r
 unfolding with_tokens
-more_tokens ts us (Ok vs) = ap (λ x. Ok x) (sym (append_assoc ts us vs))
-more_tokens ts us (Err fault) = refl
+more_tokens ts us r = search (rules, append_assoc)
 
 pub fails : (fault : LineFault) (meaning : Result (List Token) LineFault) → meaning ≡ Err fault
     → Fails fault meaning
-fails OutOfMemory meaning h = record {}
-fails other meaning h = h
+fails other meaning h = search rules
 
 pub ruleset cut_steps = (cut_end, cut_blank, cut_comment, cut_token, cut_none, no_tokens, last_tokens, failed_tokens, more_tokens, fails, longest_found)
 
@@ -92,7 +85,6 @@ unfolding places_after longest
 place_after total [] t n i e f g k m = cc
 place_after total (b ∷ bs) t zero i e f g k m = absurd (omega arith)
 place_after total (b ∷ bs) t (suc n) zero e f g k m = absurd (omega arith)
-place_after total (b ∷ bs) t (suc n) (suc i) e f g k m =
-    let is : suc i - 1 ≡ i = omega arith in rw (e, f, g, is) (ap (λ ps. slice_get ps i) (places_drop total bs n))
+place_after total (b ∷ bs) t (suc n) (suc i) e f g k m = grind (arith, nat_tests, common_steps, places_drop)
 
 pub ruleset place_steps = (place_after, longest_found)

@@ -22,9 +22,7 @@ use Rattle.rv_tokens.proofs.Longest.{longest_above, longest_found}
 -- ---- escapes
 
 pub no_letter : (text : List ℕ) → (length text ≡ 1 → ⊥) → lookup text letters ≡ None
-no_letter [] h = refl
-no_letter (b ∷ []) h = absurd (h refl)
-no_letter (b ∷ c ∷ bs) h = search rules
+no_letter text h = search rules
 
 pub ruleset escape_steps = (no_letter, no_number, take_all, nat_tests)
 
@@ -38,14 +36,12 @@ pub spelled_is : (quote : ℕ) (text : List ℕ) → spelled quote text
     ≡ cond (get_or text 0 0 == 92) (escape (take (length text - 1) (drop 1 text)))
     (cond (is_plain quote (get_or text 0 0) && (length text == 1)) (Some (get_or text 0 0)) None)
 unfolding spelled
-spelled_is quote [] = search rules
-spelled_is quote (b ∷ bs) = grind (arith, nat_tests, common_steps, take_all)
+spelled_is quote text = search (rules, take_all)
 
 -- the text of a byte has at most four bytes
 pub spelled_long : (quote : ℕ) (text : List ℕ) → 4 < length text → spelled quote text ≡ None
 unfolding spelled
-spelled_long quote [] long = absurd (omega arith)
-spelled_long quote (b ∷ bs) long = grind (arith, nat_tests, common_steps, escape_long)
+spelled_long quote text long = search (rules, escape_long)
 
 -- the byte that the first n bytes of a text spell in a string
 abbrev pub string_byte_in : List ℕ → ℕ → Option ℕ
@@ -96,8 +92,7 @@ bytes_are text = refl
 
 spells_by : (x : ℕ) (o p : Option (List ℕ)) → o ≡ option_map (λ cs. x ∷ cs) p → IsTrue (is_some o)
     → (unwrap_or o [] ≡ x ∷ unwrap_or p []) × IsTrue (is_some p)
-spells_by x o None e h = cc
-spells_by x o (Some cs) e h = (rw e refl, refl)
+spells_by x o p e h = search rules
 
 pub one_more : (text : List ℕ) (x n : ℕ) → first_byte text ≡ Some (x, n) → IsTrue (is_some (string_bytes text))
     → (bytes_of text ≡ x ∷ bytes_of (drop n text)) × IsTrue (is_some (string_bytes (drop n text)))
@@ -106,7 +101,6 @@ one_more text x n e h = spells_by x _ (string_bytes (drop n text)) (bytes_of_som
 
 pub no_more : (text : List ℕ) → first_byte text ≡ None → IsTrue (is_some (string_bytes text)) → bytes_of text ≡ []
 unfolding bytes_of bytes_after
-no_more [] e h = refl
-no_more (b ∷ bs) e h = let f = bytes_of_none (b ∷ bs) (omega arith) e in cc
+no_more text e h = grind (arith, nat_tests, common_steps, bytes_of_none)
 
 pub ruleset text_steps = (bytes_are, one_more, no_more)

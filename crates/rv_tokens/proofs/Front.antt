@@ -43,8 +43,7 @@ lost_in line m h = rw h refl
 pub front_at : (line : List ℕ) (n : ℕ) (o : Option Token) → 0 < n → n ≤ length line → token_in line n ≡ o
     → ((m : ℕ) → n < m → m ≤ length line → token_in line m ≡ None)
     → ((m : ℕ) → 0 < m → m < n → token_in line m ≡ None) → front line ≡ option_map (λ t. (t, n)) o
-front_at line n (Some t) some le is above below =
-    longest_is (token_in line) (length line) n t (record { some = some; within = le; is = is; above = above })
+front_at line n (Some t) some le is above below = search (rules, longest_is, longest_none, cases_order)
 front_at line n None some le is above below = grind (arith, nat_tests, common_steps, longest_none, cases_order)
 
 pub at_front : (text : List ℕ) (n : ℕ) → get_or (drop n text) 0 0 ≡ get_or text n 0
@@ -66,9 +65,7 @@ token_of_word xs h = rw h refl
 
 token_of_many : (xs : List ℕ) → 1 < length xs → is_name_byte (get_or xs 0 0) ≡ true
     → list_all is_name_byte xs ≡ false → token_of xs ≡ None
-token_of_many [] long first h = absurd (omega arith)
-token_of_many (b ∷ []) long first h = absurd (omega arith)
-token_of_many (b ∷ c ∷ bs) long first h = search (rules, token_is, other, no_sign)
+token_of_many xs long first h = grind (arith, nat_tests, common_steps, token_is, other, no_sign)
 
 word_above : (line : List ℕ) (m n : ℕ) → n < m → 1 < m → m ≤ length line
     → is_name_byte (get_or line 0 0) ≡ true → is_name_byte (get_or line n 0) ≡ false → token_in line m ≡ None
@@ -121,15 +118,10 @@ front_sign (b ∷ bs) some h s c p =
 
 -- a half has three bytes
 half_other : (xs : List ℕ) → get_or xs 0 0 ≡ 37 → (length xs ≡ 3 → ⊥) → lookup xs signs ≡ None
-half_other [] e h = refl
-half_other (a ∷ []) e h = search rules
-half_other (a ∷ b ∷ []) e h = search rules
-half_other (a ∷ b ∷ c ∷ []) e h = absurd (h refl)
-half_other (a ∷ b ∷ c ∷ d ∷ xs) e h = search rules
+half_other xs e h = search rules
 
 token_of_half : (xs : List ℕ) → get_or xs 0 0 ≡ 37 → token_of xs ≡ lookup xs signs
-token_of_half [] e = cc
-token_of_half (b ∷ bs) e = token_is b bs ∙ rw e refl
+token_of_half xs e = search (rules, token_is)
 
 half_of : (line : List ℕ) (m : ℕ) → 0 < m → get_or line 0 0 ≡ 37
     → token_of (take m line) ≡ lookup (take m line) signs
@@ -146,15 +138,10 @@ front_short line short e = search (rules, longest_none, half_not)
 -- a half ends with a name byte
 half_last : (line : List ℕ) → get_or line 0 0 ≡ 37 → is_name_byte (get_or line 2 0) ≡ false
     → lookup (take 3 line) signs ≡ None
-half_last [] e f = refl
-half_last (a ∷ []) e f = search rules
-half_last (a ∷ b ∷ []) e f = search rules
-half_last (a ∷ b ∷ c ∷ cs) e f = search rules
+half_last line e f = search rules
 
 either_ends : (c d : Bool) (o : Option Token) → (c ≡ false → o ≡ None) → cond (c && d) None o ≡ cond d None o
-either_ends true d o h = refl
-either_ends false true o h = h refl
-either_ends false false o h = refl
+either_ends c d o h = search rules
 
 half_in : (line : List ℕ) → get_or line 0 0 ≡ 37
     → token_in line 3 ≡ cond (is_name_byte (get_or line 3 0)) None (lookup (take 3 line) signs)
@@ -179,13 +166,7 @@ front_half line long e =
 pub quoted_in : (quote last : ℕ) (line : List ℕ) (m : ℕ) → is_name_byte quote ≡ false
     → get_or line (m - 1) 0 ≡ last → ((last == quote) ≡ false → token_of (take m line) ≡ None)
     → token_in line m ≡ token_of (take m line)
-quoted_in quote last line m other ends lost = by (last == quote) refl
-  where
-    by : (s : Bool) → (last == quote) ≡ s → token_in line m ≡ token_of (take m line)
-    by true e =
-        let is : last ≡ quote = grind (arith, nat_tests) in
-        kept_in line m (and_left _ _ (ap is_name_byte (ends ∙ is) ∙ other))
-    by false e = none_in line m (lost e) ∙ sym (lost e)
+quoted_in quote last line m other ends lost = search (rules, kept_in, and_left, other, none_in)
 
 pub between_open : (left right : ℕ) (xs : List ℕ) → (get_or xs (length xs - 1) 0 == right) ≡ false
     → between left right xs ≡ None
@@ -195,8 +176,7 @@ abbrev pub character : List ℕ → Option ℕ
 character text = option_and_then (spelled 39) (between 39 39 text)
 
 token_of_character : (xs : List ℕ) → get_or xs 0 0 ≡ 39 → token_of xs ≡ option_map (λ n. Character n) (character xs)
-token_of_character [] e = cc
-token_of_character (b ∷ bs) e = token_is b bs ∙ rw e refl
+token_of_character xs e = grind (arith, nat_tests, common_steps, token_is)
 
 character_of : (line : List ℕ) (m : ℕ) → 0 < m → get_or line 0 0 ≡ 39
     → token_of (take m line) ≡ option_map (λ n. Character n) (character (take m line))
@@ -216,8 +196,7 @@ character_in line m some le e =
 
 between_none : (c : Bool) (f : List ℕ → Option ℕ) (ys : List ℕ) → f ys ≡ None
     → option_and_then f (cond c (Some ys) None) ≡ None
-between_none true f ys h = h
-between_none false f ys h = refl
+between_none c f ys h = search rules
 
 -- a character has at most six bytes
 character_long : (xs : List ℕ) → 6 < length xs → character xs ≡ None

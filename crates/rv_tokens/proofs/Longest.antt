@@ -33,14 +33,12 @@ longest_none spells k h = longest_above spells 0 k (omega arith) h ∙ longest_z
 pub longest_at : {A : Type 0} (spells : ℕ → Option A) (n : ℕ) (x : A) → 0 < n → spells n ≡ Some x
     → longest spells n ≡ Some (x, n)
 unfolding longest
-longest_at spells zero x some e = absurd (omega arith)
-longest_at spells (suc n) x some e = rw e refl
+longest_at spells n x some e = search rules
 
 pub longest_less : {A : Type 0} (spells : ℕ → Option A) (n : ℕ) → 0 < n → spells n ≡ None
     → longest spells n ≡ longest spells (n - 1)
 unfolding longest
-longest_less spells zero some e = absurd (omega arith)
-longest_less spells (suc n) some e = let p : suc n - 1 ≡ n = omega arith in rw (e, p) refl
+longest_less spells n some e = search rules
 
 -- facts about the longest prefix
 pub record IsLongest {A : Type 0} (spells : ℕ → Option A) (k n : ℕ) (x : A) : Type 0 where
@@ -63,8 +61,7 @@ over_step : {A : Type 0} (spells : ℕ → Option A) (k m : ℕ) (o : Option A) 
     → (reach (longest spells k) < m → m ≤ k → spells m ≡ None) → reach (longest spells (suc k)) < m → m ≤ suc k
     → spells m ≡ None
 unfolding longest
-over_step spells k m (Some x) e below p q = let f : suc k < m = rw e at p in absurd (omega arith)
-over_step spells k m None e below p q = grind (arith, nat_tests, common_steps, cases_lt)
+over_step spells k m o e below p q = search (rules, cases_lt)
 
 -- no longer prefix spells anything
 pub longest_over : {A : Type 0} (spells : ℕ → Option A) (k m : ℕ) → reach (longest spells k) < m → m ≤ k
@@ -76,8 +73,7 @@ read_step : {A : Type 0} (spells : ℕ → Option A) (k n : ℕ) (x : A) (o : Op
     → (longest spells k ≡ Some (x, n) → (0 < n) × (n ≤ k) × (spells n ≡ Some x))
     → longest spells (suc k) ≡ Some (x, n) → (0 < n) × (n ≤ suc k) × (spells n ≡ Some x)
 unfolding longest
-read_step spells k n x None e below h = let l = below (rw e at h) in (l.0, omega (arith, l.1), l.2)
-read_step spells k n x (Some y) e below h = search rules
+read_step spells k n x o e below h = search rules
 
 read : {A : Type 0} (spells : ℕ → Option A) (k n : ℕ) (x : A) → longest spells k ≡ Some (x, n)
     → (0 < n) × (n ≤ k) × (spells n ≡ Some x)

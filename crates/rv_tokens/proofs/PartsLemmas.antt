@@ -27,8 +27,7 @@ comment_not : (b : ℕ) (bs : List ℕ) → (b == 35) ≡ false → (b == 47) �
 comment_not b bs h s = rw (swapped 35 b, swapped 47 b, h, s) refl
 
 token_by : (b : Bool) (o : Option Token) (t : Token) → cond b None o ≡ Some t → o ≡ Some t
-token_by true o t h = absurd cc
-token_by false o t h = h
+token_by b o t h = search rules
 
 -- a line that begins with a token
 begins : (line : List ℕ) (n : ℕ) (t : Token) → token_in line n ≡ Some t
@@ -45,13 +44,10 @@ begins (b ∷ bs) (suc n) t h =
 
 not_blank : (b : ℕ) (bs : List ℕ) (x y : Bool) → (b == 32) ≡ x → (b == 9) ≡ y
     → is_comment (b ∷ bs) ≡ true → (x || y) ≡ false
-not_blank b bs true y e f h = search rules
-not_blank b bs false true e f h = search rules
-not_blank b bs false false e f h = refl
+not_blank b bs x y e f h = search rules
 
 comment_ends : (line : List ℕ) → is_comment line ≡ true → tokens_after line 0 ≡ Ok []
-comment_ends [] h = cc
-comment_ends (b ∷ bs) h = cut_comment (b ∷ bs) (not_blank b bs (b == 32) (b == 9) refl refl h) h
+comment_ends line h = search (rules, cut_comment, not_blank)
 
 -- ---- from the parts of a line to its tokens
 
@@ -110,8 +106,7 @@ long_tokens line h = let long : nat_lt 1024 (length line) ≡ true = grind (arit
 
 cut_by : (line : List ℕ) (r : Result (List Token) LineFault) (b : Bool) → nat_lt 1024 (length line) ≡ b
     → MatchBool b (r ≡ Err LineTooLong) (IsCut line r) ↔ (tokens line ≡ r)
-cut_by line r true e = search (rules, long_tokens, nat_tests)
-cut_by line r false e = search (rules, short_tokens, nat_tests, cut_is, made)
+cut_by line r b e = search (rules, long_tokens, short_tokens, cut_is, made)
 
 -- the parts of a line are its tokens
 pub cut_means : (line : List ℕ) (r : Result (List Token) LineFault) → IsCutInto line r ↔ (tokens line ≡ r)

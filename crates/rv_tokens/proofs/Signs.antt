@@ -26,17 +26,13 @@ pub number_is : (text : List ℕ) → number text
     (cond (has_prefix 98 66 text) (number_in 2 0xffffffff (drop 2 text))
     (cond (has_leading_zero text) (number_in 8 0xffffffff (drop 1 text)) (number_in 10 0xffffffff text)))
 unfolding number
-number_is [] = refl
-number_is (a ∷ []) = rw (and-false (48 == a)) refl
-number_is (a ∷ b ∷ ds) = search (rules, swapped)
+number_is text = search (rules, and-false, swapped)
 
 -- ---- signs
 
 pub half_is : (text : List ℕ) → get_or text 0 0 ≡ 37 → lookup text signs
     ≡ cond (bytes_eq text (codes "%hi")) (Some High) (cond (bytes_eq text (codes "%lo")) (Some Low) None)
-half_is [] e = refl
-half_is (a ∷ []) e = search rules
-half_is (a ∷ b ∷ bs) e = search rules
+half_is text e = search rules
 
 pub no_sign : (b c : ℕ) (bs : List ℕ) → (b == 37) ≡ false → lookup (b ∷ c ∷ bs) signs ≡ None
 no_sign b c bs h = search rules
@@ -47,8 +43,7 @@ pub between_not : (q b : ℕ) (bs : List ℕ) → (b == q) ≡ false → between
 between_not q b bs h = rw (h, and-false (nat_lt 1 (length (b ∷ bs)))) refl
 
 none_after : (o : Option Token) → option_or o None ≡ o
-none_after None = refl
-none_after (Some t) = refl
+none_after o = search rules
 
 -- the token of a text, by its first byte
 abbrev pub token_by : ℕ → List ℕ → Option Token
@@ -60,9 +55,7 @@ token_by b bs =
 by_first : (b : ℕ) (bs : List ℕ) (s t : Bool) → (b == 34) ≡ s → (b == 39) ≡ t
     → token_of (b ∷ bs) ≡ token_by b bs
 unfolding token_of
-by_first b bs true t e f = grind (arith, nat_tests, common_steps, between_not, none_after)
-by_first b bs false true e f = grind (arith, nat_tests, common_steps, between_not, none_after)
-by_first b bs false false e f = rw (between_not 34 b bs e, between_not 39 b bs f, e, f) refl
+by_first b bs s t e f = search (rules, between_not, none_after)
 
 pub token_is : (b : ℕ) (bs : List ℕ) → token_of (b ∷ bs) ≡ token_by b bs
 token_is b bs = by_first b bs (b == 34) (b == 39) refl refl

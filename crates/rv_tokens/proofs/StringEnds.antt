@@ -32,10 +32,7 @@ no_quote base i ds low lt q =
     let other : base ≤ digit_value (get_or ds i 0) = rw q (omega (arith, low)) in no_digits base 255 i ds lt other
 
 none_each : (a b c : Bool) → ◌≡◌ {A = Option ℕ} (cond a (cond b None None) (cond c None None)) None
-none_each true true c = refl
-none_each true false c = refl
-none_each false b true = refl
-none_each false b false = refl
+none_each a b c = search rules
 
 escape_quote : (c : ℕ) (ds : List ℕ) (i : ℕ) → i < length ds → get_or ds i 0 ≡ 34 → escape (c ∷ ds) ≡ None
 unfolding escape hex_byte
@@ -49,8 +46,7 @@ escape_quote c (d ∷ ds) i lt q =
 
 after_first : (s x y : Bool) (o : Option ℕ) (a b : ℕ) → y ≡ false
     → cond s o (cond (x && y) (Some a) None) ≡ Some b → (s ≡ true) × (o ≡ Some b)
-after_first true x y o a b e h = (refl, h)
-after_first false x y o a b e h = let f = rw (e, and-false x) at h in cc
+after_first s x y o a b e h = search (rules, and-false)
 
 before_quote : (quote : ℕ) (s : List ℕ) (b j : ℕ) → spelled quote s ≡ Some b → 0 < j → j < length s
     → get_or s j 0 ≡ 34 → take j s ≡ 92 ∷ []
@@ -94,8 +90,7 @@ spells_none : (t : List ℕ) (j : ℕ) → first_byte t ≡ None → 0 < j → j
 spells_none t j e some le = grind (arith, nat_tests, common_steps, bytes_of_none, length-take, first_byte_take)
 
 is_some_map : (f : List ℕ → List ℕ) (o : Option (List ℕ)) → is_some (option_map f o) ≡ is_some o
-is_some_map f None = refl
-is_some_map f (Some x) = refl
+is_some_map f o = search rules
 
 drop_of_take : (k j : ℕ) (t : List ℕ) → k ≤ j → drop k (take j t) ≡ take (j - k) (drop k t)
 drop_of_take k j t le =
@@ -142,8 +137,7 @@ module _ (text : List ℕ) (i : ℕ) (so : IsScanned text i) where
 -- ---- the string at the front of a line
 
 quote_front : (zs : List ℕ) (m : ℕ) → 0 < m → string_byte_in (34 ∷ zs) m ≡ None
-quote_front zs zero some = absurd (omega arith)
-quote_front zs (suc m) some = spelled_is 34 (34 ∷ take m zs)
+quote_front zs m some = search (rules, spelled_is)
 
 first_byte_quote : (text : List ℕ) (n : ℕ) → n < length text → get_or text n 0 ≡ 34
     → first_byte (drop n text) ≡ None
@@ -156,8 +150,7 @@ quoted_between ys n len = search rules
 quoted_cond : (s : Bool) (ys : List ℕ)
     → ◌≡◌ {A = Option Token} (option_map (λ s. Text s) (option_and_then string_bytes (cond s (Some ys) None)))
     (cond s (option_map (λ s. Text s) (string_bytes ys)) None)
-quoted_cond true ys = refl
-quoted_cond false ys = refl
+quoted_cond s ys = search rules
 
 string_of : (text : List ℕ) (m : ℕ) → m < length text → token_of (34 ∷ take (suc m) text)
     ≡ cond (get_or text m 0 == 34) (option_map (λ s. Text s) (string_bytes (take m text))) None
@@ -177,9 +170,7 @@ string_in text m lt =
 
 no_string : (s : Bool) (o : Option (List ℕ)) → (s ≡ true → is_some o ≡ false)
     → ◌≡◌ {A = Option Token} (cond s (option_map (λ s. Text s) o) None) None
-no_string true None h = refl
-no_string true (Some x) h = let f = h refl in cc
-no_string false o h = refl
+no_string s o h = search rules
 
 -- no string of m bytes, if the bytes up to a quote there spell none
 nowhere : (text : List ℕ) (m : ℕ)
@@ -221,7 +212,6 @@ front_bad text n so test e = search (rules, nat_tests, front_open, cases_lt, ear
 
 -- a line that begins with a quote
 pub begins_quoted : (line : List ℕ) → 0 < length line → get_or line 0 0 ≡ 34 → line ≡ 34 ∷ drop 1 line
-begins_quoted [] some e = absurd (omega arith)
-begins_quoted (b ∷ bs) some e = rw e refl
+begins_quoted line some e = search rules
 
 pub ruleset string_steps = (scanned_some, scanned_more, front_string, front_bad, front_unended, begins_quoted, at_front)
