@@ -6,7 +6,7 @@ use Rattle.std.specs.Prelude.{◌&&◌, ◌||◌, not, nat_eq, nat_lt, filter, f
 use Rattle.std.specs.Bool.{beq}
 use Rattle.std.specs.FinSet.{contains, contains-difference, contains-from_list_nat, contains-insert, contains-remove, contains-union, difference, from_list, insert, remove, union}
 use Rattle.std.specs.Int.{bit_at}
-use Rattle.std.specs.List.{list_any, range_with_len, sum_by}
+use Rattle.std.specs.List.{list_all, list_any, range_with_len, sum_by}
 use Rattle.std.specs.Option.{option_map_or}
 use Rattle.std.proofs.lemmas.Bool.{and_parts, and_from}
 use Rattle.std.proofs.lemmas.Cmp.{nat_cmp_total}
@@ -326,21 +326,13 @@ at_reset = record {
   threshold = 0;
 }
 
-shown : (rows : List (Act × ℕ × ℕ)) → all_by at_reset rows ≡ true → shows_all plic_at_reset rows ≡ true
-shown rows is = all_show at_reset rows is
+each_shows : (tables : List (List (Act × ℕ × ℕ))) → list_all (all_by at_reset) tables ≡ true
+    → list_all (shows_all plic_at_reset) tables ≡ true
+each_shows [] is = refl
+each_shows (rows ∷ tables) is =
+    let p = and_parts (all_by at_reset rows) (list_all (all_by at_reset) tables) is in
+    and_from _ _ (all_show at_reset rows p.0) (each_shows tables p.1)
 
-pub equal : shows_all plic_at_reset EQUAL ≡ true
+pub each_table : list_all (shows_all plic_at_reset) (EQUAL ∷ COMPLETE ∷ EDGES ∷ NESTED ∷ []) ≡ true
 unfolding sources reg_at
-equal = shown EQUAL refl
-
-pub complete : shows_all plic_at_reset COMPLETE ≡ true
-unfolding sources reg_at
-complete = shown COMPLETE refl
-
-pub edges : shows_all plic_at_reset EDGES ≡ true
-unfolding sources reg_at
-edges = shown EDGES refl
-
-pub nested : shows_all plic_at_reset NESTED ≡ true
-unfolding sources reg_at
-nested = shown NESTED refl
+each_table = each_shows (EQUAL ∷ COMPLETE ∷ EDGES ∷ NESTED ∷ []) refl

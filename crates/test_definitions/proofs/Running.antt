@@ -168,22 +168,16 @@ module _ (p : OfLists) (m : Machine) (is : m.bus.plic ≡ of p) where
   loaded_has op rd addr false granted l = tt
   loaded_has op rd addr true false l = tt
   loaded_has op rd addr true true (Plic off) = refl
-  loaded_has op rd addr true true (Ram off) = is
-  loaded_has op rd addr true true Halt = is
-  loaded_has op rd addr true true (Timer reg) = is
-  loaded_has op rd addr true true (Serial reg) = is
   loaded_has op rd addr true true Nowhere = tt
+  loaded_has op rd addr true true l = is
 
   stored_has : (w : Width) (addr v : ℕ) (aligned granted : Bool) (l : Location)
       → IfRetired (Has (after_access p (λ off. stored_by p v (reg_at off)) l)) (store_by p m w addr v aligned granted l)
   stored_has w addr v false granted l = tt
   stored_has w addr v true false l = tt
   stored_has w addr v true true (Plic off) = refl
-  stored_has w addr v true true (Ram off) = is
-  stored_has w addr v true true Halt = is
-  stored_has w addr v true true (Timer reg) = is
-  stored_has w addr v true true (Serial reg) = is
   stored_has w addr v true true Nowhere = tt
+  stored_has w addr v true true l = is
 
   leaves : (k : Kind) (e : Result Machine Trap) → accessed k m ≡ None → IfRetired (Reaches m k) e
       → IfRetired (Has p) e
@@ -326,7 +320,7 @@ moved_by rows p b e = if is_some b.machine.bus.halt then b else event_by rows p 
 abbrev lists_on : List Row → OfLists → BoardState → Event → OfLists
 lists_on rows p b e = if is_some b.machine.bus.halt then p else lists_by rows p b e
 
-abbrev ran : List Row → OfLists → List Event → BoardState → Option BoardState
+abbrev pub ran : List Row → OfLists → List Event → BoardState → Option BoardState
 ran rows p [] b = Some b
 ran rows p (e ∷ es) b =
     if is_computed rows p b.machine then ran rows (lists_on rows p b e) es (moved_by rows p b e) else None

@@ -1,5 +1,6 @@
 //! The interrupt controller: what its registers and its line show after lines, ticks, stores and loads.
-ghost use Rattle.std.specs.Prelude.{◌≡◌, true};
+ghost use Rattle.std.specs.Prelude.{◌≡◌, ◌∷◌, [], true};
+ghost use Rattle.std.specs.List.{list_all};
 ghost use Rattle.rv_plic.specs.Gateways.{plic_at_reset};
 ghost use Rattle.test_definitions.specs.Support.Controller.{shows_all};
 
@@ -112,12 +113,9 @@ pub const NESTED: [(Act, u32, u32); 20] = [
 ];
 
 /// Law: the definition of the interrupt controller shows what each table says.
-#[tactic(auto, using(crate::proofs::Lists::equal, crate::proofs::Lists::complete, crate::proofs::Lists::edges, crate::proofs::Lists::nested))]
+#[tactic(auto, using(crate::proofs::Lists::each_table))]
 pub fn controllers_are_defined()
-    ensures equal { shows_all plic_at_reset EQUAL ≡ true }
-    ensures complete { shows_all plic_at_reset COMPLETE ≡ true }
-    ensures edges { shows_all plic_at_reset EDGES ≡ true }
-    ensures nested { shows_all plic_at_reset NESTED ≡ true }
+    ensures { list_all (shows_all plic_at_reset) (EQUAL ∷ COMPLETE ∷ EDGES ∷ NESTED ∷ []) ≡ true }
 {}
 
 #[cfg(test)]

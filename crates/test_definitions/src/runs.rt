@@ -1,7 +1,8 @@
 //! Whole runs: programs by their words, and what they leave.
-ghost use Rattle.std.specs.Prelude.{◌≡◌, true, ◌∷◌, []};
+ghost use Rattle.std.specs.Prelude.{◌≡◌, true};
 ghost use Rattle.std.specs.List.{list_all};
-ghost use Rattle.test_definitions.specs.Support.Runs.{has_word, leaves, ran_for, ran_with};
+ghost use Rattle.test_definitions.specs.Support.Programs.{runs};
+ghost use Rattle.test_definitions.specs.Support.Runs.{ends, has_word, ran_for};
 
 use rv_isa::{Operation, one_meaning};
 
@@ -321,18 +322,12 @@ pub const EXTERNAL_ENDS: [(u8, u32); 8] = [
     (21, 1),
 ];
 
-/// Law: on the definition of a run, each program leaves this pc, these registers and this console after so many steps,
+/// Law: on the definition of a run, each program leaves this pc, these registers and this console after these events,
 /// and each of its words is that of its fields.
-#[tactic(auto, using(crate::proofs::Programs::hello, crate::proofs::Programs::trap, crate::proofs::Programs::user, crate::proofs::Programs::timer, crate::proofs::Programs::changes, crate::proofs::Programs::call, crate::proofs::Programs::call_inside, crate::proofs::Programs::external))]
+#[tactic(auto, using(crate::proofs::Programs::each_run, crate::proofs::Programs::call_inside))]
 pub fn runs_are_defined()
-    ensures hello { leaves HELLO 0x8000001c HELLO_ENDS (72 ∷ []) (ran_for HELLO 7) ≡ true }
-    ensures trap { leaves TRAP 0x80000018 TRAP_ENDS ([]) (ran_for TRAP 16) ≡ true }
-    ensures user { leaves USER 0x8000003c USER_ENDS ([]) (ran_for USER 16) ≡ true }
-    ensures timer { leaves TIMER 0x8000003c TIMER_ENDS ([]) (ran_for TIMER 17) ≡ true }
-    ensures changes { leaves CHANGES 0x80000014 CHANGES_ENDS ([]) (ran_for CHANGES 5) ≡ true }
-    ensures call { leaves CALL 0x80000044 CALL_ENDS ([]) (ran_for CALL 17) ≡ true }
+    ensures ends { list_all ends runs ≡ true }
     ensures inside { list_all (has_word (ran_for CALL 11)) CALL_INSIDE ≡ true }
-    ensures external { leaves EXTERNAL 0x80000044 EXTERNAL_ENDS ([]) (ran_with EXTERNAL EXTERNAL_LINES 6) ≡ true }
 {
     one_meaning();
 }

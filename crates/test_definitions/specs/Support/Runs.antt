@@ -25,17 +25,17 @@ fields row = with_fields row.0 (slice_index row.1 0) (slice_index row.1 1) (slic
 abbrev pub image : List Row → List ℕ
 image rows = flat_map (λ row. to_le_bytes w32 row.3) rows
 
--- a board with a page of memory, after it ran a program for a number of steps from its reset on
+-- a board with a page of memory, after a program and events from its reset on
+abbrev pub ran : List Row → List Event → BoardState
+ran rows events = run (board_at_reset (image rows) 4096) events
+
+-- the board after a number of steps
 abbrev pub ran_for : List Row → ℕ → BoardState
-ran_for rows steps = run (board_at_reset (image rows) 4096) (replicate steps Step)
+ran_for rows steps = ran rows (replicate steps Step)
 
 -- the events of rows, each of which has a number of steps, and then a source whose line gets a level
 abbrev pub events_of : List (ℕ × ℕ × ℕ) → List Event
 events_of rows = flat_map (λ row. replicate row.0 Step ++ Line row.1 (row.2 == 1) ∷ []) rows
-
--- a board after the events of rows, and a number of steps more
-abbrev pub ran_with : List Row → List (ℕ × ℕ × ℕ) → ℕ → BoardState
-ran_with rows lines steps = run (board_at_reset (image rows) 4096) (events_of lines ++ replicate steps Step)
 
 -- each word of a program is that of its fields
 abbrev pub has_its_words : List Row → Bool
@@ -52,6 +52,13 @@ is_at pc values sent b = (b.machine.pc == pc) && list_all (has b) values && byte
 -- a program has the words of its fields, and what it leaves is this
 abbrev pub leaves : List Row → ℕ → List (ℕ × ℕ) → List ℕ → BoardState → Bool
 leaves rows pc values sent b = has_its_words rows && is_at pc values sent b
+
+-- a program with the events of a run, and the pc, the registers and the console that they leave
+abbrev pub Run : Type 0
+Run = List Row × List Event × ℕ × List (ℕ × ℕ) × List ℕ
+
+abbrev pub ends : Run → Bool
+ends r = leaves r.0 r.2 r.3 r.4 (ran r.0 r.1)
 
 -- a control register has a word, as machine mode reads it
 abbrev pub has_word : BoardState → ℕ × ℕ → Bool
