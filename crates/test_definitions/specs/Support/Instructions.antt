@@ -25,9 +25,9 @@ is_condition row = beq (is_taken row.0 row.1 row.2) row.3
 abbrev pub row_fields : Operation × List ℕ × ℤ × ℕ × List ℕ → Fields
 row_fields row = with_fields row.0 (slice_index row.1 0) (slice_index row.1 1) (slice_index row.1 2) row.2
 
--- a text, filled up with blanks to 21 bytes
+-- a text, filled up with blanks to 19 bytes
 abbrev pub filled : List ℕ → List ℕ
-filled text = take 21 (text ++ replicate 21 32)
+filled text = take 19 (text ++ replicate 19 32)
 
 -- fields have a word, and their kind a text
 abbrev pub is_word : Operation × List ℕ × ℤ × ℕ × List ℕ → Bool
