@@ -1,5 +1,5 @@
 -- The labels among the symbols of a file, and how many bytes it has.
-use Rattle.std.proofs.Common.{◌≡◌, ◌∙◌, ℕ, Bool, true, false, ◌+◌, ◌-◌, ◌*◌, ◌^◌, ◌<◌, ◌≤◌, List, [], ◌∷◌, ◌++◌, map, drop, length, Some, None, refl, ap, arith}
+use Rattle.std.proofs.Common.{◌≡◌, ◌∙◌, ℕ, Bool, true, false, ◌+◌, ◌-◌, ◌*◌, ◌^◌, ◌≤◌, List, [], ◌∷◌, ◌++◌, map, drop, length, Some, None, refl, ap, arith}
 use Rattle.std.specs.Prelude.{Option, codes, nat_lt, if◌then◌else◌}
 use Rattle.std.specs.Option.{option_map, unwrap_or}
 use Rattle.rv_elf.specs.Elf.{contents}
@@ -7,7 +7,6 @@ use Rattle.rv_elf.specs.Frames.{description_of, descriptions}
 use Rattle.rv_elf.specs.Symbols.{Symbol, named, null_symbol}
 use Rattle.rv_elf.specs.Object.{symbols_of}
 use Rattle.rv_asm.specs.Lines.{Listed}
-use Rattle.rv_base.specs.Limits.{ram_base}
 use Rattle.rv_elf.specs.Size.{file_size, frames_size, functions_size, info_size, symbols_size}
 use Rattle.rv_elf.specs.declared.frames.Function.{Function}
 use Rattle.rv_elf.specs.declared.lines.PlacedLine.{PlacedLine}
@@ -123,15 +122,12 @@ pub exceeds : (image : List ℕ) (symbols : List Symbol) (lines : List PlacedLin
     (l : Listed) → image ≡ l.assembly.bytes → map name_and_value symbols ≡ (name, 0) ∷ all_labels l →
     lines ≡ placed_from l 1 (length l.addresses - 1) → length frames ≤ 40 + 48 * length l.assembly.bytes →
     length macros ≤ 12 + 2 ^ 28 →
-    (ram_base + length image < 2 ^ 32 → 2 ^ 32 ≤ file_size image (map (λ (s : Symbol). s.name) symbols) lines name
-    + info_size name folder symbols + length frames + length macros) →
-    ram_base + length l.assembly.bytes < 2 ^ 32 → 2 ^ 32 ≤ size_of l name + most_of l name folder
-exceeds image symbols lines name folder frames macros l i s p a b h end =
+    2 ^ 32 ≤ file_size image (map (λ (s : Symbol). s.name) symbols) lines name + info_size name folder symbols
+    + length frames + length macros → 2 ^ 32 ≤ size_of l name + most_of l name folder
+exceeds image symbols lines name folder frames macros l i s p a b h =
     let size = sizes_are image symbols lines name l i s p in
     let few = info_few symbols name folder l s in
-    let within : ram_base + length image < 2 ^ 32 = rw i end in
-    let above = h within in
-    omega (arith, size, few, above, a, b)
+    omega (arith, size, few, h, a, b)
 
 -- ---- frames
 

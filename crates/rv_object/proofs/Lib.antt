@@ -1,3 +1,4 @@
 pub mod Labelled
+pub mod Most
 pub mod Rising
 pub mod Texts

@@ -32,20 +32,31 @@ more : (l : Listed) (n k : ℕ) → placed_from l n (suc k) ≡ placed_line l n 
 unfolding placed_from
 more l n k = refl
 
--- one more line: what is left is what follows it
+-- what is left is a line, and what follows it
+pub next_line : (l : Listed) (line next count : ℕ) → next ≡ line + 1 → line < count →
+    placed_from l (suc line) (count - line) ≡ placed_line l next ++ placed_from l (suc next) (count - next)
+next_line l line next count is below =
+    let n : next ≡ suc line = omega arith in
+    let k : count - line ≡ suc (count - next) = omega arith in
+    rw (k, ← n) (more l next (count - next))
+
+-- nothing is left
+pub no_line : (l : Listed) (line count : ℕ) → count ≤ line → placed_from l (suc line) (count - line) ≡ []
+no_line l line count above =
+    let k : count - line ≡ 0 = omega arith in
+    ap (λ (c : ℕ). placed_from l (suc line) c) k ∙ none l (suc line)
+
+-- one more line
 pub one_more : (l : Listed) (old new all : List PlacedLine) (line next count : ℕ) → next ≡ line + 1 → line < count →
     old ++ placed_from l (suc line) (count - line) ≡ all → new ≡ old ++ placed_line l next →
     new ++ placed_from l (suc next) (count - next) ≡ all
-one_more l old new all line next count is below h e =
-    let n : next ≡ suc line = omega arith in
-    let k : count - line ≡ suc (count - next) = omega arith in
-    let f : placed_from l (suc line) (count - line) ≡ placed_line l next ++ placed_from l (suc next) (count - next) =
-    rw (k, ← n) (more l next (count - next)) in
-    rw (e, append_assoc old (placed_line l next) (placed_from l (suc next) (count - next)), ← f) h
+one_more l old new all line next count is below h e = rw (
+  e,
+  append_assoc old (placed_line l next) (placed_from l (suc next) (count - next)),
+  ← next_line l line next count is below,
+) h
 
 pub all_done : (l : Listed) (out all : List PlacedLine) (line count : ℕ) → count ≤ line →
     out ++ placed_from l (suc line) (count - line) ≡ all → out ≡ all
 all_done l out all line count above h =
-    let k : count - line ≡ 0 = omega arith in
-    sym (append-nil out) ∙ ap (λ (x : List PlacedLine). out ++ x) (sym (none l (suc line)))
-    ∙ ap (λ (c : ℕ). out ++ placed_from l (suc line) c) (sym k) ∙ h
+    sym (append-nil out) ∙ ap (λ (x : List PlacedLine). out ++ x) (sym (no_line l line count above)) ∙ h

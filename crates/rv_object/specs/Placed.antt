@@ -1,6 +1,6 @@
 -- What the ELF file of a source says of its labels and lines.
 -- To audit: public contracts cite this.
-use Rattle.std.specs.Prelude.{◌≡◌, ℕ, zero, suc, ◌+◌, ◌-◌, ◌*◌, ◌^◌, ◌==◌, ◌&&◌, Bool, false, not, List, [], ◌∷◌, ◌++◌, codes, map, drop, length, nat_lt, if◌then◌else◌, Option, Some, None, is_some}
+use Rattle.std.specs.Prelude.{◌≡◌, ℕ, zero, suc, ◌+◌, ◌-◌, ◌*◌, ◌^◌, ◌<◌, ◌==◌, ◌&&◌, Bool, false, not, List, [], ◌∷◌, ◌++◌, codes, map, drop, length, nat_lt, if◌then◌else◌, Option, Some, None, is_some}
 use Rattle.std.specs.Option.{unwrap_or}
 use Rattle.rv_base.specs.Limits.{ram_base}
 use Rattle.rv_program.specs.Program.{value_of}
@@ -80,3 +80,8 @@ most_of l name folder =
 abbrev pub tables_size : List ℕ → ℕ
 tables_size file = section_size file (codes ".debug_info") + section_size file (codes ".debug_frame")
     + section_size file (codes ".debug_macro")
+
+-- the file of a source can be written: it has less than 4 GiB at most, and a line's number has 32 bits
+abbrev pub Fits : Listed → List ℕ → List ℕ → Type 0
+Fits l name folder =
+    (length l.addresses - 1 < 2 ^ 32) × (size_of l name + most_of l name folder < 2 ^ 32)

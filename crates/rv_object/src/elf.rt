@@ -9,12 +9,13 @@ ghost use Rattle.rv_elf.specs.LineNumbers.{rows_after, Rises};
 ghost use Rattle.rv_elf.specs.Object.{lines_of, symbols_of};
 ghost use Rattle.rv_elf.specs.Size.{file_size, frames_size, info_size};
 ghost use Rattle.rv_elf.specs.Symbols.{named, null_symbol};
-ghost use Rattle.rv_elf.specs.declared.fault.ElfFault.TheVariants.{TooLarge};
-ghost use Rattle.rv_object.specs.Placed.{all_labels, most_of, names_and_values, placed_from, size_of, tables_size, texts, AreFrames};
+ghost use Rattle.rv_elf.specs.declared.fault.ElfFault.TheVariants.{OutOfMemory, TooLarge};
+ghost use Rattle.rv_object.specs.Placed.{all_labels, most_of, names_and_values, placed_from, size_of, tables_size, texts, AreFrames, Fits};
 
 use crate::constants::macros_of;
 use crate::labels::symbols_of;
 use crate::placed::placed_lines;
+use crate::size::most_size;
 use rv_asm::Listing;
 use rv_elf::{
     ElfFault, Function, Object, PlacedLine, Symbol, write_frames, write_macros, write_object,
@@ -70,9 +71,9 @@ fn write(
         + length tables.now.frames.items + length tables.now.macros.items) }
     ensures end { OnOk result (ram_base + length (seen listing.entry).assembly.bytes < 2 ^ 32) }
     ensures within { IfOk result (λ f. length f.items < 2 ^ 32) }
-    ensures large { IfErr result (λ e. e ≡ TooLarge → ram_base + length (seen listing.entry).assembly.bytes < 2 ^ 32 →
-        2 ^ 32 ≤ file_size (seen listing.entry).assembly.bytes (map (λ s. s.name) symbols.now) lines.now name.now
-        + info_size name.now folder.now symbols.now + length tables.now.frames.items + length tables.now.macros.items) }
+    ensures large { IfErr result (λ e. e ≡ TooLarge → 2 ^ 32 ≤ file_size (seen listing.entry).assembly.bytes
+        (map (λ s. s.name) symbols.now) lines.now name.now + info_size name.now folder.now symbols.now
+        + length tables.now.frames.items + length tables.now.macros.items) }
 {
     let object = Object {
         image: listing.program.bytes(),
@@ -92,8 +93,8 @@ fn write(
 ///
 /// # Errors
 ///
-/// - `TooLarge` if the source has 2 ^ 32 lines or more, if the address following its image has more than 32 bits, or if
-///   the file would have 4 GiB or more.
+/// - `TooLarge` if the source has 2 ^ 32 lines or more, or if the file may have 4 GiB or more, by the most bytes of its
+///   functions, frames and macros.
 /// - `OutOfMemory` if memory runs out.
 pub fn elf_file(
     alloc: Global,
@@ -113,10 +114,13 @@ pub fn elf_file(
     ensures within { IfOk result (λ f. length f.items < 2 ^ 32) }
     ensures end { OnOk result (ram_base + length (seen listing.entry).assembly.bytes < 2 ^ 32) }
     ensures count { OnOk result (length (seen listing.entry).addresses - 1 < 2 ^ 32) }
-    ensures large { IfErr result (λ e. e ≡ TooLarge → length (seen listing.entry).addresses - 1 < 2 ^ 32 →
-        ram_base + length (seen listing.entry).assembly.bytes < 2 ^ 32 →
-        2 ^ 32 ≤ size_of (seen listing.entry) name.now + most_of (seen listing.entry) name.now folder.now) }
+    ensures fits { OnOk result (Fits (seen listing.entry) name.now folder.now) }
+    ensures large { IfErr result (λ e. e ≡ TooLarge → Fits (seen listing.entry) name.now folder.now → ⊥) }
+    ensures memory { IfErr result (λ e. e ≡ OutOfMemory → Fits (seen listing.entry) name.now folder.now) }
 {
+    let Some(_) = most_size(listing, name, folder) else {
+        return Err(ElfFault::TooLarge);
+    };
     let functions = functions_of(alloc, listing)?;
     let lines = placed_lines(alloc, listing)?;
     let tables = tables_of(alloc, listing, functions.as_slice())?;

@@ -103,7 +103,7 @@ fn starts_named(labels: &[PlacedName]) -> bool
 }
 
 /// Returns whether no label is where the program begins, and no name is `_start`.
-fn lacks_start(listing: Listing<'_>) -> bool
+pub fn lacks_start(listing: Listing<'_>) -> bool
     ensures { result ≡ lacks_start (seen listing.entry) }
 {
     !starts_named(listing.labels()) && listing.program.symbol(START).is_none()

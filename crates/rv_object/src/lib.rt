@@ -6,6 +6,7 @@ mod elf;
 mod labels;
 mod listing;
 mod placed;
+mod size;
 
 pub use elf::elf_file;
 pub use listing::listing_text;

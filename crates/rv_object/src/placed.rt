@@ -1,5 +1,5 @@
 //! The lines of a source that have bytes.
-ghost use Rattle.std.specs.Prelude.{◌≡◌, ◌++◌, ◌-◌, ◌^◌, ◌<◌, ◌≤◌, IfErr, IfOk, OnOk, SomeIff, length, option_to_list};
+ghost use Rattle.std.specs.Prelude.{◌≡◌, ◌++◌, ◌-◌, ◌^◌, ◌<◌, ◌≤◌, IfErr, IfOk, IfSome, OnOk, SomeIff, length, option_to_list};
 ghost use Rattle.rv_asm.specs.Seen.{seen};
 ghost use Rattle.rv_elf.specs.LineNumbers.{Rises};
 ghost use Rattle.rv_elf.specs.declared.fault.ElfFault.TheVariants.{OutOfMemory, TooLarge};
@@ -10,8 +10,9 @@ use rv_elf::{ElfFault, PlacedLine};
 use std::alloc::{AllocError, Global};
 
 /// Returns a line with its address, if it has bytes.
-fn placed_line(listing: Listing<'_>, line: u32) -> Option<PlacedLine>
-    ensures { option_to_list result ≡ placed_line (seen listing.entry) line }
+pub fn placed_line(listing: Listing<'_>, line: u32) -> Option<PlacedLine>
+    ensures row { option_to_list result ≡ placed_line (seen listing.entry) line }
+    ensures line { IfSome result (λ p. p.line ≡ line) }
 {
     if listing.bytes(line as usize).is_empty() {
         return None;

@@ -35,20 +35,21 @@ pub returns-in_err-tables-clause-large : goal.returns-in_err-tables-clause-large
 returns-in_err-tables-clause-large c =
     let e = err_from_is_err_and c.from_residual-in_err-tables.result c.from_residual-in_err-tables.ensures.1 in
     rw (e.1, e.2)
-    (λ is _ _.
+    (λ is fits.
     let low : 2 ^ 32 ≤ 40 + 48 * length (seen c.args.listing).assembly.bytes =
     many _ _ c.as_slice.result.now c.in_ok-functions.functions.items c.as_slice.ensures.value
     (c.in_err-tables.ensures.large is) c.in_ok-functions.ensures in
-    omega arith)
+    omega (arith, low, fits.1))
 
 pub returns-in_err-file-clause-large : goal.returns-in_err-file-clause-large
 returns-in_err-file-clause-large c =
     let e = err_from_is_err_and c.from_residual-in_err-file.result c.from_residual-in_err-file.ensures.1 in
     rw (e.1, e.2)
-    (λ is _.
-    exceeds _ c.as_slice-3.result.now c.as_slice-4.result.now c.args.name.now c.args.folder.now
+    (λ is fits.
+    let above = exceeds _ c.as_slice-3.result.now c.as_slice-4.result.now c.args.name.now c.args.folder.now
     c.in_ok-tables.tables.frames.items c.in_ok-tables.tables.macros.items (seen c.args.listing) refl
     (ap (λ (x : List Symbol). map name_and_value x) c.as_slice-3.ensures.value ∙ c.in_ok-symbols.ensures)
     (c.as_slice-4.ensures.value ∙ c.in_ok-lines.ensures.value)
     (few _ _ c.as_slice.result.now c.in_ok-functions.functions.items c.as_slice.ensures.value
-    c.in_ok-tables.ensures.size c.in_ok-functions.ensures) c.in_ok-tables.ensures.macros (c.in_err-file.ensures.large is))
+    c.in_ok-tables.ensures.size c.in_ok-functions.ensures) c.in_ok-tables.ensures.macros (c.in_err-file.ensures.large is) in
+    omega (arith, above, fits.1))
