@@ -97,7 +97,7 @@ fn write_form(rt: &HostRuntime, words: &Words<'_>, listing: Listing<'_>, output:
         Ok(bytes) => write_bytes(rt, output, &bytes),
         Err(ElfFault::OutOfMemory) => no_memory(rt),
         Err(ElfFault::TooLarge) => {
-            report(rt, &["error: ", output, " would have 4 GiB or more\n"]);
+            report(rt, &["error: ", output, " may have 4 GiB or more\n"]);
             FAILED
         }
     }
