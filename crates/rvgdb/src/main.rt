@@ -29,6 +29,9 @@ const FAILED: u8 = 4;
 /// The path by which gdb knows the program's file.
 const PATH: &[u8] = b"/board.elf";
 
+/// What is told where gdb gets no file of the program.
+const TOO_LARGE: &[u8] = b"the program's ELF file may have 4 GiB or more: gdb gets none\n";
+
 /// Writes a line to the standard error, and returns the exit status of a failure.
 fn fail(rt: &HostRuntime, line: &[u8]) -> u8 {
     let _ = rt.stderr().write_all(line);
@@ -57,11 +60,14 @@ fn folder(rt: &HostRuntime) -> Vec<u8> {
     folder.unwrap_or(Vec::new(rt.alloc()))
 }
 
-/// Returns the program's ELF file, or an empty one where it would be too large.
+/// Returns the program's ELF file. Where that may be too large, this is told, and it is an empty one.
 fn program_file(rt: &HostRuntime, name: &str, lab: &Lab) -> Result<Vec<u8>, NoMemory> {
     match elf_file(rt.alloc(), lab.listing(), name.as_bytes(), &folder(rt)) {
         Ok(file) => Ok(file),
-        Err(ElfFault::TooLarge) => Ok(Vec::new(rt.alloc())),
+        Err(ElfFault::TooLarge) => {
+            let _told = rt.stderr().write_all(TOO_LARGE);
+            Ok(Vec::new(rt.alloc()))
+        }
         Err(ElfFault::OutOfMemory) => Err(NoMemory),
     }
 }
