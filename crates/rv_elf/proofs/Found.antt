@@ -2,66 +2,52 @@
 use Rattle.std.proofs.Common.{◌≡◌, ◌∙◌, ℕ, List, Some, length, refl, ap}
 use Rattle.std.specs.Prelude.{codes, Option}
 use Rattle.std.specs.Option.{option_map}
-use Rattle.rv_elf.specs.Elf.{sections, half_at, contents, contents_in, text}
+use Rattle.rv_elf.specs.Elf.{Section, sections, half_at, contents, contents_in, text}
 use Rattle.rv_elf.specs.Symbols.{Symbol, symbols}
 use Rattle.rv_elf.specs.LineNumbers.{Row, rows}
 use Rattle.rv_elf.specs.Object.{symbols_of, lines_of}
-use Rattle.rv_elf.specs.Support.Sections.{Parts, sections_of, section_names}
+use Rattle.rv_elf.specs.declared.object.Tables.{Tables}
+use Rattle.rv_elf.specs.Support.Sections.{Parts, parts, sections_of, section_names}
 
-in_sections : (file : List ℕ) (p : Parts) (count : ℕ) (name : List ℕ) → sections file ≡ sections_of p count →
-    half_at file 50 ≡ 11 → contents file name ≡ contents_in section_names (sections_of p count) name
-in_sections file p count name is last = rw (last, is) refl
+-- the bytes of the sections that have a table each
+record AreIn (p : Parts) (ss : List Section) : Type 0 where
+  table : contents_in section_names ss (codes ".symtab") ≡ Some p.table
+  strings : contents_in section_names ss (codes ".strtab") ≡ Some p.strings
+  info : contents_in section_names ss (codes ".debug_info") ≡ Some p.info
+  lines : contents_in section_names ss (codes ".debug_line") ≡ Some p.lines
+  frames : contents_in section_names ss (codes ".debug_frame") ≡ Some p.frames
+  macros : contents_in section_names ss (codes ".debug_macro") ≡ Some p.macros
 
-table_in : (p : Parts) (count : ℕ) → contents_in section_names (sections_of p count) (codes ".symtab") ≡ Some p.table
+are_in : (p : Parts) (count : ℕ) → AreIn p (sections_of p count)
 unfolding contents_in text
-table_in p count = refl
+are_in p count = record { table = refl; strings = refl; info = refl; lines = refl; frames = refl; macros = refl }
 
-strings_in : (p : Parts) (count : ℕ) → contents_in section_names (sections_of p count) (codes ".strtab") ≡ Some p.strings
-unfolding contents_in text
-strings_in p count = refl
+module _ (file attributes abbreviations image : List ℕ) (t : Tables) (frames macros : List ℕ) (count : ℕ)
+    (is : sections file ≡ sections_of (parts attributes abbreviations image t frames macros) count)
+    (last : half_at file 50 ≡ 11) where
+  in_it : AreIn (parts attributes abbreviations image t frames macros)
+      (sections_of (parts attributes abbreviations image t frames macros) count)
+  in_it = are_in (parts attributes abbreviations image t frames macros) count
 
-lines_in : (p : Parts) (count : ℕ) → contents_in section_names (sections_of p count) (codes ".debug_line") ≡ Some p.lines
-unfolding contents_in text
-lines_in p count = refl
+  in_sections : (name : List ℕ) → contents file name
+      ≡ contents_in section_names (sections_of (parts attributes abbreviations image t frames macros) count) name
+  in_sections name = rw (last, is) refl
 
-frames_in : (p : Parts) (count : ℕ) → contents_in section_names (sections_of p count) (codes ".debug_frame") ≡ Some p.frames
-unfolding contents_in text
-frames_in p count = refl
+  pub info_found : (n : ℕ) → length t.info.items ≡ n → option_map length (contents file (codes ".debug_info")) ≡ Some n
+  info_found n e = ap (λ (o : Option (List ℕ)). option_map length o) (in_sections (codes ".debug_info") ∙ in_it.info)
+      ∙ ap (λ (k : ℕ). Some k) e
 
-info_in : (p : Parts) (count : ℕ) → contents_in section_names (sections_of p count) (codes ".debug_info") ≡ Some p.info
-unfolding contents_in text
-info_in p count = refl
+  pub frames_found : contents file (codes ".debug_frame") ≡ Some frames
+  frames_found = in_sections (codes ".debug_frame") ∙ in_it.frames
 
-pub info_found : (file : List ℕ) (p : Parts) (count n : ℕ) → sections file ≡ sections_of p count → half_at file 50 ≡ 11 →
-    length p.info ≡ n → option_map length (contents file (codes ".debug_info")) ≡ Some n
-info_found file p count n is last e =
-    ap (λ (o : Option (List ℕ)). option_map length o) (in_sections file p count (codes ".debug_info") is last ∙ info_in p count)
-    ∙ ap (λ (k : ℕ). Some k) e
+  pub macros_found : contents file (codes ".debug_macro") ≡ Some macros
+  macros_found = in_sections (codes ".debug_macro") ∙ in_it.macros
 
-macros_in : (p : Parts) (count : ℕ) → contents_in section_names (sections_of p count) (codes ".debug_macro") ≡ Some p.macros
-unfolding contents_in text
-macros_in p count = refl
+  pub symbols_found : (all : List Symbol) → symbols t.symbols.strings.items t.symbols.table.items ≡ all →
+      symbols_of file ≡ Some all
+  symbols_found all e =
+      rw (in_sections (codes ".symtab"), in_it.table, in_sections (codes ".strtab"), in_it.strings)
+      (ap (λ (x : List Symbol). Some x) e)
 
-pub frames_found : (file : List ℕ) (p : Parts) (count : ℕ) → sections file ≡ sections_of p count → half_at file 50 ≡ 11 →
-    contents file (codes ".debug_frame") ≡ Some p.frames
-frames_found file p count is last = in_sections file p count (codes ".debug_frame") is last ∙ frames_in p count
-
-pub macros_found : (file : List ℕ) (p : Parts) (count : ℕ) → sections file ≡ sections_of p count → half_at file 50 ≡ 11 →
-    contents file (codes ".debug_macro") ≡ Some p.macros
-macros_found file p count is last = in_sections file p count (codes ".debug_macro") is last ∙ macros_in p count
-
-pub symbols_found : (file : List ℕ) (p : Parts) (count : ℕ) (all : List Symbol) → sections file ≡ sections_of p count →
-    half_at file 50 ≡ 11 → symbols p.strings p.table ≡ all → symbols_of file ≡ Some all
-symbols_found file p count all is last e =
-    rw (
-      in_sections file p count (codes ".symtab") is last,
-      table_in p count,
-      in_sections file p count (codes ".strtab") is last,
-      strings_in p count,
-    )
-    (ap (λ (x : List Symbol). Some x) e)
-
-pub lines_found : (file : List ℕ) (p : Parts) (count : ℕ) (all : Option (List Row)) → sections file ≡ sections_of p count →
-    half_at file 50 ≡ 11 → rows p.lines ≡ all → lines_of file ≡ all
-lines_found file p count all is last e =
-    rw (in_sections file p count (codes ".debug_line") is last, lines_in p count) e
+  pub lines_found : (all : Option (List Row)) → rows t.lines.items ≡ all → lines_of file ≡ all
+  lines_found all e = rw (in_sections (codes ".debug_line"), in_it.lines) e

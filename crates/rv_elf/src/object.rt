@@ -4,11 +4,11 @@ ghost use Rattle.rv_elf.specs.declared.fault.ElfFault.TheVariants.{TooLarge};
 ghost use Rattle.rv_base.specs.Limits.{ram_base};
 ghost use Rattle.rv_elf.specs.Elf.{contents, half_at, image_at};
 ghost use Rattle.rv_elf.specs.Elf as elf;
-ghost use Rattle.rv_elf.specs.LineNumbers.{rows_after, Rises};
+ghost use Rattle.rv_elf.specs.LineNumbers.{rows, rows_after, Rises};
 ghost use Rattle.rv_elf.specs.Object.{lines_of, symbols_of};
-ghost use Rattle.rv_elf.specs.Size.{file_size, info_size};
+ghost use Rattle.rv_elf.specs.Size.{file_size, info_size, lines_size, symbols_size};
 ghost use Rattle.std.specs.Option.{option_map};
-ghost use Rattle.rv_elf.specs.Symbols.{named, null_symbol};
+ghost use Rattle.rv_elf.specs.Symbols.{named, null_symbol, symbols};
 ghost use Rattle.rv_elf.specs.Support.Sections.{parts, sections_of};
 ghost use Rattle.rv_elf.specs.Support.Written.{bodies};
 ghost use Rattle.rv_elf.specs.Support.Sections as spec;
@@ -144,13 +144,44 @@ fn entries_of(symbols: &[Symbol<'_>]) -> Option<u32>
     count.checked_add(1)
 }
 
+/// Returns the tables of an object whose image ends at an address.
+#[tactic(auto, using(crate::proofs::Sizes::strings_exceed))]
+fn tables_of(alloc: Global, object: &Object<'_>, end: u32) -> Result<Tables, ElfFault>
+    requires rises { Rises 1 object.now.lines.now }
+    requires end { ram_base ≤ end }
+    ensures symbols { IfOk result (λ t. symbols t.symbols.strings.items t.symbols.table.items
+        ≡ null_symbol ∷ map named object.now.symbols.now) }
+    ensures lines { IfOk result (λ t. rows t.lines.items ≡ Some (rows_after 1 object.now.lines.now end)) }
+    ensures info { IfOk result (λ t. length t.info.items
+        ≡ info_size object.now.name.now object.now.folder.now object.now.symbols.now) }
+    ensures names { IfOk result (λ t. length t.symbols.table.items + length t.symbols.strings.items
+        ≡ 17 + symbols_size (map (λ s. s.name) object.now.symbols.now)) }
+    ensures rows { IfOk result (λ t. length t.lines.items ≡ lines_size object.now.name.now object.now.lines.now) }
+    ensures ranges { IfOk result (λ t. length t.ranges.items ≡ 32) }
+    ensures large { IfErr result (λ e. e ≡ TooLarge → 2 ^ 32
+        ≤ file_size object.now.image.now (map (λ s. s.name) object.now.symbols.now) object.now.lines.now object.now.name.now
+        + info_size object.now.name.now object.now.folder.now object.now.symbols.now) }
+{
+    let size = end - RAM_BASE;
+    let symbols = write_symbols(alloc, object.symbols)?;
+    let info = write_info(alloc, object.name, object.folder, size, object.symbols)?;
+    let lines = write_lines(alloc, object.name, object.lines, end)?;
+    let ranges = write_ranges(alloc, size)?;
+    Ok(Tables {
+        symbols,
+        info,
+        lines,
+        ranges,
+    })
+}
+
 /// Writes the file of an assembled source: its image is loaded at 0x80000000, where it begins.
 ///
 /// # Errors
 ///
 /// - `TooLarge` if the address following the image has more than 32 bits, or if the file would have 4 GiB or more.
 /// - `OutOfMemory` if memory runs out.
-#[tactic(auto, using(crate::proofs::Sizes::strings_exceed, crate::proofs::Sizes::symbols_exceed))]
+#[tactic(auto, using(crate::proofs::Sizes::symbols_exceed))]
 pub fn write_object(alloc: Global, object: &Object<'_>) -> Result<Vec<u8>, ElfFault>
     requires { Rises 1 object.now.lines.now }
     ensures image { IfOk result (λ f. elf.loaded f.items ≡ Some (image_at object.now.image.now)) }
@@ -177,17 +208,7 @@ pub fn write_object(alloc: Global, object: &Object<'_>) -> Result<Vec<u8>, ElfFa
     let Some(count) = entries_of(object.symbols) else {
         return Err(ElfFault::TooLarge);
     };
-    let size = end - RAM_BASE;
-    let symbols = write_symbols(alloc, object.symbols)?;
-    let info = write_info(alloc, object.name, object.folder, size, object.symbols)?;
-    let lines = write_lines(alloc, object.name, object.lines, end)?;
-    let ranges = write_ranges(alloc, size)?;
-    let tables = Tables {
-        symbols,
-        info,
-        lines,
-        ranges,
-    };
+    let tables = tables_of(alloc, object, end)?;
     let file = write_sections(alloc, object, &tables, count)?;
     Ok(file)
 }
