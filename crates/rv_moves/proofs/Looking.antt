@@ -247,9 +247,6 @@ module _ (ws : List Watch) (to : ℕ) (old : RecordingState) (reached : IsReache
 -- ---- looks, one after another
 
 module _ (ws : List Watch) (to : ℕ) (old : RecordingState) where
-  pub looks_none : old ≡ gone_back old (taken old) → taken old ≤ to → Looked ws to old old None
-  looks_none at within = record { state = at; within = within; last = refl; earlier = tt }
-
   module _ (mid new : RecordingState) (found : Option Back) (l : Looked ws to old mid found) where
     pub same_mid : Same old mid
     same_mid = same_back old mid (taken mid) l.state
@@ -303,9 +300,6 @@ pub record Backed (ws : List Watch) (old now : RecordingState) (high : ℕ) : Ty
       ≡ last_stop ws old.session.breakpoints.addresses (first_state old) high
 
 module _ (ws : List Watch) (old : RecordingState) where
-  pub backs_begun : Backed ws old old (taken old)
-  backs_begun = record { same = same_self old; within = omega arith; earlier = omega arith; last = refl }
-
   module _ (now low_at new : RecordingState) (high low : ℕ) (found : Option Back) (b : Backed ws old now high)
       (less : low ≤ high) (went : low_at ≡ gone_back now (min low (taken now))) where
     least : min low (taken now) ≡ low
