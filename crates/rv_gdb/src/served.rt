@@ -66,39 +66,24 @@ impl Target {
     }
 
     /// Inserts a point.
-    fn insert(
-        &mut self,
-        point: Point,
-        address: u32,
-        size: u32,
-        out: &mut Vec<u8>,
-    ) -> Result<(), NoMemory>
-        ensures state { OnOk result (self.new ≡ inserted point address size self.old) }
-        ensures says { OnOk result (out.new.items ≡ out.old.items ++ framed (codes "OK")) }
+    fn insert(&mut self, point: Point, address: u32, size: u32) -> Result<(), NoMemory>
+        ensures { OnOk result (self.new ≡ inserted point address size self.old) }
     {
         match watch_of(point, address, size) {
             Some(watch) => self.watches.insert(watch)?,
             None => self.lab.recording_mut().set_break(address)?,
         }
-        self.say(b"OK", out)
+        Ok(())
     }
 
     /// Removes a point. The one where a trap without a handler leads stays.
-    fn remove(
-        &mut self,
-        point: Point,
-        address: u32,
-        size: u32,
-        out: &mut Vec<u8>,
-    ) -> Result<(), NoMemory>
-        ensures state { OnOk result (self.new ≡ removed point address size self.old) }
-        ensures says { OnOk result (out.new.items ≡ out.old.items ++ framed (codes "OK")) }
+    fn remove(&mut self, point: Point, address: u32, size: u32)
+        ensures { self.new ≡ removed point address size self.old }
     {
         match watch_of(point, address, size) {
             Some(watch) => self.watches.remove(watch),
             None => self.clear(address),
         }
-        self.say(b"OK", out)
     }
 
     /// Removes a breakpoint, but for the one where a trap without a handler leads.
@@ -151,8 +136,14 @@ impl Target {
                 self.begin(Aim::Stop);
                 Ok(())
             }
-            Request::Insert(point, address, size) => self.insert(*point, *address, *size, out),
-            Request::Remove(point, address, size) => self.remove(*point, *address, *size, out),
+            Request::Insert(point, address, size) => {
+                self.insert(*point, *address, *size)?;
+                self.say(b"OK", out)
+            }
+            Request::Remove(point, address, size) => {
+                self.remove(*point, *address, *size);
+                self.say(b"OK", out)
+            }
             Request::Run => self.restart(out),
             Request::Command(line) => self.answer_line(line.bytes(), out),
             Request::ThreadText => self.describe_thread(out),
