@@ -13,12 +13,12 @@ use rv_base::{NoMemory, TEXT_LIMIT};
 use rv_gdb::{Server, Target, features, memory_map};
 use rv_lab::{Lab, LabFault, Printer, append_diagnosis};
 use rv_object::{ElfFault, elf_file};
-use rv_options::refusal_status;
+use rv_options::{print_refusal, read_file, run_with_words};
 use rv_replies::Files;
 use std::alloc::AllocError;
-use std::io::{self, Write};
+use std::env;
+use std::io::Write;
 use std::process::ExitCode;
-use std::{env, fs};
 
 /// The exit status where the source, the timed list or the words are refused.
 const REFUSED: u8 = 3;
@@ -36,16 +36,6 @@ const TOO_LARGE: &[u8] = b"the program's ELF file may have 4 GiB or more: gdb ge
 fn fail(rt: &HostRuntime, line: &[u8]) -> u8 {
     let _ = rt.stderr().write_all(line);
     FAILED
-}
-
-/// Reads a file of at most 16,777,216 bytes.
-fn read_file(rt: &HostRuntime, path: &str) -> Option<Vec<u8>> {
-    let text = fs::read(rt, path).ok()?;
-    if text.len() > TEXT_LIMIT {
-        None
-    } else {
-        Some(text)
-    }
 }
 
 /// Returns the folder that relative paths begin at, or an empty one where it isn't known.
@@ -106,65 +96,40 @@ fn refuse(rt: &HostRuntime, words: &Words<'_>, source: &[u8], fault: LabFault) -
     }
 }
 
-/// Opens a lab of a source with a timed list, and talks. Returns the exit status.
-fn open(rt: &HostRuntime, words: &Words<'_>, source: &[u8], inputs: &[u8]) -> u8 {
-    match Lab::open(rt.alloc(), source, inputs, words.sizes) {
-        Ok(lab) => serve(rt, words, lab),
-        Err(fault) => refuse(rt, words, source, fault),
-    }
-}
-
-/// Reads the timed list, if the words name one, and talks. Returns the exit status.
-fn run_source(rt: &HostRuntime, words: &Words<'_>, source: &[u8]) -> u8 {
-    let Some(path) = words.input else {
-        return open(rt, words, source, b"");
-    };
-    match read_file(rt, path) {
-        Some(inputs) => open(rt, words, source, inputs.as_slice()),
-        None => fail(rt, b"cannot read input\n"),
+/// Returns the timed list, which is empty if the words name none.
+fn inputs_of(rt: &HostRuntime, words: &Words<'_>) -> Option<Vec<u8>> {
+    match words.input {
+        Some(path) => read_file(rt, path, TEXT_LIMIT),
+        None => Some(Vec::new(rt.alloc())),
     }
 }
 
 /// Reads the files that the words name, and talks. Returns the exit status.
 fn run(rt: &HostRuntime, words: &Words<'_>) -> u8 {
-    match read_file(rt, words.source) {
-        Some(source) => run_source(rt, words, source.as_slice()),
-        None => fail(rt, b"cannot read source\n"),
+    let Some(source) = read_file(rt, words.source, TEXT_LIMIT) else {
+        return fail(rt, b"cannot read source\n");
+    };
+    let Some(inputs) = inputs_of(rt, words) else {
+        return fail(rt, b"cannot read input\n");
+    };
+    match Lab::open(rt.alloc(), &source, &inputs, words.sizes) {
+        Ok(lab) => serve(rt, words, lab),
+        Err(fault) => refuse(rt, words, &source, fault),
     }
 }
 
 /// Prints the help that was asked for, or why the words are refused, and returns the exit status.
 fn refuse_words(rt: &HostRuntime, error: &clap::Error) -> u8 {
-    if error.kind() == ErrorKind::OutOfMemory {
-        let _failed = fail(rt, b"out of memory\n");
-    } else {
-        let _ = error.print(rt);
+    match error.kind() {
+        ErrorKind::OutOfMemory => fail(rt, b"out of memory\n"),
+        _ => print_refusal(rt, error),
     }
-    refusal_status(error)
-}
-
-/// Reads the words, does what they ask for, and returns the exit status.
-fn run_words(rt: &HostRuntime, all: &[String]) -> Result<u8, AllocError> {
-    let list: Vec<&str> = all.iter().map(|word| word.as_str()).collect(rt.alloc())?;
-    Ok(match read_words(rt.alloc(), list.as_slice()) {
-        Ok(words) => run(rt, &words),
-        Err(error) => refuse_words(rt, &error),
-    })
-}
-
-/// Returns the words of the command line, the program's name first.
-fn all_words(rt: &HostRuntime) -> io::Result<Vec<String>> {
-    let all = env::args(rt)?.collect(rt.alloc())?;
-    Ok(all)
 }
 
 fn main(rt: HostRuntime) -> ExitCode {
-    let status = match all_words(&rt) {
-        Ok(all) => run_words(&rt, all.as_slice()).unwrap_or(FAILED),
-        Err(_) => {
-            let _failed = fail(&rt, b"error: a word is not UTF-8\n");
-            REFUSED
-        }
-    };
-    ExitCode::from(status)
+    let status = run_with_words(&rt, |words| match read_words(rt.alloc(), words) {
+        Ok(words) => run(&rt, &words),
+        Err(error) => refuse_words(&rt, &error),
+    });
+    ExitCode::from(status.unwrap_or(FAILED))
 }

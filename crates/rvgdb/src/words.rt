@@ -1,9 +1,8 @@
-//! The words of the command line, read with `clap`: `rvgdb SOURCE [--input F] [--pages P]
-//! [--slots S]
+//! The words of the command line, read with `clap`: `rvgdb SOURCE [--input F] [--pages P] [--slots S]
 //! [--no-questions]`.
-use clap::{Arg, ArgAction, ArgMatches, Command, Error};
+use clap::{Arg, ArgMatches, Command, Error};
 use rv_lab::Sizes;
-use rv_options::{input_arg, pages_arg, slots_arg};
+use rv_options::{flag_arg, input_arg, pages_arg, slots_arg, source_arg};
 use std::alloc::{AllocError, Global};
 
 /// What the words of the command line ask for.
@@ -19,33 +18,16 @@ pub struct Words<'a> {
     pub asks: bool,
 }
 
-/// Returns the positional argument SOURCE.
-fn source_arg<'a>(alloc: Global) -> Arg<'a> {
-    Arg::new(alloc, "source")
-        .value_name("SOURCE")
-        .help("the assembly source")
-        .required(true)
-        .action(ArgAction::Set)
-}
-
-/// Returns the option for debuggers that know no question.
-fn no_questions_arg<'a>(alloc: Global) -> Arg<'a> {
-    Arg::new(alloc, "no-questions")
-        .long("no-questions")
-        .help(
-            "don't ask the debugger during a run if it is to stop, for those that know no such question (lldb)",
-        )
-        .action(ArgAction::SetTrue)
-}
-
 /// Returns the arguments of the command, in their order.
 fn args<'a>(alloc: Global) -> Result<Vec<Arg<'a>>, AllocError> {
+    let no_questions =
+        "don't ask the debugger during a run if it is to stop, for those that know no such question (lldb)";
     Ok(vec![in alloc;
-        source_arg(alloc),
+        source_arg(alloc, "the assembly source").required(true),
         input_arg(alloc),
         pages_arg(alloc),
         slots_arg(alloc),
-        no_questions_arg(alloc),
+        flag_arg(alloc, "no-questions", no_questions),
     ]?)
 }
 
