@@ -3,7 +3,7 @@ use rv_asm::FaultKind;
 use rv_tokens::Place;
 
 /// A range that a value has to be in.
-#[derive(Clone, Copy, PartialEq, Eq, Debug)]
+#[derive(Clone, Copy)]
 pub enum Field {
     /// The immediate of an instruction, of twelve bits.
     Immediate,
@@ -51,7 +51,7 @@ impl Field {
 }
 
 /// What more there is to say of a fault.
-#[derive(Clone, Copy, PartialEq, Eq, Debug)]
+#[derive(Clone, Copy)]
 pub enum Detail {
     Nothing,
     /// The operand that the word doesn't take, counted from 1; 0 if operands are missing.
@@ -67,7 +67,7 @@ pub enum Detail {
 }
 
 /// What is wrong with a line, and where.
-#[derive(Clone, Copy, PartialEq, Eq, Debug)]
+#[derive(Clone, Copy)]
 pub struct Diagnosis {
     /// The number of the line, counted from 1.
     pub line: usize,

@@ -23,15 +23,15 @@ fn is_among(labels: &[Label], name: &[u8]) -> bool {
 
 /// Returns the index of the first label of a line whose name is defined before.
 fn repeated(review: &Reviewed, line: usize, labels: &[Label]) -> Option<usize> {
-    (0..labels.len()).find(|index| {
-        let (before, rest) = labels.split_at((*index).min(labels.len()));
-        match rest.first() {
-            Some(Label::Name(name)) => {
-                review.line_of(name.bytes()) != Some(line) || is_among(before, name.bytes())
-            }
-            _ => false,
+    for index in 0..labels.len() {
+        let (before, rest) = labels.split_at(index);
+        if let Some(Label::Name(name)) = rest.first()
+            && (review.line_of(name.bytes()) != Some(line) || is_among(before, name.bytes()))
+        {
+            return Some(index);
         }
-    })
+    }
+    None
 }
 
 /// Returns the place of a token that is a name, which is already defined.

@@ -1,7 +1,7 @@
 //! Words that the language doesn't have (E4), and operands that a word doesn't take (E5).
 use crate::foreign::{FOREIGN, MNEMONICS};
 use crate::names::Nearest;
-use crate::spot::{Spot, run_of, skip_blanks};
+use crate::spot::{Spot, begins_with_digit, run_of, skip_blanks};
 use crate::text::{Draft, Text, in_words};
 use rv_base::{decimal, look_up};
 use rv_isa::{csr_named, operation_named, reg_named};
@@ -19,7 +19,9 @@ pub(crate) fn is_word(word: &[u8]) -> bool {
     if operation_named(word).is_some() {
         return true;
     }
-    (0..MOST_WORDS).any(|index| word_at(index).is_some_and(|other| other.as_bytes() == word))
+    (0..MOST_WORDS)
+        .filter_map(word_at)
+        .any(|other| other.as_bytes() == word)
 }
 
 /// Returns the word of the language that is nearest to one; nothing if none is near.
@@ -105,6 +107,11 @@ fn shape_for(word: &[u8], count: usize) -> Option<Shape> {
     shape_of(word, 0)
 }
 
+/// Returns the role of operand `index` of a word that has `count` operands.
+fn role_of(word: &[u8], count: usize, index: usize) -> Option<Role> {
+    role_at(shape_for(word, count)?, index)
+}
+
 /// Appends a shape of a word.
 fn append_shape(word: &[u8], shape: Shape, out: &mut Text) {
     out.say("`");
@@ -166,7 +173,7 @@ static WITH_VALUE: [(&str, &str); 21] = [
 
 /// Whether a text is a name, and not a number.
 fn is_name(piece: &[u8]) -> bool {
-    run_of(piece).len() == piece.len() && piece.first().is_some_and(|byte| !byte.is_ascii_digit())
+    run_of(piece).len() == piece.len() && !piece.is_empty() && !begins_with_digit(piece)
 }
 
 /// Whether a text is a number that has more than five bits.
@@ -205,9 +212,8 @@ const REGISTERS: &str =
 
 /// Says which operand a word doesn't take, and what is wanted there.
 fn wrong_operand(word: &[u8], count: usize, wrong: usize, piece: &[u8], draft: &mut Draft) {
-    let role = shape_for(word, count).and_then(|shape| role_at(shape, wrong.saturating_sub(1)));
     let out = &mut draft.sentence;
-    match role {
+    match role_of(word, count, wrong.saturating_sub(1)) {
         Some(role) if noun_of(role) == "register" && is_name(piece) => {
             out.fill("`^` is no register", piece);
             if draft.advice.is_empty() {

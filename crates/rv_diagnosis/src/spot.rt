@@ -39,10 +39,7 @@ pub(crate) fn spot_of<'a>(line: &'a [u8], diagnosis: &Diagnosis) -> Spot<'a> {
 
 /// Returns the first byte of a text that is no blank; 0 if there is none.
 pub(crate) fn first_byte(text: &[u8]) -> u8 {
-    text.iter()
-        .copied()
-        .find(|byte| !is_blank(*byte))
-        .unwrap_or(0)
+    skip_blanks(text).first().copied().unwrap_or(0)
 }
 
 /// Returns the last byte of a text that is no blank; 0 if there is none.
@@ -61,25 +58,34 @@ pub(crate) fn is_in_name(byte: u8) -> bool {
     byte.is_ascii_alphanumeric() || byte == b'_' || byte == b'.' || byte == b'$'
 }
 
-/// Cuts a text before its first byte of a kind.
-fn cut_before<F: Fn(u8) -> bool>(text: &[u8], is_of_kind: F) -> (&[u8], &[u8])
-    requires { F.IsAlwaysCallable is_of_kind }
-{
-    let len = text
-        .iter()
-        .position(|byte| is_of_kind(*byte))
-        .unwrap_or(text.len());
-    text.split_at(len.min(text.len()))
+/// Whether a text begins with a digit.
+pub(crate) fn begins_with_digit(text: &[u8]) -> bool {
+    matches!(text, [b'0'..=b'9', ..])
+}
+
+/// Whether a text has digits alone.
+pub(crate) fn has_digits_alone(text: &[u8]) -> bool {
+    text.iter().all(|byte| byte.is_ascii_digit())
 }
 
 /// Returns the bytes at the beginning of a text that a name may have.
 pub(crate) fn run_of(text: &[u8]) -> &[u8] {
-    cut_before(text, |byte| !is_in_name(byte)).0
+    for index in 0..text.len() {
+        if !is_in_name(text[index]) {
+            return text.split_at(index).0;
+        }
+    }
+    text
 }
 
 /// Returns a text without the blanks at its beginning.
 pub(crate) fn skip_blanks(text: &[u8]) -> &[u8] {
-    cut_before(text, |byte| !is_blank(byte)).1
+    for index in 0..text.len() {
+        if !is_blank(text[index]) {
+            return text.split_at(index).1;
+        }
+    }
+    b""
 }
 
 /// Returns the word with which a text begins, and the next one.

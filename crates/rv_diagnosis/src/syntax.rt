@@ -2,7 +2,8 @@
 use crate::foreign::FOREIGN;
 use crate::operands::{NO_WORD, is_word};
 use crate::spot::{
-    Spot, count_of, first_byte, is_in_name, last_byte, run_of, statement_in, two_words,
+    Spot, begins_with_digit, count_of, first_byte, has_digits_alone, is_in_name, last_byte, run_of,
+    statement_in, two_words,
 };
 use crate::text::{Words, in_words};
 use rv_base::look_up;
@@ -55,7 +56,7 @@ fn character(spot: Spot) -> Words {
 
 /// Returns what is said of a number that is none.
 fn number(run: &[u8]) -> Words {
-    let digits = run.iter().all(|byte| byte.is_ascii_digit());
+    let digits = has_digits_alone(run);
     let second = run.get(1).copied().unwrap_or(0);
     let last = last_byte(run);
     if digits && run.first() == Some(&b'0') {
@@ -284,7 +285,7 @@ pub(crate) fn syntax<'a>(spot: Spot<'a>) -> (Words, &'a [u8]) {
         return said;
     }
     let run = run_of(spot.rest);
-    if run.len() != spot.piece.len() && run.first().is_some_and(|byte| byte.is_ascii_digit()) {
+    if run.len() != spot.piece.len() && begins_with_digit(run) {
         return (number(run), run);
     }
     let first = spot.rest.first().copied().unwrap_or(0);

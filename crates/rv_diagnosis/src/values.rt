@@ -2,7 +2,7 @@
 use crate::diagnosis::{Diagnosis, Field};
 use crate::names::survey_of;
 use crate::operands::is_register;
-use crate::spot::{Spot, word_in};
+use crate::spot::{Spot, begins_with_digit, has_digits_alone, word_in};
 use crate::text::{Draft, in_words};
 use rv_asm::FaultKind;
 use std::alloc::Global;
@@ -68,7 +68,7 @@ pub(crate) fn unknown(
     draft: &mut Draft,
 ) {
     let name = spot.piece;
-    if name.first().is_some_and(|byte| byte.is_ascii_digit()) {
+    if begins_with_digit(name) {
         local_label(spot, diagnosis.kind, draft);
         return;
     }
@@ -194,7 +194,7 @@ fn too_far(spot: Spot, field: Field, distance: i64, draft: &mut Draft) {
     } else {
         append_range(field, "and the reach is ", draft);
     }
-    if is_number(spot.piece) {
+    if has_digits_alone(spot.piece) {
         draft.advice.fill(
             "a target is an address: write a label, `. + ^` for a distance, or `1b` for a local label",
             spot.piece,
@@ -202,11 +202,6 @@ fn too_far(spot: Spot, field: Field, distance: i64, draft: &mut Draft) {
     } else {
         draft.advice.say(words_of(field, distance).1);
     }
-}
-
-/// Whether a text is a number in digits alone.
-fn is_number(piece: &[u8]) -> bool {
-    piece.iter().all(|byte| byte.is_ascii_digit())
 }
 
 /// Says that a value isn't in its range.
@@ -218,7 +213,7 @@ pub(crate) fn out_of_range(spot: Spot, field: Field, value: i64, draft: &mut Dra
     let (noun, advice) = words_of(field, value);
     draft.sentence.say(noun);
     draft.sentence.fill(" is `^`", spot.piece);
-    if !is_number(spot.piece) {
+    if !has_digits_alone(spot.piece) {
         draft.sentence.say(", which is ");
         draft.sentence.number(value);
     }
