@@ -3,7 +3,7 @@ use crate::command::Command;
 use crate::convention::Checked;
 use crate::explained::Explanation;
 use crate::many::Many;
-use crate::moves::{Cleared, Given, Run, Saved, Stepped, Trace, Watch};
+use crate::moves::{Breakpoint, Breakpoints, Cleared, Given, Run, Saved, Stepped, Trace, Watch};
 use crate::origin::Origin;
 use crate::rows::Row;
 use crate::values::{
@@ -85,8 +85,8 @@ pub enum Answer {
     BehindLast(usize),
     /// An empty line after `l` where no line follows
     WasLast,
-    /// `b` alone: all breakpoints, in the order of their addresses
-    Breakpoints(Many<Place>),
+    /// `b` alone
+    Breakpoints(Breakpoints),
     /// `t`: the last traps, the oldest first
     Traps(Many<Trap>),
     /// `e`
@@ -106,7 +106,7 @@ pub enum Answer {
     /// `u`
     Back(Standing),
     /// `b` with an address: a breakpoint is there
-    Break(Place),
+    Break(Breakpoint),
     /// `d`
     Cleared(Cleared),
     /// `rx` and `line`

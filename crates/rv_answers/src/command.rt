@@ -165,8 +165,8 @@ static COMMANDS: [(&str, CommandRow); 29] = [
         "b break",
         CommandRow {
             command: Command::Break,
-            form: "b [WHERE]",
-            does: "sets a breakpoint at a line, an address or a name, or lists them",
+            form: "b [WHERE [if WHAT]]",
+            does: "sets a breakpoint at a line, an address or a name, which stops a run only if WHAT holds, as in `until`; or lists them",
             example: "b 12",
         },
     ),

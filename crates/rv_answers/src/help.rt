@@ -91,7 +91,10 @@ static OTHERS: [(&str, &str); 23] = [
     ),
     ("rwatch", "`until [WHERE]` goes on until a word changes"),
     ("awatch", "`until [WHERE]` goes on until a word changes"),
-    ("condition", "`until REG = V` goes on until it holds"),
+    (
+        "condition",
+        "`b WHERE if REG = V` stops there only if it holds",
+    ),
     ("rs", "`u` goes back"),
     ("rsi", "`u` goes back"),
     ("reverse-step", "`u` goes back"),

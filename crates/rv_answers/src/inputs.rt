@@ -1,18 +1,49 @@
 //! The text of what commands answer that change breakpoints, give inputs or save.
 use crate::Printer;
 use crate::lines::Lines;
-use crate::moves::{Cleared, Given, Saved};
-use crate::values::Place;
+use crate::moves::{BreakCondition, Breakpoint, Breakpoints, Cleared, Given, Saved};
+
+/// Appends the condition of a breakpoint.
+fn append_condition(condition: &[u8], text: &mut Printer) {
+    text.say(" if ");
+    text.shown(condition);
+}
+
+/// Appends those of some conditions that are of the breakpoint at an address.
+fn append_condition_at(conditions: &[BreakCondition], address: u32, text: &mut Printer) {
+    for condition in conditions {
+        if condition.address == address {
+            append_condition(condition.text.items(), text);
+        }
+    }
+}
 
 impl Lines<'_> {
-    /// Appends that a breakpoint is at a place.
-    pub(crate) fn append_break(self, place: Place, text: &mut Printer) {
+    /// Appends that a breakpoint is at a place, and its condition.
+    pub(crate) fn append_break(self, set: &Breakpoint, text: &mut Printer) {
+        let place = set.place;
         text.say("breakpoint at");
         self.append_short_place(place, text);
+        if let Some(condition) = &set.condition {
+            append_condition(condition.items(), text);
+        }
         if place.address % 4 != 0 || place.word.is_none() {
             text.say(", where no instruction can be");
         }
         text.end();
+    }
+
+    /// Appends all breakpoints with their conditions.
+    pub(crate) fn append_breakpoints(self, breaks: &Breakpoints, text: &mut Printer) {
+        let places = breaks.places.items();
+        if places.is_empty() {
+            text.say("no breakpoints; `help b` shows how to set one\n");
+        }
+        for place in places {
+            self.append_place(*place, text);
+            append_condition_at(breaks.conditions.items(), place.address, text);
+            text.end();
+        }
     }
 
     /// Appends that no breakpoint is at a place.

@@ -48,7 +48,10 @@ pub use extent::{Extent, Format, read_extent};
 pub use lines::Lines;
 pub use many::{Many, push};
 pub use memory::escapes;
-pub use moves::{Aim, Cleared, Ending, Given, Run, Saved, Step, Stepped, Target, Trace, Watch};
+pub use moves::{
+    Aim, BreakCondition, Breakpoint, Breakpoints, Cleared, Ending, Given, Run, Saved, Step,
+    Stepped, Target, Trace, Watch,
+};
 pub use origin::{Origin, Write};
 pub use printer::Printer;
 pub use rows::Row;

@@ -48,16 +48,6 @@ impl Lines<'_> {
         }
     }
 
-    /// Appends breakpoints.
-    pub(crate) fn append_breakpoints(self, places: &[Place], text: &mut Printer) {
-        if places.is_empty() {
-            text.say("no breakpoints; `help b` shows how to set one\n");
-        }
-        for place in places {
-            self.append_here(*place, text);
-        }
-    }
-
     /// Appends traps, each with how often it was taken in a row.
     pub(crate) fn append_traps(self, traps: &[Trap], text: &mut Printer) {
         if traps.is_empty() {

@@ -98,6 +98,32 @@ pub struct Trace {
     pub standing: Standing,
 }
 
+/// A breakpoint that was set.
+#[derive(Drop)]
+pub struct Breakpoint {
+    pub place: Place,
+    /// The condition on which a run stops there, as it was given, if there is one.
+    pub condition: Option<Many<u8>>,
+}
+
+/// The condition of a breakpoint.
+#[derive(Drop)]
+pub struct BreakCondition {
+    /// The address of the breakpoint.
+    pub address: u32,
+    /// The condition, as it was given.
+    pub text: Many<u8>,
+}
+
+/// All breakpoints.
+#[derive(Drop)]
+pub struct Breakpoints {
+    /// Their places, in the order of their addresses.
+    pub places: Many<Place>,
+    /// The conditions of those that have one, in the order in which they were given.
+    pub conditions: Many<BreakCondition>,
+}
+
 /// A place without a breakpoint.
 #[derive(Clone, Copy)]
 pub struct Cleared {

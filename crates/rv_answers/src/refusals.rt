@@ -38,6 +38,10 @@ const BYTES: &str =
 const NO_CONDITION: &str =
     "is none of: trap, console, a line or an address, REG or [ADDR] alone or with =, !=, <, <=, > or >= and a value, with spaces between";
 
+/// Why operands of `b` are no place with a condition.
+const NO_GUARD: &str =
+    "is no place with one of these after `if`: console, a line or an address, REG or [ADDR] alone or with =, !=, <, <=, > or >= and a value, with spaces between";
+
 /// Appends that a name is no control register, and which is the nearest.
 fn refuse_control_register(command: &str, name: &[u8], text: &mut Printer) {
     text.refuse(command, name, "is no control register");
@@ -85,6 +89,14 @@ fn no_steps(command: Command) -> &'static str {
         Command::Why => "isn't followed by the number of a step",
         Command::Check => "is no number of up to 20000000 steps",
         _ => "is no number of up to 1000000000 steps",
+    }
+}
+
+/// Returns why an operand is no condition of a command.
+fn no_condition(command: Command) -> &'static str {
+    match command {
+        Command::Break => NO_GUARD,
+        _ => NO_CONDITION,
     }
 }
 
@@ -143,7 +155,7 @@ impl Lines<'_> {
                 say_of(word, sentence, text);
             }
             Why::NoSteps => refuse_operand(word, operand, no_steps(refusal.command), text),
-            Why::NoCondition => refuse_operand(word, operand, NO_CONDITION, text),
+            Why::NoCondition => refuse_operand(word, operand, no_condition(refusal.command), text),
             Why::NeverMet => say_of(word, "it held after no earlier step\n", text),
             Why::NotOne => want_one(refusal.command, text),
             Why::NoBytesThere => self.refuse_lines(text),

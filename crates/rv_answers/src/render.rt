@@ -59,7 +59,7 @@ impl Lines<'_> {
             Answer::List(rows) => self.append_rows(rows.items(), text),
             Answer::BehindLast(count) => append_count(*count, text),
             Answer::WasLast => text.say("that was the last line\n"),
-            Answer::Breakpoints(places) => self.append_breakpoints(places.items(), text),
+            Answer::Breakpoints(breaks) => self.append_breakpoints(breaks, text),
             Answer::Traps(traps) => self.append_traps(traps.items(), text),
             Answer::Edges(edges) => append_edges(*edges, text),
             Answer::Devices(devices) => append_devices(devices, text),
@@ -74,7 +74,7 @@ impl Lines<'_> {
     /// Appends any other answer. A run that isn't over says nothing but what the console got.
     fn append_other(self, answer: &Answer, text: &mut Printer) {
         match answer {
-            Answer::Break(place) => self.append_break(*place, text),
+            Answer::Break(set) => self.append_break(set, text),
             Answer::Cleared(cleared) => self.append_cleared(*cleared, text),
             Answer::Given(given) => append_given(*given, text),
             Answer::Saved(saved) => append_saved(saved, text),

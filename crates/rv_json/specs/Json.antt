@@ -44,6 +44,9 @@ use Rattle.rv_answers.specs.declared.explained.Unfetched.{Unfetched}
 use Rattle.rv_answers.specs.declared.explained.Unfetched.TheVariants as unfetched
 use Rattle.rv_answers.specs.declared.moves.Aim.{Aim}
 use Rattle.rv_answers.specs.declared.moves.Aim.TheVariants as aims
+use Rattle.rv_answers.specs.declared.moves.BreakCondition.{BreakCondition}
+use Rattle.rv_answers.specs.declared.moves.Breakpoint.{Breakpoint}
+use Rattle.rv_answers.specs.declared.moves.Breakpoints.{Breakpoints}
 use Rattle.rv_answers.specs.declared.moves.Cleared.{Cleared}
 use Rattle.rv_answers.specs.declared.moves.Ending.{Ending}
 use Rattle.rv_answers.specs.declared.moves.Ending.TheVariants as endings
@@ -259,7 +262,17 @@ unfoldable pub trace_data : List (List ℕ × ℕ) → Trace → Data
 trace_data ls t = kind "traced" (("steps", list_data (step_data ls) t.steps) ∷ ("ending", ending_data t.ending)
     ∷ ("standing", standing_data ls t.standing) ∷ [])
 
--- ---- `d`, `rx`, `line` and `save`
+-- ---- `b`, `d`, `rx`, `line` and `save`
+
+unfoldable pub breakpoint_data : List (List ℕ × ℕ) → Breakpoint → Data
+breakpoint_data ls b = kind "break" (("place", place_data ls b.place) ∷ ("condition", option_data text_data b.condition) ∷ [])
+
+unfoldable pub break_condition_data : BreakCondition → Data
+break_condition_data c = object (members (("address", natural c.address) ∷ ("text", text_data c.text) ∷ []))
+
+unfoldable pub breakpoints_data : List (List ℕ × ℕ) → Breakpoints → Data
+breakpoints_data ls b = kind "breakpoints" (("places", list_data (place_data ls) b.places)
+    ∷ ("conditions", list_data break_condition_data b.conditions) ∷ [])
 
 unfoldable pub cleared_data : List (List ℕ × ℕ) → Cleared → Data
 cleared_data ls c = kind "cleared" (("place", place_data ls c.place) ∷ ("was_there", boolean c.was_there) ∷ [])
@@ -418,7 +431,7 @@ answer_data ls (answers.Instruction place) = kind "instruction" (("place", place
 answer_data ls (answers.List rows) = kind "list" (("rows", list_data row_data rows) ∷ [])
 answer_data ls (answers.BehindLast count) = kind "behind_last" (("lines", natural count) ∷ [])
 answer_data ls answers.WasLast = kind "was_last" []
-answer_data ls (answers.Breakpoints places) = kind "breakpoints" (("places", list_data (place_data ls) places) ∷ [])
+answer_data ls (answers.Breakpoints breaks) = breakpoints_data ls breaks
 answer_data ls (answers.Traps traps) = kind "traps" (("traps", list_data (trap_data ls) traps) ∷ [])
 answer_data ls (answers.Edges edges) = edges_data edges
 answer_data ls (answers.Devices devices) = devices_data devices
@@ -428,7 +441,7 @@ answer_data ls (answers.Stepped stepped) = stepped_data ls stepped
 answer_data ls (answers.Stuck standing) = kind "stuck" (("standing", standing_data ls standing) ∷ [])
 answer_data ls (answers.Traced trace) = trace_data ls trace
 answer_data ls (answers.Back standing) = kind "back" (("standing", standing_data ls standing) ∷ [])
-answer_data ls (answers.Break place) = kind "break" (("place", place_data ls place) ∷ [])
+answer_data ls (answers.Break set) = breakpoint_data ls set
 answer_data ls (answers.Cleared cleared) = cleared_data ls cleared
 answer_data ls (answers.Given given) = given_data given
 answer_data ls (answers.Saved saved) = saved_data saved

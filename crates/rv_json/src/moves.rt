@@ -1,5 +1,5 @@
 //! What the commands that move the board answer, and those that change breakpoints, give inputs or save.
-ghost use Rattle.rv_json.specs.Json.{aim_data, cleared_data, ending_data, given_data, met, option_data, run_data, saved_data, step_data, stepped_data, target_data, text_data, trace_data, watch_data, watched};
+ghost use Rattle.rv_json.specs.Json.{aim_data, break_condition_data, breakpoint_data, breakpoints_data, cleared_data, ending_data, given_data, met, option_data, run_data, saved_data, step_data, stepped_data, target_data, text_data, trace_data, watch_data, watched};
 ghost use Rattle.serde_json.specs.Data.{string};
 ghost use Rattle.std.specs.Prelude.{◌≡◌};
 
@@ -7,7 +7,8 @@ use crate::names::Names;
 use crate::object::send_members;
 use crate::sent::{Text, ToJson, send_null, send_word};
 use rv_answers::{
-    Aim, Cleared, Ending, Given, Many, Run, Saved, Step, Stepped, Target, Trace, Trap, Watch,
+    Aim, BreakCondition, Breakpoint, Breakpoints, Cleared, Ending, Given, Many, Run, Saved, Step,
+    Stepped, Target, Trace, Trap, Watch,
 };
 use serde::Serializer;
 
@@ -136,6 +137,56 @@ impl ToJson for Trace {
     }
 }
 
+/// A text, if there is one.
+#[derive(Clone, Copy)]
+struct MaybeText<'a>(&'a Option<Many<u8>>);
+
+impl ToJson for MaybeText<'_> {
+    ghost json = { λ _ t. option_data text_data t.0.now };
+
+    #[tactic(auto, unfolding(crate::specs::Json::option_data))]
+    fn send<S: Serializer>(&self, names: &Names<'_>, out: &mut S) -> Result<(), S::Error> {
+        match self.0 {
+            Some(text) => Text(text).send(names, out),
+            None => send_null(out),
+        }
+    }
+}
+
+impl ToJson for Breakpoint {
+    ghost json = { λ ls b. breakpoint_data ls b };
+
+    #[tactic(auto, unfolding(crate::specs::Json::breakpoint_data))]
+    fn send<S: Serializer>(&self, names: &Names<'_>, out: &mut S) -> Result<(), S::Error> {
+        send_members!(
+            self,
+            names,
+            out,
+            kind = "break",
+            place,
+            condition = MaybeText(&self.condition)
+        )
+    }
+}
+
+impl ToJson for BreakCondition {
+    ghost json = { λ _ c. break_condition_data c };
+
+    #[tactic(auto, unfolding(crate::specs::Json::break_condition_data))]
+    fn send<S: Serializer>(&self, names: &Names<'_>, out: &mut S) -> Result<(), S::Error> {
+        send_members!(self, names, out, address, text = Text(&self.text))
+    }
+}
+
+impl ToJson for Breakpoints {
+    ghost json = { λ ls b. breakpoints_data ls b };
+
+    #[tactic(auto, unfolding(crate::specs::Json::breakpoints_data))]
+    fn send<S: Serializer>(&self, names: &Names<'_>, out: &mut S) -> Result<(), S::Error> {
+        send_members!(self, names, out, kind = "breakpoints", places, conditions)
+    }
+}
+
 impl ToJson for Cleared {
     ghost json = { λ ls c. cleared_data ls c };
 
@@ -154,22 +205,6 @@ impl ToJson for Given {
     }
 }
 
-/// The name under which something is saved, if it has one.
-#[derive(Clone, Copy)]
-struct Name<'a>(&'a Option<Many<u8>>);
-
-impl ToJson for Name<'_> {
-    ghost json = { λ _ n. option_data text_data n.0.now };
-
-    #[tactic(auto, unfolding(crate::specs::Json::option_data))]
-    fn send<S: Serializer>(&self, names: &Names<'_>, out: &mut S) -> Result<(), S::Error> {
-        match self.0 {
-            Some(name) => Text(name).send(names, out),
-            None => send_null(out),
-        }
-    }
-}
-
 impl ToJson for Saved {
     ghost json = { λ _ s. saved_data s };
 
@@ -180,7 +215,7 @@ impl ToJson for Saved {
             names,
             out,
             kind = "saved",
-            name = Name(&self.name),
+            name = MaybeText(&self.name),
             list = Text(&self.list),
             inputs,
             commands = Text(&self.commands),
