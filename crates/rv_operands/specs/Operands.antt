@@ -31,6 +31,11 @@ unfoldable pub operand_text : List ℕ → List ℕ
 operand_text line =
     let text = drop (prefix_len is_blank line) line in drop (position_or_len is_blank text) text
 
+-- a text without the blanks at its ends
+abbrev pub trimmed : List ℕ → List ℕ
+trimmed text =
+    let front = take (length text - suffix_len is_blank text) text in drop (prefix_len is_blank front) front
+
 -- the only one of some words
 abbrev pub only_of : List (List ℕ) → Option (List ℕ)
 only_of (word ∷ []) = Some word
@@ -79,10 +84,14 @@ unfoldable pub line_with_bytes : Listed → ℕ → Option ℕ
 line_with_bytes l n = find (λ k. nat_lt 0 (length (bytes_of l k))) (range_with_len n (length l.addresses - n))
 
 -- `b`, `d`: an address, where a line without bytes stands for the next that has some
-unfoldable pub break_address : Listed → BoardState → List (List ℕ) → Option ℕ
-break_address l b (word ∷ []) =
+unfoldable pub break_place : Listed → BoardState → List ℕ → Option ℕ
+break_place l b word =
     option_map_or (λ n. option_and_then (listing.address_of l) (line_with_bytes l n)) (line_number word)
     (sum (base_value l b) word)
+
+-- that of some words, which are one
+unfoldable pub break_address : Listed → BoardState → List (List ℕ) → Option ℕ
+break_address l b (word ∷ []) = break_place l b word
 break_address l b _ = None
 
 -- ---- conditions
@@ -140,7 +149,5 @@ unescaped (c ∷ d ∷ rest) =
 -- list; none if they can't be read
 unfoldable pub bytes_inputs : List ℕ → Option (List Input)
 bytes_inputs text =
-    let front = take (length text - suffix_len is_blank text) text in
-    let trimmed = drop (prefix_len is_blank front) front in
-    option_map_or (λ quoted. option_map (map (λ b. Rx b)) (unescaped quoted)) (between 34 34 trimmed)
+    option_map_or (λ quoted. option_map (map (λ b. Rx b)) (unescaped quoted)) (between 34 34 (trimmed text))
     (all_of byte_input (words text))

@@ -8,7 +8,7 @@ ghost use Rattle.rv_commands.specs.Addresses.{address_of};
 ghost use Rattle.rv_asm.specs.Seen.{seen};
 ghost use Rattle.rv_isa.specs.Names.{register_names};
 ghost use Rattle.rv_program.specs.Program.{value_of};
-ghost use Rattle.rv_operands.specs.Operands.{added, address, base_value, break_address, line_with_bytes, sum, word_value};
+ghost use Rattle.rv_operands.specs.Operands.{added, address, base_value, break_address, break_place, line_with_bytes, sum, word_value};
 ghost use Rattle.rv_operands.specs.Support.Words.{base_or_zero, is_sign, next_address};
 
 use crate::word::{line_number, number, only_word};
@@ -194,16 +194,23 @@ impl<'a> Scope<'a> {
         listing.address(line_with_bytes(listing, line)?)
     }
 
-    /// Returns the address of a breakpoint: what an address stands for, where a line without bytes stands for
-    /// the next one that has some.
-    #[tactic(auto, unfolding(crate::specs::Operands::break_address))]
-    pub fn break_address(&self, operands: &[u8]) -> Option<u32>
-        ensures { result ≡ break_address (seen self.now.listing) self.now.board.now (words operands.now) }
+    /// Returns the address of a breakpoint: what a word stands for, where a line without bytes stands for the next one
+    /// that has some.
+    #[tactic(auto, unfolding(crate::specs::Operands::break_place))]
+    pub fn break_place(&self, word: &[u8]) -> Option<u32>
+        ensures { result ≡ break_place (seen self.now.listing) self.now.board.now word.now }
     {
-        let word = only_word(operands)?;
         match line_number(word) {
             Some(line) => self.next_address(line as usize),
             None => self.sum(word),
         }
+    }
+
+    /// Returns the address of a breakpoint that a text of one word names.
+    #[tactic(auto, unfolding(crate::specs::Operands::break_address))]
+    pub fn break_address(&self, operands: &[u8]) -> Option<u32>
+        ensures { result ≡ break_address (seen self.now.listing) self.now.board.now (words operands.now) }
+    {
+        self.break_place(only_word(operands)?)
     }
 }

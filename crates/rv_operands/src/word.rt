@@ -4,8 +4,7 @@ ghost use Rattle.std.specs.Option.{option_map};
 ghost use Rattle.std.specs.List.{position_or_len, prefix_len, suffix_len};
 ghost use Rattle.rv_base.specs.Words.{is_blank, words};
 ghost use Rattle.rv_commands.specs.Addresses.{address_of};
-ghost use Rattle.rv_operands.specs.Operands.{line_number, only_of, plain_number, operand_text};
-ghost use Rattle.rv_operands.specs.Support.Words.{trimmed};
+ghost use Rattle.rv_operands.specs.Operands.{line_number, only_of, plain_number, operand_text, trimmed};
 
 use rv_base::{decimal, first_word, has_word, is_blank, low_word};
 use rv_commands::hexadecimal;
@@ -90,7 +89,7 @@ fn without_blanks_after(text: &[u8]) -> &[u8]
 }
 
 /// Returns a text without the blanks at its ends.
-pub(crate) fn trimmed(text: &[u8]) -> &[u8]
+pub fn trimmed(text: &[u8]) -> &[u8]
     ensures { result.now ≡ trimmed text.now }
 {
     without_blanks(without_blanks_after(text))

@@ -1,10 +1,8 @@
 -- Not to audit: private contracts alone cite this.
 -- Sums, and inputs that are read one after the other.
-use Rattle.std.specs.Prelude.{◌≡◌, ℕ, Bool, true, false, List, [], ◌∷◌, ◌++◌, codes, map, drop, take, length, ◌-◌, ◌==◌, ◌||◌, slice_index, if◌then◌else◌, option_and_then, Option, Some, None}
+use Rattle.std.specs.Prelude.{◌≡◌, ℕ, Bool, true, false, List, [], ◌∷◌, ◌++◌, codes, map, length, ◌==◌, ◌||◌, slice_index, if◌then◌else◌, option_and_then, Option, Some, None}
 use Rattle.std.specs.Option.{option_map, option_map_or, option_or}
-use Rattle.std.specs.List.{prefix_len, suffix_len}
 use Rattle.rv_base.specs.Tables.{lookup}
-use Rattle.rv_base.specs.Words.{is_blank}
 use Rattle.rv_timeline.specs.declared.input.Input.{Input}
 use Rattle.rv_timeline.specs.declared.input.Input.TheVariants.{Rx}
 use Rattle.rv_answers.specs.Memory.{escapes}
@@ -49,11 +47,6 @@ base_or_zero l b name = if length name == 0 then Some 0 else base_value l b name
 -- the address of the first line from one on that has bytes
 abbrev pub next_address : Listed → ℕ → Option ℕ
 next_address l n = option_and_then (listing.address_of l) (line_with_bytes l n)
-
--- a text without the blanks at its ends
-abbrev pub trimmed : List ℕ → List ℕ
-trimmed text =
-    let front = take (length text - suffix_len is_blank text) text in drop (prefix_len is_blank front) front
 
 -- the condition of a place
 abbrev pub at_place : Listed → BoardState → List ℕ → Option Condition
