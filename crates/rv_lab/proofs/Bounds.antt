@@ -54,7 +54,7 @@ unmoved n old new e = same_taken n old new (ap (λ (l : LabState). (timed l).tak
 goes : (p : Plan) (old new : LabState) → GoesOnWith p old new → IsWithin (max old.piece 1) old new
 goes p old new g =
     let most : piece_steps p old ≤ min p.left (max old.piece 1) =
-    steps_within (run_ends p.goal old.recording.session) (piece_most p old) in
+    steps_within (run_ends old.guards p.goal old.recording.session) (piece_most p old) in
     let now = ap (λ (l : LabState). (timed l).taken) g ∙ taken_after (timed old) (piece_steps p old) in
     omega (arith, most, now)
 
@@ -122,6 +122,7 @@ within (orders.Back n) old new w =
 within (orders.List e follows) old new w = same_taken _ old new (ap (λ (l : LabState). (timed l).taken) w)
 within (orders.Origin t) old new w = same_taken _ old new (ap (λ (l : LabState). (timed l).taken) w)
 within (orders.Break a) old new w = same_taken _ old new (ap (λ (l : LabState). (timed l).taken) w)
+within (orders.BreakIf g) old new w = same_taken _ old new (ap (λ (l : LabState). (timed l).taken) w)
 within (orders.Clear a) old new w = same_taken _ old new (ap (λ (l : LabState). (timed l).taken) w)
 within (orders.Give inputs) old new w =
     same_taken _ old new (ap (λ (l : LabState). (timed l).taken) w ∙ taken_given inputs (timed old))

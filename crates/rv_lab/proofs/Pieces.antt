@@ -1,10 +1,10 @@
 -- A run in pieces of any sizes.
-use Rattle.std.proofs.Common.{◌≡◌, ◌∙◌, ℕ, zero, suc, ◌+◌, ◌-◌, ◌≤◌, ◌==◌, Bool, true, false, refl, sym, ap, subst, arith, ⊎_elim}
+use Rattle.std.proofs.Common.{◌≡◌, ◌∙◌, ℕ, zero, suc, ◌+◌, ◌-◌, ◌≤◌, ◌==◌, Bool, true, false, List, refl, sym, ap, subst, arith, ⊎_elim}
 use Rattle.std.proofs.lemmas.Bool.{cases_lt, false≢true}
 use Rattle.std.proofs.lemmas.Bool.Decides.{nat_tests}
 use native.Mathlib.Numerals.{unary_clauses}
 use Rattle.std.specs.FinSet as set
-use Rattle.std.specs.Prelude.{◌&&◌, nat_lt, is_none, is_some, length, max, min, pred, if◌then◌else◌, Option, Some, None}
+use Rattle.std.specs.Prelude.{◌&&◌, nat_lt, is_none, is_some, length, max, min, pred, if◌then◌else◌, option_and_then, Option, Some, None}
 use Rattle.rv_board.specs.Support.State.{halted_of, pc_of}
 use Rattle.rv_hart.specs.Step.{step}
 use Rattle.rv_monitor.specs.State.{Addresses, IsInTime, SessionState, TimedState, after, with_due}
@@ -13,7 +13,10 @@ use Rattle.rv_recording.specs.Out.{open_at}
 use Rattle.rv_recording.specs.Until.{comes, end_at, holds, steps_of}
 use Rattle.rv_recording.specs.declared.until.Condition.{Condition}
 use Rattle.rv_recording.specs.declared.until.End.{End}
+use Rattle.rv_recording.specs.declared.until.End.TheVariants.{Breakpoint, Stuck}
 use Rattle.rv_recording.proofs.Counting.{joins, joins_over, over_or_all, same_steps, steps_within}
+use Rattle.rv_lab.specs.Guards.{end_here, passing, stops}
+use Rattle.rv_lab.specs.declared.guard.Guard.{Guard}
 use Rattle.rv_lab.specs.State.{LabState, sent, timed}
 use Rattle.rv_lab.specs.Commands.{InPieces, cut, ended, goal_after, gone_on, piece_steps, plan_after, resumed_by, resumes_after, run_ends, tells_last, with_console, with_steps}
 use Rattle.rv_lab.specs.declared.plan.Plan.{Plan}
@@ -24,18 +27,36 @@ use Rattle.rv_lab.proofs.Runs.{end_is}
 -- ---- the rest of a run is a run
 
 goes_on_at_first : (h : Option ℕ) (r b l : Bool) → is_some (end_is h r b l) ≡ false
-    → is_some (end_is h false false l) ≡ false
+    → end_is h false false l ≡ None
 goes_on_at_first (Some code) r b l e = absurd (false≢true (sym e))
 goes_on_at_first None true b l e = absurd (false≢true (sym e))
 goes_on_at_first None false true l e = absurd (false≢true (sym e))
 goes_on_at_first None false false true e = refl
 goes_on_at_first None false false false e = absurd (false≢true (sym e))
 
-same_none : {A : Type 0} (o p : Option A) → is_some o ≡ is_some p → is_none o ≡ is_none p
-same_none None None e = refl
-same_none (Some x) (Some y) e = refl
-same_none None (Some y) e = absurd (false≢true e)
-same_none (Some x) None e = absurd (false≢true (sym e))
+-- also where it went on at a breakpoint
+goes_on_there : (st l : Bool) → is_some (if st then Some Breakpoint else (if l then None else Some Stuck)) ≡ false
+    → end_is None false false l ≡ None
+goes_on_there true l e = absurd (false≢true (sym e))
+goes_on_there false true e = refl
+goes_on_there false false e = absurd (false≢true (sym e))
+
+goes_on_past : (gs : List Guard) (t : SessionState) (h : Option ℕ) (r b : Bool)
+    → is_some (option_and_then (end_here gs t) (end_is h r b (nat_lt t.timed.taken t.limit))) ≡ false
+    → end_is h false false (nat_lt t.timed.taken t.limit) ≡ None
+goes_on_past gs t (Some code) r b e = absurd (false≢true (sym e))
+goes_on_past gs t None true b e = absurd (false≢true (sym e))
+goes_on_past gs t None false true e = goes_on_there (stops gs t.timed.board) (nat_lt t.timed.taken t.limit) e
+goes_on_past gs t None false false e = by_rest (nat_lt t.timed.taken t.limit) e
+  where
+    by_rest : (l : Bool) → is_some (option_and_then (end_here gs t) (end_is None false false l)) ≡ false
+        → end_is None false false l ≡ None
+    by_rest true e = refl
+    by_rest false e = absurd (false≢true (sym e))
+
+pub none_of : {A : Type 0} (o : Option A) → is_some o ≡ false → o ≡ None
+none_of None e = refl
+none_of (Some x) e = absurd (false≢true (sym e))
 
 above : (n : ℕ) → nat_lt 0 (suc n) ≡ true
 above n = grind (arith, nat_tests)
@@ -48,13 +69,23 @@ module _ (s : SessionState) (k : ℕ) (h : IsInTime s.timed) where
   later i = after_more s.timed k i h.rising
 
   -- before its first step it isn't over
-  first_is : (f g : ℕ → Bool) (a : Addresses) → is_some (end_at f a s k) ≡ false → is_some (end_at g a mid 0) ≡ false
+  none_first : (g : ℕ → Bool) (a : Addresses)
+      → end_is (halted_of mid.timed.board) false false (nat_lt mid.timed.taken s.limit) ≡ None → end_at g a mid 0 ≡ None
+  none_first g a e =
+      ap (λ (t : TimedState). end_is (halted_of t.board) false false (nat_lt t.taken s.limit))
+      (after_none mid.timed (in_time_after s.timed k h)) ∙ e
+
+  first_is : (f g : ℕ → Bool) (a : Addresses) → is_some (end_at f a s k) ≡ false → end_at g a mid 0 ≡ None
   first_is f g a e =
-      ap (λ (t : TimedState). is_some (end_at g a (record s { timed = t }) 0)) refl
-      ∙ (ap (λ (t : TimedState). is_some (end_is (halted_of t.board) false false (nat_lt t.taken s.limit)))
-      (after_none mid.timed (in_time_after s.timed k h))
-      ∙ goes_on_at_first (halted_of mid.timed.board) (nat_lt 0 k && f k) (nat_lt 0 k && set.contains a (pc_of mid.timed.board))
-      (nat_lt mid.timed.taken s.limit) e)
+      none_first g a (goes_on_at_first (halted_of mid.timed.board) (nat_lt 0 k && f k)
+      (nat_lt 0 k && set.contains a (pc_of mid.timed.board)) (nat_lt mid.timed.taken s.limit) e)
+
+  first_past : (gs : List Guard) (f g : ℕ → Bool) (a : Addresses) → is_some (passing gs s (end_at f a s) k) ≡ false
+      → passing gs mid (end_at g a mid) 0 ≡ None
+  first_past gs f g a e =
+      ap (option_and_then (end_here gs (record mid { timed = after mid.timed 0 })))
+      (none_first g a (goes_on_past gs mid (halted_of mid.timed.board) (nat_lt 0 k && f k)
+      (nat_lt 0 k && set.contains a (pc_of mid.timed.board)) e))
 
   -- after others it is over where the whole run is
   then_is : (f g : ℕ → Bool) (a : Addresses) (j : ℕ) → g (suc j) ≡ f (k + suc j)
@@ -72,11 +103,24 @@ module _ (s : SessionState) (k : ℕ) (h : IsInTime s.timed) where
       (nat_lt 0 (k + suc j) && set.contains a (pc_of t.board)) (nat_lt t.taken s.limit)) (later (suc j)))
 
   rest_is : (f g : ℕ → Bool) (a : Addresses) → ((j : ℕ) → g (suc j) ≡ f (k + suc j))
-      → is_some (end_at f a s k) ≡ false → (i : ℕ) → is_some (end_at g a mid i) ≡ is_some (end_at f a s (k + i))
+      → is_some (end_at f a s k) ≡ false → (i : ℕ) → end_at g a mid i ≡ end_at f a s (k + i)
   rest_is f g a same e zero =
       let none : k + 0 ≡ k = omega arith in
-      first_is f g a e ∙ sym (ap (λ (n : ℕ). is_some (end_at f a s n)) none ∙ e)
-  rest_is f g a same e (suc j) = ap is_some (then_is f g a j (same j))
+      first_is f g a e ∙ sym (ap (λ (n : ℕ). end_at f a s n) none ∙ none_of (end_at f a s k) e)
+  rest_is f g a same e (suc j) = then_is f g a j (same j)
+
+  rest_past : (gs : List Guard) (f g : ℕ → Bool) (a : Addresses) → ((j : ℕ) → g (suc j) ≡ f (k + suc j))
+      → is_some (passing gs s (end_at f a s) k) ≡ false
+      → (i : ℕ) → passing gs mid (end_at g a mid) i ≡ passing gs s (end_at f a s) (k + i)
+  rest_past gs f g a same e zero =
+      let none : k + 0 ≡ k = omega arith in
+      first_past gs f g a e
+      ∙ sym (ap (λ (n : ℕ). passing gs s (end_at f a s) n) none ∙ none_of (passing gs s (end_at f a s) k) e)
+  rest_past gs f g a same e (suc j) =
+      ap (λ (o : Option End). option_and_then (end_here gs (record mid { timed = after mid.timed (suc j) })) o)
+      (then_is f g a j (same j))
+      ∙ ap (λ (t : TimedState). option_and_then (end_here gs (record s { timed = t })) (end_at f a s (k + suc j)))
+      (later (suc j))
 
   open_later : (calls i : ℕ) → open_at (open_at calls s.timed k) mid.timed i ≡ open_at calls s.timed (k + i)
   unfolding open_at
@@ -92,18 +136,18 @@ module _ (s : SessionState) (k : ℕ) (h : IsInTime s.timed) where
       ∙ ap (λ (n : ℕ). holds c (step (with_due (after s.timed n)).board.machine).1 (after s.timed (k + suc j)).board) (sym one))
 
   -- why the rest of a run is over
-  ends_later : (g : Goal) → is_some (run_ends g s k) ≡ false → (i : ℕ)
-      → is_some (run_ends (goal_after g s.timed k) mid i) ≡ is_some (run_ends g s (k + i))
-  ends_later goal.Count e i = rest_is (λ n. false) (λ n. false) set.empty (λ j. refl) e i
-  ends_later goal.Trace e i = rest_is (λ n. false) (λ n. false) set.empty (λ j. refl) e i
-  ends_later goal.Break e i = rest_is (λ n. false) (λ n. false) s.breakpoints.addresses (λ j. refl) e i
-  ends_later (goal.Out calls) e i =
-      rest_is (λ n. open_at calls s.timed n == 0) (λ n. open_at (open_at calls s.timed k) mid.timed n == 0)
+  pub ends_later : (gs : List Guard) (g : Goal) → is_some (run_ends gs g s k) ≡ false → (i : ℕ)
+      → run_ends gs (goal_after g s.timed k) mid i ≡ run_ends gs g s (k + i)
+  ends_later gs goal.Count e i = rest_is (λ n. false) (λ n. false) set.empty (λ j. refl) e i
+  ends_later gs goal.Trace e i = rest_is (λ n. false) (λ n. false) set.empty (λ j. refl) e i
+  ends_later gs goal.Break e i = rest_past gs (λ n. false) (λ n. false) s.breakpoints.addresses (λ j. refl) e i
+  ends_later gs (goal.Out calls) e i =
+      rest_past gs (λ n. open_at calls s.timed n == 0) (λ n. open_at (open_at calls s.timed k) mid.timed n == 0)
       s.breakpoints.addresses (λ j. ap (λ n. n == 0) (open_later calls (suc j))) e i
-  ends_later (goal.Until c) e i =
-      rest_is (comes c s.timed) (comes c mid.timed) s.breakpoints.addresses (comes_later c) e i
+  ends_later gs (goal.Until c) e i =
+      rest_past gs (comes c s.timed) (comes c mid.timed) s.breakpoints.addresses (comes_later c) e i
 
-  goal_later : (g : Goal) (i : ℕ) → goal_after (goal_after g s.timed k) mid.timed i ≡ goal_after g s.timed (k + i)
+  pub goal_later : (g : Goal) (i : ℕ) → goal_after (goal_after g s.timed k) mid.timed i ≡ goal_after g s.timed (k + i)
   goal_later goal.Count i = refl
   goal_later goal.Trace i = refl
   goal_later goal.Break i = refl
@@ -111,12 +155,12 @@ module _ (s : SessionState) (k : ℕ) (h : IsInTime s.timed) where
   goal_later (goal.Until c) i = refl
 
   -- what `c` goes on for after the rest
-  resumes_later : (g : Goal) → is_some (run_ends g s k) ≡ false → (i : ℕ)
-      → resumes_after (goal_after g s.timed k) mid i ≡ resumes_after g s (k + i)
-  resumes_later g e i =
-      ap (λ (b : Bool). if b then resumed_by (goal_after (goal_after g s.timed k) mid.timed i) else goal.Break)
-      (same_none _ _ (ends_later g e i))
-      ∙ ap (λ (h : Goal). if is_none (run_ends g s (k + i)) then resumed_by h else goal.Break) (goal_later g i)
+  resumes_later : (gs : List Guard) (g : Goal) → is_some (run_ends gs g s k) ≡ false → (i : ℕ)
+      → resumes_after gs (goal_after g s.timed k) mid i ≡ resumes_after gs g s (k + i)
+  resumes_later gs g e i =
+      ap (λ (o : Option End). if is_none o then resumed_by (goal_after (goal_after g s.timed k) mid.timed i) else goal.Break)
+      (ends_later gs g e i)
+      ∙ ap (λ (h : Goal). if is_none (run_ends gs g s (k + i)) then resumed_by h else goal.Break) (goal_later g i)
 
 -- ---- the whole run
 
@@ -124,12 +168,12 @@ module _ (s : SessionState) (k : ℕ) (h : IsInTime s.timed) where
 abbrev whole_of : Plan → LabState → ℕ → LabState
 whole_of p l n = record (with_console (with_steps n l)) {
   plan = None;
-  resumes = resumes_after p.goal l.recording.session n;
+  resumes = resumes_after l.guards p.goal l.recording.session n;
   piece = 0;
 }
 
 abbrev whole : Plan → LabState → LabState
-whole p l = whole_of p l (steps_of (run_ends p.goal l.recording.session) p.left)
+whole p l = whole_of p l (steps_of (run_ends l.guards p.goal l.recording.session) p.left)
 
 none_some : {A : Type 0} (o : Option A) (x : A) → o ≡ None → o ≡ Some x → ⊥
 none_some o x a b = cc
@@ -150,24 +194,24 @@ lost_by None true q e h = absurd cc
 lost_by None false q e h = refl
 lost_by (Some end) b q e h = absurd (false≢true (sym h))
 
-module _ (p : Plan) (s : SessionState) (m : ℕ) where
+module _ (gs : List Guard) (p : Plan) (s : SessionState) (m : ℕ) where
   abbrev ends : ℕ → Option End
-  ends = run_ends p.goal s
+  ends = run_ends gs p.goal s
 
   abbrev k : ℕ
   k = steps_of ends (min p.left m)
 
-  kept : (r : Plan) → plan_after p s k ≡ Some r
+  kept : (r : Plan) → plan_after gs p s k ≡ Some r
       → (is_some (ends k) ≡ false) × (nat_lt k p.left ≡ true) × (record p { goal = goal_after p.goal s.timed k; left = p.left - k } ≡ r)
   unfolding plan_after
   kept r e = kept_by (ends k) (nat_lt k p.left) _ r e
 
-  lost : plan_after p s k ≡ None → is_some (ends k) ≡ false → nat_lt k p.left ≡ false
+  lost : plan_after gs p s k ≡ None → is_some (ends k) ≡ false → nat_lt k p.left ≡ false
   unfolding plan_after
   lost e = lost_by (ends k) (nat_lt k p.left) _ e
 
   -- where no plan is left, the steps are all of the run
-  all_steps : plan_after p s k ≡ None → steps_of ends p.left ≡ k
+  all_steps : plan_after gs p s k ≡ None → steps_of ends p.left ≡ k
   all_steps e = by_end (is_some (ends k)) refl
     where
       by_end : (b : Bool) → is_some (ends k) ≡ b → steps_of ends p.left ≡ k
@@ -182,8 +226,8 @@ module _ (p : Plan) (s : SessionState) (m : ℕ) where
           ap (steps_of ends) (sym same)
 
   -- where one is, the rest of the run makes it whole
-  rest_steps : IsInTime s.timed → (r : Plan) → plan_after p s k ≡ Some r
-      → k + steps_of (run_ends r.goal (record s { timed = after s.timed k })) r.left ≡ steps_of ends p.left
+  rest_steps : IsInTime s.timed → (r : Plan) → plan_after gs p s k ≡ Some r
+      → k + steps_of (run_ends gs r.goal (record s { timed = after s.timed k })) r.left ≡ steps_of ends p.left
   rest_steps h r e =
       let now = kept r e in
       let full : k ≡ min p.left m = ⊎_elim
@@ -191,9 +235,9 @@ module _ (p : Plan) (s : SessionState) (m : ℕ) where
       (λ enough. omega (arith, enough, steps_within ends (min p.left m)))
       (cases_lt k (min p.left m)) in
       let all : min p.left m + (p.left - k) ≡ p.left = omega (arith, full) in
-      subst (λ (q : Plan). k + steps_of (run_ends q.goal (record s { timed = after s.timed k })) q.left ≡ steps_of ends p.left) now.2
-      (ap (λ n. k + n) (same_steps (run_ends (goal_after p.goal s.timed k) (record s { timed = after s.timed k }))
-      (λ i. ends (k + i)) (ends_later s k h p.goal now.0) (p.left - k))
+      subst (λ (q : Plan). k + steps_of (run_ends gs q.goal (record s { timed = after s.timed k })) q.left ≡ steps_of ends p.left) now.2
+      (ap (λ n. k + n) (same_steps (run_ends gs (goal_after p.goal s.timed k) (record s { timed = after s.timed k }))
+      (λ i. ends (k + i)) (λ i. ap is_some (ends_later s k h gs p.goal now.0 i)) (p.left - k))
       ∙ (sym (joins ends (min p.left m) (p.left - k) now.0) ∙ ap (steps_of ends) all))
 
 -- ---- its pieces
@@ -203,25 +247,25 @@ no_pieces end _ (ended is) none = refl
 no_pieces end _ (cut l p n is rest) none = absurd (none_some l.plan p none is)
 
 whole_again : (p r : Plan) (l : LabState) (n : ℕ) → IsInTime (timed l)
-    → plan_after p l.recording.session (piece_steps p (record l { piece = n })) ≡ Some r
+    → plan_after l.guards p l.recording.session (piece_steps p (record l { piece = n })) ≡ Some r
     → whole r (gone_on p (record l { piece = n })) ≡ whole p l
 whole_again p r l n h e =
     let s = l.recording.session in
     let k = piece_steps p (record l { piece = n }) in
-    let joined : after (after s.timed k) (steps_of (run_ends r.goal (record s { timed = after s.timed k })) r.left)
-    ≡ after s.timed (steps_of (run_ends p.goal s) p.left) =
-    after_more s.timed k _ h.rising ∙ ap (after s.timed) (rest_steps p s (max n 1) h r e) in
-    let now = kept p s (max n 1) r e in
-    let rest = steps_of (run_ends r.goal (record s { timed = after s.timed k })) r.left in
-    let same : resumes_after r.goal (record s { timed = after s.timed k }) rest
-    ≡ resumes_after p.goal s (steps_of (run_ends p.goal s) p.left) =
-    subst (λ (q : Plan). resumes_after q.goal (record s { timed = after s.timed k }) rest ≡ resumes_after p.goal s (k + rest)) now.2
-    (resumes_later s k h p.goal now.0 rest)
-    ∙ ap (resumes_after p.goal s) (rest_steps p s (max n 1) h r e) in
+    let joined : after (after s.timed k) (steps_of (run_ends l.guards r.goal (record s { timed = after s.timed k })) r.left)
+    ≡ after s.timed (steps_of (run_ends l.guards p.goal s) p.left) =
+    after_more s.timed k _ h.rising ∙ ap (after s.timed) (rest_steps l.guards p s (max n 1) h r e) in
+    let now = kept l.guards p s (max n 1) r e in
+    let rest = steps_of (run_ends l.guards r.goal (record s { timed = after s.timed k })) r.left in
+    let same : resumes_after l.guards r.goal (record s { timed = after s.timed k }) rest
+    ≡ resumes_after l.guards p.goal s (steps_of (run_ends l.guards p.goal s) p.left) =
+    subst (λ (q : Plan). resumes_after l.guards q.goal (record s { timed = after s.timed k }) rest ≡ resumes_after l.guards p.goal s (k + rest)) now.2
+    (resumes_later s k h l.guards p.goal now.0 rest)
+    ∙ ap (resumes_after l.guards p.goal s) (rest_steps l.guards p s (max n 1) h r e) in
     ap (λ (t : TimedState). record l {
       recording = record l.recording { session = record s { timed = t } };
       plan = None;
-      resumes = resumes_after r.goal (record s { timed = after s.timed k }) rest;
+      resumes = resumes_after l.guards r.goal (record s { timed = after s.timed k }) rest;
       piece = 0;
       told = length t.board.machine.bus.serial.sent;
     }) joined
@@ -232,23 +276,23 @@ told_all true o x y e = rw e refl
 told_all false o x y e = refl
 
 at_last : (p : Plan) (l : LabState) (n : ℕ)
-    → plan_after p l.recording.session (piece_steps p (record l { piece = n })) ≡ None
+    → plan_after l.guards p l.recording.session (piece_steps p (record l { piece = n })) ≡ None
     → record (gone_on p (record l { piece = n })) { piece = 0 } ≡ whole p l
 at_last p l n none =
     let s = l.recording.session in
     let k = piece_steps p (record l { piece = n }) in
-    let done = record (with_steps k l) { resumes = resumes_after p.goal s k } in
-    ap (λ (x : ℕ). record done { plan = plan_after p s k; piece = 0; told = x })
-    (told_all (tells_last p) (plan_after p s k) l.told (sent done) none)
+    let done = record (with_steps k l) { resumes = resumes_after l.guards p.goal s k } in
+    ap (λ (x : ℕ). record done { plan = plan_after l.guards p s k; piece = 0; told = x })
+    (told_all (tells_last p) (plan_after l.guards p s k) l.told (sent done) none)
     ∙ (ap (λ (o : Option Plan). record done { plan = o; piece = 0; told = sent done }) none
     ∙ ap (whole_of p l)
-    (sym (all_steps p s (max n 1) none)))
+    (sym (all_steps l.guards p s (max n 1) none)))
 
 whole_by : (end l : LabState) (q : Plan) (n : ℕ) → IsInTime (timed l)
     → InPieces end (gone_on q (record l { piece = n }))
-    → ((r : Plan) → plan_after q l.recording.session (piece_steps q (record l { piece = n })) ≡ Some r
+    → ((r : Plan) → plan_after l.guards q l.recording.session (piece_steps q (record l { piece = n })) ≡ Some r
     → record end { piece = 0 } ≡ whole r (gone_on q (record l { piece = n })))
-    → (o : Option Plan) → plan_after q l.recording.session (piece_steps q (record l { piece = n })) ≡ o
+    → (o : Option Plan) → plan_after l.guards q l.recording.session (piece_steps q (record l { piece = n })) ≡ o
     → record end { piece = 0 } ≡ whole q l
 whole_by end l q n h rest again None none =
     let last : end ≡ gone_on q (record l { piece = n }) = no_pieces end _ rest none in
@@ -261,7 +305,7 @@ made_whole end _ p h (ended is) e = absurd (none_some end.plan p is e)
 made_whole end _ p h (cut l q n is rest) e =
     subst (λ (o : Plan). record end { piece = 0 } ≡ whole o l) (same_plan l.plan q p is e)
     (whole_by end l q n h rest (λ r some. made_whole end _ r (in_time_after (timed l) _ h) rest some)
-    (plan_after q l.recording.session (piece_steps q (record l { piece = n }))) refl)
+    (plan_after l.guards q l.recording.session (piece_steps q (record l { piece = n }))) refl)
 
 pub join : (l a b : LabState) → IsInTime (timed l) → InPieces a l → InPieces b l
     → record a { piece = 0 } ≡ record b { piece = 0 }

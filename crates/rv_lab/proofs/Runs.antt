@@ -2,7 +2,7 @@
 use Rattle.std.proofs.Common.{◌≡◌, ◌∙◌, ℕ, zero, suc, ◌+◌, ◌-◌, ◌<◌, Bool, true, false, List, [], ◌∷◌, refl, sym, ap, subst, arith}
 use Rattle.std.proofs.lemmas.Bool.{false≢true}
 use Rattle.std.specs.FinSet as set
-use Rattle.std.specs.Prelude.{◌&&◌, nat_lt, is_none, is_some, max, min, if◌then◌else◌, unwrap_or, Option, Some, None, Result, Ok, Err, OnOk}
+use Rattle.std.specs.Prelude.{◌&&◌, nat_lt, is_none, is_some, max, min, if◌then◌else◌, option_and_then, unwrap_or, Option, Some, None, Result, Ok, Err, OnOk}
 use Rattle.rv_base.specs.declared.memory.NoMemory.{NoMemory}
 use Rattle.rv_board.specs.Support.State.{halted_of, pc_of}
 use Rattle.rv_monitor.specs.State.{IsInTime, SessionState, TimedState, after}
@@ -14,6 +14,8 @@ use Rattle.rv_recording.specs.Until.{HasRun, step_ends, steps_of}
 use Rattle.rv_recording.specs.declared.until.End.{End}
 use Rattle.rv_recording.specs.declared.until.End.TheVariants.{Halted, Reached, Breakpoint, Limit, Stuck}
 use Rattle.rv_timeline.specs.declared.input.Input.{Input}
+use Rattle.rv_lab.specs.Guards.{end_here, stops}
+use Rattle.rv_lab.specs.declared.guard.Guard.{Guard}
 use Rattle.rv_lab.specs.State.{LabState, sent, timed}
 use Rattle.rv_lab.specs.Commands.{goal_after, gone_on, plan_after, resumed_by, resumes_after, run_ends, stepped, tells_last, with_inputs, with_piece, with_session, with_steps}
 use Rattle.rv_lab.specs.Support.Short.{Traced, end_now, rest_of, resumes_of, stepped_by}
@@ -36,20 +38,43 @@ rest_by p g n None false true l = refl
 rest_by p g n None false false true = refl
 rest_by p g n None false false false = refl
 
-rest_is : (p : Plan) (g : Goal) (s : SessionState) (n : ℕ)
-    → rest_of p (goal_after p.goal s.timed n) (unwrap_or (run_ends g s n) Limit) n
-    ≡ (if is_none (run_ends g s n) && nat_lt n p.left
-    then Some (record p { goal = goal_after p.goal s.timed n; left = p.left - n }) else None)
-rest_is p goal.Count s n = rest_by p (goal_after p.goal s.timed n) n (halted_of (after s.timed n).board) _ _ _
-rest_is p goal.Trace s n = rest_by p (goal_after p.goal s.timed n) n (halted_of (after s.timed n).board) _ _ _
-rest_is p goal.Break s n = rest_by p (goal_after p.goal s.timed n) n (halted_of (after s.timed n).board) _ _ _
-rest_is p (goal.Out calls) s n = rest_by p (goal_after p.goal s.timed n) n (halted_of (after s.timed n).board) _ _ _
-rest_is p (goal.Until condition) s n = rest_by p (goal_after p.goal s.timed n) n (halted_of (after s.timed n).board) _ _ _
+-- at a breakpoint, which stops it or not
+rest_there : (p : Plan) (g : Goal) (n : ℕ) (st l : Bool)
+    → rest_of p g (unwrap_or (if st then Some Breakpoint else (if l then None else Some Stuck)) Limit) n
+    ≡ (if is_none (if st then Some Breakpoint else (if l then None else Some Stuck)) && nat_lt n p.left
+    then Some (record p { goal = g; left = p.left - n }) else None)
+rest_there p g n true l = refl
+rest_there p g n false true = refl
+rest_there p g n false false = refl
 
-plan_is : (p : Plan) (s : SessionState) (n : ℕ)
-    → rest_of p (goal_after p.goal s.timed n) (unwrap_or (run_ends p.goal s n) Limit) n ≡ plan_after p s n
+rest_past : (gs : List Guard) (t : SessionState) (p : Plan) (g : Goal) (n : ℕ) (h : Option ℕ) (r b l : Bool)
+    → rest_of p g (unwrap_or (option_and_then (end_here gs t) (end_is h r b l)) Limit) n
+    ≡ (if is_none (option_and_then (end_here gs t) (end_is h r b l)) && nat_lt n p.left
+    then Some (record p { goal = g; left = p.left - n }) else None)
+rest_past gs t p g n (Some code) r b l = refl
+rest_past gs t p g n None true b l = refl
+rest_past gs t p g n None false true l =
+    rest_there p g n (stops gs t.timed.board) (nat_lt t.timed.taken t.limit)
+rest_past gs t p g n None false false true = refl
+rest_past gs t p g n None false false false = refl
+
+rest_is : (gs : List Guard) (p : Plan) (g : Goal) (s : SessionState) (n : ℕ)
+    → rest_of p (goal_after p.goal s.timed n) (unwrap_or (run_ends gs g s n) Limit) n
+    ≡ (if is_none (run_ends gs g s n) && nat_lt n p.left
+    then Some (record p { goal = goal_after p.goal s.timed n; left = p.left - n }) else None)
+rest_is gs p goal.Count s n = rest_by p (goal_after p.goal s.timed n) n (halted_of (after s.timed n).board) _ _ _
+rest_is gs p goal.Trace s n = rest_by p (goal_after p.goal s.timed n) n (halted_of (after s.timed n).board) _ _ _
+rest_is gs p goal.Break s n =
+    rest_past gs (record s { timed = after s.timed n }) p (goal_after p.goal s.timed n) n (halted_of (after s.timed n).board) _ _ _
+rest_is gs p (goal.Out calls) s n =
+    rest_past gs (record s { timed = after s.timed n }) p (goal_after p.goal s.timed n) n (halted_of (after s.timed n).board) _ _ _
+rest_is gs p (goal.Until condition) s n =
+    rest_past gs (record s { timed = after s.timed n }) p (goal_after p.goal s.timed n) n (halted_of (after s.timed n).board) _ _ _
+
+plan_is : (gs : List Guard) (p : Plan) (s : SessionState) (n : ℕ)
+    → rest_of p (goal_after p.goal s.timed n) (unwrap_or (run_ends gs p.goal s n) Limit) n ≡ plan_after gs p s n
 unfolding plan_after
-plan_is p s n = rest_is p p.goal s n
+plan_is gs p s n = rest_is gs p p.goal s n
 
 resumes_by : (g : Goal) (h : Option ℕ) (r b l : Bool)
     → resumes_of g (unwrap_or (end_is h r b l) Limit) ≡ (if is_none (end_is h r b l) then resumed_by g else goal.Break)
@@ -59,15 +84,32 @@ resumes_by g None false true l = refl
 resumes_by g None false false true = refl
 resumes_by g None false false false = refl
 
-resumes_is : (g : Goal) (s : SessionState) (n : ℕ)
-    → resumes_of (goal_after g s.timed n) (unwrap_or (run_ends g s n) Limit) ≡ resumes_after g s n
-resumes_is goal.Count s n = resumes_by goal.Count (halted_of (after s.timed n).board) _ _ _
-resumes_is goal.Trace s n = resumes_by goal.Trace (halted_of (after s.timed n).board) _ _ _
-resumes_is goal.Break s n = resumes_by goal.Break (halted_of (after s.timed n).board) _ _ _
-resumes_is (goal.Out calls) s n =
-    resumes_by (goal_after (goal.Out calls) s.timed n) (halted_of (after s.timed n).board) _ _ _
-resumes_is (goal.Until condition) s n =
-    resumes_by (goal.Until condition) (halted_of (after s.timed n).board) _ _ _
+resumes_there : (g : Goal) (st l : Bool)
+    → resumes_of g (unwrap_or (if st then Some Breakpoint else (if l then None else Some Stuck)) Limit)
+    ≡ (if is_none (if st then Some Breakpoint else (if l then None else Some Stuck)) then resumed_by g else goal.Break)
+resumes_there g true l = refl
+resumes_there g false true = refl
+resumes_there g false false = refl
+
+resumes_past : (gs : List Guard) (t : SessionState) (g : Goal) (h : Option ℕ) (r b l : Bool)
+    → resumes_of g (unwrap_or (option_and_then (end_here gs t) (end_is h r b l)) Limit)
+    ≡ (if is_none (option_and_then (end_here gs t) (end_is h r b l)) then resumed_by g else goal.Break)
+resumes_past gs t g (Some code) r b l = refl
+resumes_past gs t g None true b l = refl
+resumes_past gs t g None false true l = resumes_there g (stops gs t.timed.board) (nat_lt t.timed.taken t.limit)
+resumes_past gs t g None false false true = refl
+resumes_past gs t g None false false false = refl
+
+resumes_is : (gs : List Guard) (g : Goal) (s : SessionState) (n : ℕ)
+    → resumes_of (goal_after g s.timed n) (unwrap_or (run_ends gs g s n) Limit) ≡ resumes_after gs g s n
+resumes_is gs goal.Count s n = resumes_by goal.Count (halted_of (after s.timed n).board) _ _ _
+resumes_is gs goal.Trace s n = resumes_by goal.Trace (halted_of (after s.timed n).board) _ _ _
+resumes_is gs goal.Break s n =
+    resumes_past gs (record s { timed = after s.timed n }) goal.Break (halted_of (after s.timed n).board) _ _ _
+resumes_is gs (goal.Out calls) s n =
+    resumes_past gs (record s { timed = after s.timed n }) (goal_after (goal.Out calls) s.timed n) (halted_of (after s.timed n).board) _ _ _
+resumes_is gs (goal.Until condition) s n =
+    resumes_past gs (record s { timed = after s.timed n }) (goal.Until condition) (halted_of (after s.timed n).board) _ _ _
 
 pub taken_after : (s : TimedState) (n : ℕ) → (after s n).taken ≡ s.taken + n
 unfolding after
@@ -79,10 +121,10 @@ module _ (p : Plan) (old : LabState) where
   s = old.recording.session
 
   has_taken : (n : ℕ) (t : SessionState) (end : End) (g : Goal) (done : ℕ)
-      → t ≡ record s { timed = after s.timed n } → end ≡ unwrap_or (run_ends p.goal s n) Limit
+      → t ≡ record s { timed = after s.timed n } → end ≡ unwrap_or (run_ends old.guards p.goal s n) Limit
       → g ≡ goal_after p.goal s.timed (steps_between s.timed t.timed) → done ≡ t.timed.taken - s.timed.taken
       → record (with_session old t) { plan = rest_of p g end done; resumes = resumes_of g end }
-      ≡ record (with_steps n old) { plan = plan_after p s n; resumes = resumes_after p.goal s n }
+      ≡ record (with_steps n old) { plan = plan_after old.guards p s n; resumes = resumes_after old.guards p.goal s n }
   has_taken n t end g done state ended goal_is done_is =
       let now = ap (λ (u : SessionState). u.timed.taken) state in
       let between : steps_between s.timed t.timed ≡ n = omega (arith, now, taken_after s.timed n) in
@@ -96,31 +138,34 @@ module _ (p : Plan) (old : LabState) where
       ∙ (ap (λ (e : End). left (goal_after p.goal s.timed n) e n) ended
       ∙ (ap (λ (q : Option Plan). record (with_steps n old) {
         plan = q;
-        resumes = resumes_of (goal_after p.goal s.timed n) (unwrap_or (run_ends p.goal s n) Limit);
-      }) (plan_is p s n)
-      ∙ ap (λ (h : Goal). record (with_steps n old) { plan = plan_after p s n; resumes = h }) (resumes_is p.goal s n))))))
+        resumes = resumes_of (goal_after p.goal s.timed n) (unwrap_or (run_ends old.guards p.goal s n) Limit);
+      }) (plan_is old.guards p s n)
+      ∙ ap (λ (h : Goal). record (with_steps n old) { plan = plan_after old.guards p s n; resumes = h })
+      (resumes_is old.guards p.goal s n))))))
 
 pub took_piece : (p : Plan) (g : Goal) (end : End) (old at_first mid new : LabState) (most done : ℕ)
     → at_first ≡ record old { plan = None; resumes = goal.Break }
-    → HasRun (run_ends p.goal at_first.recording.session) most at_first.recording.session mid.recording.session end
+    → HasRun (run_ends at_first.guards p.goal at_first.recording.session) most at_first.recording.session mid.recording.session end
     → g ≡ goal_after p.goal (timed at_first) (steps_between (timed at_first) (timed mid))
     → mid ≡ with_session at_first mid.recording.session → most ≡ min p.left (max old.piece 1)
     → done ≡ (timed mid).taken - (timed old).taken → new ≡ record mid { plan = rest_of p g end done; resumes = resumes_of g end }
     → new ≡ with_piece p old
 took_piece p g end old at_first mid new most done is run goal_is others most_is done_is e =
     let same : at_first.recording ≡ old.recording = ap (λ (l : LabState). l.recording) is in
-    let ran : HasRun (run_ends p.goal old.recording.session) most old.recording.session mid.recording.session end =
-    subst (λ (r : RecordingState). HasRun (run_ends p.goal r.session) most r.session mid.recording.session end) same run in
+    let ran : HasRun (run_ends old.guards p.goal old.recording.session) most old.recording.session mid.recording.session end =
+    subst (λ (l : LabState). HasRun (run_ends l.guards p.goal l.recording.session) most l.recording.session mid.recording.session end)
+    is run in
     let goal_now = goal_is
     ∙ ap (λ (r : RecordingState). goal_after p.goal r.session.timed (steps_between r.session.timed (timed mid))) same in
     let from_old : mid ≡ with_session (record old { plan = None; resumes = goal.Break }) mid.recording.session =
     others ∙ ap (λ (l : LabState). with_session l mid.recording.session) is in
     e ∙ (ap (λ (l : LabState). record l { plan = rest_of p g end done; resumes = resumes_of g end }) from_old
-    ∙ (has_taken p old (steps_of (run_ends p.goal old.recording.session) most) mid.recording.session end g done ran.state
+    ∙ (has_taken p old (steps_of (run_ends old.guards p.goal old.recording.session) most) mid.recording.session end g done ran.state
     ran.ended goal_now done_is
-    ∙ ap (λ (m : ℕ). record (with_steps (steps_of (run_ends p.goal old.recording.session) m) old) {
-      plan = plan_after p old.recording.session (steps_of (run_ends p.goal old.recording.session) m);
-      resumes = resumes_after p.goal old.recording.session (steps_of (run_ends p.goal old.recording.session) m);
+    ∙ ap (λ (m : ℕ). record (with_steps (steps_of (run_ends old.guards p.goal old.recording.session) m) old) {
+      plan = plan_after old.guards p old.recording.session (steps_of (run_ends old.guards p.goal old.recording.session) m);
+      resumes = resumes_after old.guards p.goal old.recording.session
+          (steps_of (run_ends old.guards p.goal old.recording.session) m);
     }) most_is))
 
 -- ---- the console

@@ -81,12 +81,12 @@ module _ (ends : ℕ → Option End) (most : ℕ) (old new : LabState) (rising :
 
 pub piece_err : {A : Type 0} (r : Result A NoMemory) (p : Plan) (most : ℕ) (old at_first new : LabState)
     → most ≡ piece_most p old → at_first ≡ record old { plan = None; resumes = goal.Break }
-    → StopsIn (run_ends p.goal at_first.recording.session) most at_first new
+    → StopsIn (run_ends at_first.guards p.goal at_first.recording.session) most at_first new
     → OnErr r (StopsShort (GoesOnWith p) old new)
 piece_err r p most old at_first new most_is is short =
-    let s : StopsIn (run_ends p.goal old.recording.session) (piece_most p old) (record old { plan = None; resumes = goal.Break }) new =
-    subst (λ (n : ℕ). StopsIn (run_ends p.goal old.recording.session) n (record old { plan = None; resumes = goal.Break }) new) most_is
-    (subst (λ (l : LabState). StopsIn (run_ends p.goal l.recording.session) most l new) is short) in
+    let s : StopsIn (run_ends old.guards p.goal old.recording.session) (piece_most p old) (record old { plan = None; resumes = goal.Break }) new =
+    subst (λ (n : ℕ). StopsIn (run_ends old.guards p.goal old.recording.session) n (record old { plan = None; resumes = goal.Break }) new) most_is
+    (subst (λ (l : LabState). StopsIn (run_ends l.guards p.goal l.recording.session) most l new) is short) in
     on_err r (StopsShort (GoesOnWith p) old new) (
       lab.gone_on p old,
       refl,

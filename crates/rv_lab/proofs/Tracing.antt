@@ -14,6 +14,7 @@ use Rattle.rv_lab.specs.Commands.{goal_after, is_traced, run_ends, with_session}
 use Rattle.rv_lab.specs.Runs.{next_steps}
 use Rattle.rv_lab.specs.State.{LabState, timed}
 use Rattle.rv_lab.specs.Support.Short.{StopsIn, Traced, told_steps}
+use Rattle.rv_lab.specs.declared.guard.Guard.{Guard}
 use Rattle.rv_lab.specs.declared.plan.Goal.{Goal}
 use Rattle.rv_lab.specs.declared.plan.Goal.TheVariants as goal
 use Rattle.rv_lab.proofs.Runs.{all_stepped}
@@ -35,9 +36,9 @@ module _ (g : Goal) (b : Bool) (is : b ≡ is_traced g) (yes : b ≡ true) where
   abbrev traces : goal.Trace ≡ g
   traces = trace_goal g (sym is ∙ yes)
 
-  pub trace_ran : {E : Type 0} (r : Result End E) (n : ℕ) (s t : SessionState) → IfOk r (HasRun (step_ends s) n s t)
-      → IfOk r (HasRun (run_ends g s) n s t)
-  trace_ran r n s t h = subst (λ (x : Goal). IfOk r (HasRun (run_ends x s) n s t)) traces h
+  pub trace_ran : {E : Type 0} (r : Result End E) (gs : List Guard) (n : ℕ) (s t : SessionState) → IfOk r (HasRun (step_ends s) n s t)
+      → IfOk r (HasRun (run_ends gs g s) n s t)
+  trace_ran r gs n s t h = subst (λ (x : Goal). IfOk r (HasRun (run_ends gs x s) n s t)) traces h
 
   pub trace_aims : {E : Type 0} (r : Result End E) (s : TimedState) (n : ℕ) → OnOk r (g ≡ goal_after g s n)
   trace_aims r s n = subst (λ (x : Goal). OnOk r (x ≡ goal_after x s n)) traces (on_ok r _ refl)
@@ -46,9 +47,9 @@ module _ (g : Goal) (b : Bool) (is : b ≡ is_traced g) (yes : b ≡ true) where
       → OnOk r (ys ≡ xs ++ told_steps g n l)
   trace_told r n l xs ys h = subst (λ (x : Goal). OnOk r (ys ≡ xs ++ told_steps x n l)) traces h
 
-  pub trace_stops : {E : Type 0} (r : Result End E) (n : ℕ) (s : SessionState) (old new : LabState) → OnErr r (StopsIn (step_ends s) n old new)
-      → OnErr r (StopsIn (run_ends g s) n old new)
-  trace_stops r n s old new h = subst (λ (x : Goal). OnErr r (StopsIn (run_ends x s) n old new)) traces h
+  pub trace_stops : {E : Type 0} (r : Result End E) (gs : List Guard) (n : ℕ) (s : SessionState) (old new : LabState) → OnErr r (StopsIn (step_ends s) n old new)
+      → OnErr r (StopsIn (run_ends gs g s) n old new)
+  trace_stops r gs n s old new h = subst (λ (x : Goal). OnErr r (StopsIn (run_ends gs x s) n old new)) traces h
 
 -- any other goal
 pub none_told : {E : Type 0} (r : Result End E) (g : Goal) (b : Bool) (n : ℕ) (l : LabState) (xs : List Step)
@@ -69,14 +70,16 @@ traced_others n old new h t =
     ∙ ap (with_session old) (sym now))
 
 -- a run that memory stopped
-pub refused_err : (r : Result End NoMemory) (g : Goal) (most : ℕ) (inside old : LabState) (q : RecordingState) → inside ≡ old
-    → IsInTime (timed old)
-    → OnErr r (IsRefusedIn (run_ends g inside.recording.session) most inside.recording.session q.session)
+pub refused_err : (r : Result End NoMemory) (gs lent : List Guard) (g : Goal) (most : ℕ) (inside old : LabState)
+    (q : RecordingState) → lent ≡ gs → inside ≡ old → IsInTime (timed old)
+    → OnErr r (IsRefusedIn (run_ends lent g inside.recording.session) most inside.recording.session q.session)
     → q ≡ record inside.recording { session = q.session }
-    → OnErr r (StopsIn (run_ends g old.recording.session) most old (record inside { recording = q }))
-refused_err (Ok end) g most inside old q same h refused others = tt
-refused_err (Err why) g most inside old q same h refused others =
+    → OnErr r (StopsIn (run_ends gs g old.recording.session) most old (record inside { recording = q }))
+refused_err (Ok end) gs lent g most inside old q whole same h refused others = tt
+refused_err (Err why) gs lent g most inside old q whole same h refused others =
     let rising = subst (λ (l : LabState). never_falls (timed l).inputs ≡ true) (sym same) h.rising in
-    subst (λ (l : LabState). StopsIn (run_ends g l.recording.session) most l (record inside { recording = q })) same
-    (refused_stops (run_ends g inside.recording.session) most inside (record inside { recording = q }) rising refused
+    subst (λ (l : LabState). StopsIn (run_ends gs g l.recording.session) most l (record inside { recording = q })) same
+    (refused_stops (run_ends gs g inside.recording.session) most inside (record inside { recording = q }) rising
+    (subst (λ (xs : List Guard). IsRefusedIn (run_ends xs g inside.recording.session) most inside.recording.session q.session)
+    whole refused)
     (ap (λ (p : RecordingState). record inside { recording = p }) others))

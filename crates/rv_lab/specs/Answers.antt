@@ -32,6 +32,7 @@ use Rattle.rv_answers.specs.declared.extent.Format.{Format}
 use Rattle.rv_answers.specs.declared.extent.Format.TheVariants as format
 use Rattle.rv_answers.specs.declared.values.Cells.{Cells}
 use Rattle.rv_answers.specs.declared.values.Cells.TheVariants as cells
+use Rattle.rv_answers.specs.declared.moves.BreakCondition.{BreakCondition}
 use Rattle.rv_answers.specs.declared.moves.Watch.{Watch}
 use Rattle.rv_answers.specs.declared.values.ControlValue.{ControlValue}
 use Rattle.rv_answers.specs.declared.values.Devices.{Devices}
@@ -43,6 +44,7 @@ use Rattle.rv_answers.specs.declared.values.Trap.{Trap}
 use Rattle.rv_lab.specs.State.{LabState, board, listing, registers_of, timed}
 use Rattle.rv_lab.specs.Lines.{line_at, line_count, row_of}
 use Rattle.rv_lab.specs.Words.{count_of, usual_steps}
+use Rattle.rv_lab.specs.declared.guard.Guard.{Guard}
 use Rattle.rv_lab.specs.declared.source.Excerpt.{Excerpt}
 use Rattle.rv_answers.specs.declared.command.Command.{Command}
 use Rattle.rv_answers.specs.declared.command.Command.TheVariants as command
@@ -82,9 +84,17 @@ instruction_answer l [] = answers.Instruction (place_of l (board l).machine.pc)
 instruction_answer l (word ∷ more) = option_map_or (λ a. answers.Instruction (place_of l a))
     (address (listing l) (board l) word) (refused command.Instruction word why.NoAddress)
 
+-- of each condition of a breakpoint, where it is and how it was given
+abbrev pub condition_of : Guard → BreakCondition
+condition_of g = record { address = g.address; text = g.text }
+
 unfoldable pub breakpoints : LabState → List Place
 breakpoints l =
     map (place_of l) (filter (set.contains l.recording.session.breakpoints.addresses) (range_with_len 0 (2 ^ 32)))
+
+abbrev pub breakpoints_answer : LabState → Answer
+breakpoints_answer l =
+    answers.Breakpoints (record { places = breakpoints l; conditions = map condition_of l.guards })
 
 -- ---- `r` and `p`
 

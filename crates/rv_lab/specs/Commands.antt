@@ -11,7 +11,9 @@ use Rattle.rv_recording.specs.Recording.{RecordingState, with_timed}
 use Rattle.rv_recording.specs.Until.{break_ends, step_ends, steps_of, until_ends}
 use Rattle.rv_recording.specs.Out.{open_at, out_ends}
 use Rattle.rv_recording.specs.declared.until.End.{End}
+use Rattle.rv_lab.specs.Guards.{passing, with_guard, without_guard}
 use Rattle.rv_lab.specs.State.{LabState, board, registers_of, sent, timed}
+use Rattle.rv_lab.specs.declared.guard.Guard.{Guard}
 use Rattle.rv_lab.specs.declared.lab.Next.{Next}
 use Rattle.rv_lab.specs.declared.lab.Next.TheVariants as next
 use Rattle.rv_lab.specs.declared.plan.Plan.{Plan}
@@ -28,19 +30,27 @@ use Rattle.rv_lab.specs.Words.{repeated}
 abbrev pub with_session : LabState → SessionState → LabState
 with_session l s = record l { recording = record l.recording { session = s } }
 
+-- a lab without a condition of the breakpoint at an address, and with another one for its breakpoint
+abbrev pub unguarded : ℕ → LabState → LabState
+unguarded a l = record l { guards = without_guard a l.guards }
+
+abbrev pub guarded : Guard → LabState → LabState
+guarded g l = record l { guards = with_guard g l.guards }
+
 -- ---- runs
 
 -- a run of the lab
 abbrev pub planned : Goal → ℕ → Plan
 planned goal most = record { goal = goal; left = most; is_monitored = false }
 
--- why a run from a session on is over after some of its steps, if it is, by what it goes on for
-abbrev pub run_ends : Goal → SessionState → ℕ → Option End
-run_ends goal.Count s = step_ends s
-run_ends goal.Trace s = step_ends s
-run_ends goal.Break s = break_ends s
-run_ends (goal.Out calls) s = out_ends calls s
-run_ends (goal.Until condition) s = until_ends condition s
+-- why a run from a session on is over after some of its steps, if it is, by what it goes on for and by the conditions of
+-- breakpoints: only a number of steps goes past any breakpoint
+abbrev pub run_ends : List Guard → Goal → SessionState → ℕ → Option End
+run_ends gs goal.Count s = step_ends s
+run_ends gs goal.Trace s = step_ends s
+run_ends gs goal.Break s = passing gs s (break_ends s)
+run_ends gs (goal.Out calls) s = passing gs s (out_ends calls s)
+run_ends gs (goal.Until condition) s = passing gs s (until_ends condition s)
 
 -- what the run goes on for after n steps
 abbrev pub goal_after : Goal → TimedState → ℕ → Goal
@@ -48,9 +58,9 @@ goal_after (goal.Out calls) s n = goal.Out (open_at calls s n)
 goal_after other s n = other
 
 -- the plan of a run after n steps: there is one exactly while the run isn't over and steps are left
-unfoldable pub plan_after : Plan → SessionState → ℕ → Option Plan
-plan_after p s n =
-    if is_none (run_ends p.goal s n) && nat_lt n p.left
+unfoldable pub plan_after : List Guard → Plan → SessionState → ℕ → Option Plan
+plan_after gs p s n =
+    if is_none (run_ends gs p.goal s n) && nat_lt n p.left
     then Some (record p { goal = goal_after p.goal s.timed n; left = p.left - n }) else None
 
 -- what `c` goes on for after a run that went on for this: the same, but breakpoints alone after one that counted steps
@@ -60,8 +70,8 @@ resumed_by goal.Trace = goal.Break
 resumed_by other = other
 
 -- and after n steps of a run, which may be over: then breakpoints alone
-abbrev pub resumes_after : Goal → SessionState → ℕ → Goal
-resumes_after g s n = if is_none (run_ends g s n) then resumed_by (goal_after g s.timed n) else goal.Break
+abbrev pub resumes_after : List Guard → Goal → SessionState → ℕ → Goal
+resumes_after gs g s n = if is_none (run_ends gs g s n) then resumed_by (goal_after g s.timed n) else goal.Break
 
 -- the lab with n steps taken
 abbrev pub with_steps : ℕ → LabState → LabState
@@ -76,13 +86,13 @@ abbrev pub piece_most : Plan → LabState → ℕ
 piece_most p l = min p.left (max l.piece 1)
 
 abbrev pub piece_steps : Plan → LabState → ℕ
-piece_steps p l = steps_of (run_ends p.goal l.recording.session) (piece_most p l)
+piece_steps p l = steps_of (run_ends l.guards p.goal l.recording.session) (piece_most p l)
 
 -- the lab after that call, before its console is told
 abbrev pub with_piece : Plan → LabState → LabState
 with_piece p l =
     let s = l.recording.session in let n = piece_steps p l in
-    record (with_steps n l) { plan = plan_after p s n; resumes = resumes_after p.goal s n }
+    record (with_steps n l) { plan = plan_after l.guards p s n; resumes = resumes_after l.guards p.goal s n }
 
 -- whether each step of a run is told
 abbrev pub is_traced : Goal → Bool

@@ -1,6 +1,6 @@
 -- To audit: public contracts cite this.
 -- What a command line asks for, by its words and the lab as it stands (this project's own: docs/LAB.md).
-use Rattle.std.specs.Prelude.{ℕ, ◌+◌, ◌-◌, ◌/◌, ◌==◌, false, true, List, [], ◌∷◌, if◌then◌else◌, length, nat_lt, slice_get, codes, Option, Some, None, option_and_then, unwrap_or}
+use Rattle.std.specs.Prelude.{ℕ, ◌+◌, ◌-◌, ◌/◌, ◌==◌, Bool, false, true, List, [], ◌∷◌, if◌then◌else◌, slice_get, codes, Option, Some, None, option_and_then, unwrap_or}
 use Rattle.std.specs.Option.{option_map_or}
 use Rattle.std.specs.Str.{bytes_eq}
 use Rattle.rv_base.specs.Words.{words}
@@ -8,10 +8,11 @@ use Rattle.rv_timeline.specs.Timed.{driven}
 use Rattle.rv_timeline.specs.declared.input.Input.{Input}
 use Rattle.rv_recording.specs.Recording.{last_step}
 use Rattle.rv_recording.specs.declared.until.Condition.{Condition}
+use Rattle.rv_recording.specs.declared.until.Condition.TheVariants as condition
 use Rattle.rv_why.specs.Origins.{last_sought}
 use Rattle.rv_why.specs.Taken.{first_state}
 use Rattle.rv_why.specs.declared.writes.Sought.TheVariants as sought
-use Rattle.rv_operands.specs.Operands.{address, break_address, bytes_inputs, followed, leading, line_number, operand_text}
+use Rattle.rv_operands.specs.Operands.{address, break_address, break_place, bytes_inputs, followed, leading, line_number, operand_text, trimmed}
 use Rattle.rv_answers.specs.Commands.{command_named}
 use Rattle.rv_answers.specs.declared.answer.Answer.{Answer}
 use Rattle.rv_answers.specs.declared.answer.Answer.TheVariants as answers
@@ -20,7 +21,7 @@ use Rattle.rv_answers.specs.declared.command.Command.{Command}
 use Rattle.rv_answers.specs.declared.command.Command.TheVariants.{Step, Over, Moves, Break, Clear, Receive, Line, Save, Monitor, Why, Help, Quit, StepOnce, Again, Unknown, TooLong}
 use Rattle.rv_answers.specs.declared.command.Command.TheVariants as command
 use Rattle.rv_answers.specs.declared.command.Move.TheVariants.{Go, Finish, Until, Trace, Back}
-use Rattle.rv_lab.specs.Answers.{breakpoints, look_answer, only, refused}
+use Rattle.rv_lab.specs.Answers.{breakpoints_answer, look_answer, only, refused}
 use Rattle.rv_lab.specs.Commands.{planned, ready}
 use Rattle.rv_lab.specs.Lines.{line_at}
 use Rattle.rv_lab.specs.State.{LabState, board, listing, timed}
@@ -50,6 +51,27 @@ abbrev pub no_break : Command → List (List ℕ) → Answer
 no_break c (word ∷ []) =
     refused c word (option_map_or (λ n. why.NoBytesThere) (line_number word) why.NoAddress)
 no_break c _ = refused c [] why.NotOne
+
+-- whether a condition may hold of a board whatever its last step did: any but that it trapped
+abbrev pub is_of_board : Condition → Bool
+is_of_board condition.Trap = false
+is_of_board _ = true
+
+-- `b`: all breakpoints; or one at a word, with a condition after `if`
+unfoldable pub guard_order : (text word : List ℕ) → LabState → Option Condition × List (List ℕ) → Order
+guard_order text word l (Some c, []) =
+    if is_of_board c then or_refused (break_place (listing l) (board l) word)
+    (λ a. orders.BreakIf (record { address = a; condition = c; text = trimmed (operand_text (operand_text text)) }))
+    (no_break Break (word ∷ [])) else orders.Answered (refused Break text why.NoCondition)
+guard_order text word l _ = orders.Answered (refused Break text why.NoCondition)
+
+unfoldable pub break_order : List ℕ → List (List ℕ) → LabState → Order
+break_order text [] l = orders.Answered (breakpoints_answer l)
+break_order text (word ∷ []) l =
+    or_refused (break_place (listing l) (board l) word) (λ a. orders.Break a) (no_break Break (word ∷ []))
+break_order text (word ∷ second ∷ more) l =
+    if bytes_eq second (codes "if") then guard_order text word l (leading (listing l) (board l) more)
+    else orders.Answered (no_break Break (word ∷ second ∷ more))
 
 -- inputs before the next step, if there are some
 abbrev pub give_order : List Input → Answer → Order
@@ -123,9 +145,7 @@ command_order (Moves Trace) word text l = or_refused (count_of 10 1000 (words te
     (λ n. orders.Run (planned goal.Trace n)) (refused (Moves Trace) text why.NoSteps)
 command_order (Moves Back) word text l = back_order text (words text) l
 command_order command.List word text l = list_order (words text) l
-command_order Break word text l =
-    if nat_lt 0 (length (words text)) then or_refused (break_address (listing l) (board l) (words text))
-    (λ a. orders.Break a) (no_break Break (words text)) else orders.Answered (answers.Breakpoints (breakpoints l))
+command_order Break word text l = break_order text (words text) l
 command_order Clear word text l = or_refused (break_address (listing l) (board l) (words text))
     (λ a. orders.Clear a) (no_break Clear (words text))
 command_order Receive word text l = give_order (unwrap_or (bytes_inputs text) []) (refused Receive text why.NoBytes)

@@ -33,7 +33,7 @@ use Rattle.rv_answers.specs.declared.values.Trap.{Trap}
 use Rattle.rv_why.specs.Why.{explanation}
 use Rattle.rv_why.specs.Origins.{origin}
 use Rattle.rv_lab.specs.Answers.{place_of, rows_answer, standing, watch_of}
-use Rattle.rv_lab.specs.Commands.{begun, gone_on, monitor_next, monitored_run, is_traced, next_of, piece_most, piece_steps, planned, ready, run_ends, stepped, with_console, with_inputs, with_session, with_steps}
+use Rattle.rv_lab.specs.Commands.{begun, gone_on, guarded, monitor_next, monitored_run, is_traced, next_of, piece_most, piece_steps, planned, ready, run_ends, stepped, unguarded, with_console, with_inputs, with_session, with_steps}
 use Rattle.rv_lab.specs.Orders.{ordered}
 use Rattle.rv_lab.specs.Saved.{steps_text}
 use Rattle.rv_lab.specs.State.{LabState, board, listing, registers_of, sent, timed}
@@ -88,7 +88,7 @@ next_steps (suc n) l =
 
 -- why a call of a run ends
 abbrev pub end_of : Plan → LabState → End
-end_of p l = unwrap_or (run_ends p.goal l.recording.session (piece_steps p l)) ends.Limit
+end_of p l = unwrap_or (run_ends l.guards p.goal l.recording.session (piece_steps p l)) ends.Limit
 
 abbrev pub ending_of : End → Ending
 ending_of ends.Halted = ending.Halted
@@ -223,9 +223,13 @@ does (orders.Back n) old new = let to = (timed old).taken - n in
 does (orders.List e follows) old new =
     more (new ≡ record old { listed = min (e.after + e.count) (line_count (listing old)) }) (rows_answer e follows old)
 does (orders.Break a) old new =
-    more (new ≡ with_session old (with_break old.recording.session a)) (answers.Break (place_of new a))
+    more (new ≡ unguarded a (with_session old (with_break old.recording.session a)))
+    (answers.Break (record { place = place_of new a; condition = None }))
+does (orders.BreakIf g) old new =
+    more (new ≡ guarded g (with_session old (with_break old.recording.session g.address)))
+    (answers.Break (record { place = place_of new g.address; condition = Some g.text }))
 does (orders.Clear a) old new = let s = old.recording.session in
-    more (new ≡ with_session old (without_break s a))
+    more (new ≡ unguarded a (with_session old (without_break s a)))
     (answers.Cleared (record { place = place_of new a; was_there = set.contains s.breakpoints.addresses a }))
 does (orders.Give inputs) old new = more (new ≡ with_inputs old inputs) (given_answer (length inputs) new)
 does (orders.Monitor line) old new = let c = command_in line old.recording.session in

@@ -8,11 +8,12 @@ use Rattle.rv_monitor.specs.State.{TimedState}
 use Rattle.rv_recording.specs.Recording.{RecordingState}
 use Rattle.rv_answers.specs.declared.command.Command.{Command}
 pub use Rattle.rv_convention.specs.Convention.{registers_of}
+use Rattle.rv_lab.specs.declared.guard.Guard.{Guard}
 use Rattle.rv_lab.specs.declared.plan.Goal.{Goal}
 use Rattle.rv_lab.specs.declared.plan.Plan.{Plan}
 use Rattle.rv_lab.specs.declared.plan.Trail.{Trail}
 
--- a source with the places of its lines and the recording of its program; the registers and the number of steps
+-- a source with the places of its lines and the recording of its program; the conditions of breakpoints; the registers and the number of steps
 -- before the last command that moved the board, and the bytes of the console that were told; what an empty line
 -- repeats, the steps of the last `s`, and the last line of the last `l`; the run that isn't over; what `c` goes on
 -- for; what `why` alone goes on with; and the most steps of a call
@@ -20,6 +21,7 @@ pub record LabState : Type 0 where
   pub source : List ℕ
   pub places : Located
   pub recording : RecordingState
+  pub guards : List Guard
   pub registers : List ℕ
   pub before : ℕ
   pub told : ℕ

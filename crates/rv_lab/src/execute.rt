@@ -50,6 +50,7 @@ impl Lab {
             Order::Back(count) => self.back(count),
             Order::List(excerpt, follows) => self.list(excerpt, follows),
             Order::Break(address) => self.set_break(address),
+            Order::BreakIf(guard) => self.set_guarded(guard),
             Order::Clear(address) => self.clear_break(address),
             Order::Give(inputs) => self.give_inputs(inputs.items()),
             Order::Monitor(line) => self.monitor_command(line.items()),

@@ -1,5 +1,5 @@
 //! The lab: what a caller may ask of it.
-ghost use Rattle.std.specs.Prelude.{◌≡◌, max, Err, IfErr, IfOk, None, Ok, OnErr, OnOk};
+ghost use Rattle.std.specs.Prelude.{◌≡◌, [], max, Err, IfErr, IfOk, None, Ok, OnErr, OnOk};
 ghost use Rattle.rv_asm.specs.Lines.{listed};
 ghost use Rattle.rv_asm.specs.Seen.{seen};
 ghost use Rattle.rv_monitor.specs.Laws.{IsReached};
@@ -17,6 +17,7 @@ ghost use Rattle.rv_lab.specs.Runs.{Leaves, Obeys, look_by, reply_to};
 
 use crate::command::{read_command, repeated, trail_before};
 use crate::fault::LabFault;
+use crate::guard::Guard;
 use crate::order::Order;
 use crate::plan::{Goal, Plan, Trail};
 use rv_answers::{Answer, Command, Printer, Registers};
@@ -100,6 +101,8 @@ pub struct Lab {
     pub(crate) source: Vec<u8>,
     pub(crate) places: Places,
     pub(crate) recording: Recording,
+    /// The conditions of breakpoints.
+    pub(crate) guards: Vec<Guard>,
     pub(crate) last: Last,
     /// The most steps of one call: a longer run goes on by `go_on`.
     pub(crate) piece: u64,
@@ -116,6 +119,7 @@ impl Drop for Lab {
             source: _,
             places: _,
             recording: _,
+            guards: _,
             last: _,
             piece: _,
         } = self;
@@ -133,7 +137,7 @@ impl Model for Lab {
 
     ghost coded = { Prim.hlevel (codes, plic_code, set.code {R = nat_cmp} coded_ℕ) };
 
-    ghost view = { λ l. record { source = l.source.items; places = l.places; recording = l.recording; registers = l.last.registers; before = l.last.steps; told = l.last.told; again = l.last.command; count = l.last.count; listed = l.last.listed; plan = l.last.plan; resumes = l.last.resumes; trail = l.last.trail; piece = l.piece } };
+    ghost view = { λ l. record { source = l.source.items; places = l.places; recording = l.recording; guards = l.guards.items; registers = l.last.registers; before = l.last.steps; told = l.last.told; again = l.last.command; count = l.last.count; listed = l.last.listed; plan = l.last.plan; resumes = l.last.resumes; trail = l.last.trail; piece = l.piece } };
 }
 
 impl Lab {
@@ -150,7 +154,7 @@ impl Lab {
         ensures sizes { IfOk result (λ l.
             (l.recording.pages ≡ sizes.pages) × (l.recording.slots ≡ sizes.slots)) }
         ensures listing { IfOk result (λ l. listed source.now ≡ Ok (listing l)) }
-        ensures begins { IfOk result (λ l. (l.source ≡ source.now) × (l.before ≡ 0) × (l.told ≡ 0)
+        ensures begins { IfOk result (λ l. (l.source ≡ source.now) × (l.guards ≡ []) × (l.before ≡ 0) × (l.told ≡ 0)
             × (l.registers ≡ registers_of l.recording.session.timed.board) × (l.again ≡ StepOnce) × (l.count ≡ 1)
             × (l.listed ≡ 0) × (l.plan ≡ None) × (l.resumes ≡ goal.Break) × (l.trail ≡ None) × (l.piece ≡ 1000000)) }
     {
@@ -176,6 +180,7 @@ impl Lab {
             source,
             places,
             recording,
+            guards: Vec::new(alloc),
             last,
             piece: PIECE,
         })

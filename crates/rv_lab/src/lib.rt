@@ -9,6 +9,7 @@ mod devices;
 mod diagnosis;
 mod execute;
 mod fault;
+mod guard;
 mod inputs;
 mod lab;
 mod looks;

@@ -315,7 +315,7 @@ impl Lab {
         Ok(Answer::List(self.rows_from(excerpt.after + 1, count, last)?))
     }
 
-    /// Returns the breakpoints.
+    /// Returns the places of the breakpoints.
     #[tactic(auto, using(crate::proofs::Values::no_breaks_yet))]
     pub(crate) fn breakpoints(&self) -> Result<Many<Place>, NoMemory>
         ensures { IfOk result (λ b. b ≡ breakpoints self.now) }

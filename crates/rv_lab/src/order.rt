@@ -1,16 +1,17 @@
 //! What a command line asks for, its operands read.
-ghost use Rattle.std.specs.Prelude.{◌≡◌, [], IfOk};
+ghost use Rattle.std.specs.Prelude.{◌≡◌, ◌∷◌, [], IfOk};
 ghost use Rattle.rv_base.specs.Words.{words};
 ghost use Rattle.rv_answers.specs.declared.command.Command.TheVariants as command;
 ghost use Rattle.rv_answers.specs.declared.command.Move.TheVariants as moves;
 ghost use Rattle.rv_lab.specs.Answers.{refused};
-ghost use Rattle.rv_lab.specs.Orders.{again_order, back_by, back_order, back_until, command_order, help_order, list_order, list_round, no_break, save_order, steps_order, until_order, why_order};
+ghost use Rattle.rv_lab.specs.Orders.{again_order, back_by, back_order, back_until, break_order, command_order, guard_order, help_order, is_of_board, list_order, list_round, no_break, save_order, steps_order, until_order, why_order};
 ghost use Rattle.rv_operands.specs.Operands.{leading};
 ghost use Rattle.rv_lab.specs.Commands.{planned};
 ghost use Rattle.rv_lab.specs.State.{board, listing};
 ghost use Rattle.rv_lab.specs.declared.order.Order.TheVariants as orders;
 
 use crate::command::CommandLine;
+use crate::guard::Guard;
 use crate::lab::Lab;
 use crate::operands::count_or;
 use crate::places::line_at;
@@ -19,8 +20,8 @@ use crate::run::{MOST_STEPS, MOST_TRACED, USUAL_STEPS, USUAL_TRACED};
 use crate::source::{Excerpt, MOST_LINES, USUAL_LINES};
 use rv_answers::{Answer, Command, Many, Move, Why, command_named, push};
 use rv_base::{NoMemory, first_word, has_word};
-use rv_operands::{Leading, line_number, only_word, read_bytes_inputs};
-use rv_recording::LAST_STEP;
+use rv_operands::{Leading, line_number, only_word, operands_of, read_bytes_inputs, trimmed};
+use rv_recording::{Condition, LAST_STEP};
 use rv_timeline::{Input, line_input};
 use rv_why::last_met;
 
@@ -39,6 +40,8 @@ pub(crate) enum Order {
     List(Excerpt, bool),
     /// To make an address a breakpoint.
     Break(u32),
+    /// To make one of its address, with a condition.
+    BreakIf(Guard),
     /// To remove a breakpoint.
     Clear(u32),
     /// To give the board inputs before its next step.
@@ -68,6 +71,13 @@ fn run_order(goal: Goal, most: u64) -> Order
     })
 }
 
+/// Returns whether a condition may hold of a board whatever its last step did.
+fn is_of_board(condition: &Condition) -> bool
+    ensures { result ≡ is_of_board condition.now }
+{
+    !matches!(condition, Condition::Trap)
+}
+
 /// Returns the order for a number of steps.
 fn steps_order(count: u64) -> Order
     ensures { result ≡ steps_order count }
@@ -80,7 +90,7 @@ fn steps_order(count: u64) -> Order
 
 impl Lab {
     /// Returns a copy of some bytes.
-    fn copied(&self, bytes: &[u8]) -> Result<Many<u8>, NoMemory>
+    pub(crate) fn copied(&self, bytes: &[u8]) -> Result<Many<u8>, NoMemory>
         ensures { IfOk result (λ m. m ≡ bytes.now) }
     {
         Ok(Many::of(Vec::from_slice(self.alloc, bytes)?))
@@ -229,31 +239,70 @@ impl Lab {
         }
     }
 
+    /// Refuses a word that is no address of a breakpoint.
+    fn refuse_place(&self, command: Command, word: &[u8]) -> Result<Order, NoMemory>
+        ensures { IfOk result (λ o. o ≡ orders.Answered (no_break command (word.now ∷ []))) }
+    {
+        if line_number(word).is_some() {
+            return self.refuse(command, word, Why::NoBytesThere);
+        }
+        self.refuse(command, word, Why::NoAddress)
+    }
+
     /// Refuses operands that are no address of a breakpoint.
     fn refuse_break(&self, command: Command, operands: &[u8]) -> Result<Order, NoMemory>
         ensures { IfOk result (λ o. o ≡ orders.Answered (no_break command (words operands.now))) }
     {
         match only_word(operands) {
             None => self.refuse(command, b"", Why::NotOne),
-            Some(word) if line_number(word).is_some() => {
-                self.refuse(command, word, Why::NoBytesThere)
-            }
-            Some(word) => self.refuse(command, word, Why::NoAddress),
+            Some(word) => self.refuse_place(command, word),
         }
     }
 
-    /// Reads the operands of `b`.
-    #[tactic(auto, unfolding(crate::specs::Orders::command_order))]
-    fn break_order(&self, operands: &[u8]) -> Result<Order, NoMemory>
-        ensures { IfOk result (λ o. o ≡ command_order command.Break [] operands.now self.now) }
+    /// Reads the condition of a breakpoint at a word, which stands in `text`.
+    #[tactic(auto, unfolding(crate::specs::Orders::guard_order))]
+    fn guard_order(&self, operands: &[u8], word: &[u8], text: &[u8]) -> Result<Order, NoMemory>
+        ensures { IfOk result (λ o. o ≡ guard_order operands.now word.now self.now (leading (listing self.now) (board self.now) (words text.now))) }
     {
-        if !has_word(operands) {
-            return Ok(Order::Answered(Answer::Breakpoints(self.breakpoints()?)));
+        let Leading { condition, rest } = self.scope().leading(text);
+        let Some(condition) = condition else {
+            return self.refuse(Command::Break, operands, Why::NoCondition);
+        };
+        if has_word(rest) {
+            return self.refuse(Command::Break, operands, Why::NoCondition);
         }
-        match self.scope().break_address(operands) {
-            Some(address) => Ok(Order::Break(address)),
-            None => self.refuse_break(Command::Break, operands),
+        if !is_of_board(&condition) {
+            return self.refuse(Command::Break, operands, Why::NoCondition);
         }
+        let Some(address) = self.scope().break_place(word) else {
+            return self.refuse_place(Command::Break, word);
+        };
+        let text = self.copied(trimmed(operands_of(operands_of(operands))))?;
+        Ok(Order::BreakIf(Guard {
+            address,
+            condition,
+            text,
+        }))
+    }
+
+    /// Reads the operands of `b`.
+    #[tactic(auto, unfolding(crate::specs::Orders::break_order))]
+    fn break_order(&self, operands: &[u8]) -> Result<Order, NoMemory>
+        ensures { IfOk result (λ o. o ≡ break_order operands.now (words operands.now) self.now) }
+    {
+        let Some((word, rest)) = first_word(operands) else {
+            return Ok(Order::Answered(self.breakpoints_answer()?));
+        };
+        let Some((second, text)) = first_word(rest) else {
+            return match self.scope().break_place(word) {
+                Some(address) => Ok(Order::Break(address)),
+                None => self.refuse_place(Command::Break, word),
+            };
+        };
+        if second == b"if".as_slice() {
+            return self.guard_order(operands, word, text);
+        }
+        self.refuse(Command::Break, b"", Why::NotOne)
     }
 
     /// Reads the operands of `d`.

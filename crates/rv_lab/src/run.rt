@@ -8,13 +8,14 @@ ghost use Rattle.rv_lab.specs.Commands.{GoesOn, InPieces, IsWithin, begun, goal_
 ghost use Rattle.rv_lab.specs.Refusals.{RunsOut, StopsShort};
 ghost use Rattle.rv_lab.specs.Runs.{Leaves, end_of, reply_on, run_answer};
 ghost use Rattle.rv_answers.specs.declared.answer.Answer.TheVariants as answers;
-ghost use Rattle.rv_lab.specs.Support.Short.{GoesOnWith, Starts, Steps, StopsIn, backed, call_answer, rest_of, resumes_of, told_steps};
+ghost use Rattle.rv_lab.specs.Support.Short.{GoesOnWith, Starts, Steps, StopsIn, backed, call_answer, plain_ends, rest_of, resumes_of, told_steps};
 ghost use Rattle.rv_monitor.specs.Stops.{steps_between};
 ghost use Rattle.rv_recording.specs.Until.{HasRun};
 ghost use Rattle.rv_recording.specs.Refused.{IsRefusedIn};
 ghost use Rattle.rv_lab.specs.State.{LabState, setup, timed};
 ghost use Rattle.rv_monitor.specs.State.{IsInTime};
 
+use crate::guard::{Guard, end_here};
 use crate::lab::{Done, Lab, Next, Reply};
 use crate::plan::{Goal, Plan};
 use crate::tell::ending_of;
@@ -35,15 +36,15 @@ pub(crate) const USUAL_TRACED: u64 = 10;
 /// The most steps of `trace`.
 pub(crate) const MOST_TRACED: u64 = 1000;
 
-/// Takes steps of a run, at most `most`, and returns why it is over or ended. `goal` is what the run goes on
-/// for, before them and after them.
+/// Takes steps of a run, at most `most`, and returns why it is over or ended if no breakpoint has a condition. `goal` is
+/// what the run goes on for, before them and after them.
 fn run_for(recording: &mut Recording, goal: &mut Goal, most: u64) -> Result<End, NoMemory>
     ensures ok { IfOk result
-        (HasRun (run_ends goal.old recording.old.session) most recording.old.session recording.new.session) }
+        (HasRun (plain_ends goal.old recording.old.session) most recording.old.session recording.new.session) }
     ensures goal { OnOk result (goal.new ≡ goal_after goal.old recording.old.session.timed
         (steps_between recording.old.session.timed recording.new.session.timed)) }
     ensures err { OnErr result
-        (IsRefusedIn (run_ends goal.old recording.old.session) most recording.old.session recording.new.session) }
+        (IsRefusedIn (plain_ends goal.old recording.old.session) most recording.old.session recording.new.session) }
     ensures others { recording.new ≡ record recording.old { session = recording.new.session } }
 {
     match *goal {
@@ -56,6 +57,35 @@ fn run_for(recording: &mut Recording, goal: &mut Goal, most: u64) -> Result<End,
             *goal = Goal::Out(open);
             Ok(end)
         }
+    }
+}
+
+/// Takes steps of a run as `run_for` does, and past each breakpoint whose condition doesn't hold.
+#[tactic(auto, using(crate::proofs::Passing::begins, crate::proofs::Passing::others_still))]
+fn run_past(
+    recording: &mut Recording,
+    guards: &[Guard],
+    goal: &mut Goal,
+    most: u64,
+) -> Result<End, NoMemory>
+    ensures ok { IfOk result (HasRun (run_ends guards.now goal.old recording.old.session) most
+        recording.old.session recording.new.session) }
+    ensures goal { OnOk result (goal.new ≡ goal_after goal.old recording.old.session.timed
+        (steps_between recording.old.session.timed recording.new.session.timed)) }
+    ensures err { OnErr result (IsRefusedIn (run_ends guards.now goal.old recording.old.session) most
+        recording.old.session recording.new.session) }
+    ensures others { recording.new ≡ record recording.old { session = recording.new.session } }
+{
+    // It tells that the inputs of all steps so far were given.
+    let _board = recording.session().board();
+    let mut left = most;
+    loop {
+        let before = recording.steps();
+        let end = run_for(recording, goal, left)?;
+        if let Some(last) = end_here(guards, recording.session(), end) {
+            return Ok(last);
+        }
+        left = left.saturating_sub(recording.steps().saturating_sub(before));
     }
 }
 
@@ -155,21 +185,21 @@ impl Lab {
         self.over_answer(plan.is_monitored, plan.goal, end)
     }
 
-    /// Takes steps of a run, as `run_for` does.
+    /// Takes steps of a run, as `run_past` does.
     fn run_board(&mut self, goal: &mut Goal, most: u64) -> Result<End, NoMemory>
-        ensures ok { IfOk result (HasRun (run_ends goal.old self.old.recording.session) most
+        ensures ok { IfOk result (HasRun (run_ends self.old.guards goal.old self.old.recording.session) most
             self.old.recording.session self.new.recording.session) }
         ensures goal { OnOk result (goal.new
             ≡ goal_after goal.old (timed self.old) (steps_between (timed self.old) (timed self.new))) }
-        ensures err { OnErr result (StopsIn (run_ends goal.old self.old.recording.session) most self.old self.new) }
+        ensures err { OnErr result (StopsIn (run_ends self.old.guards goal.old self.old.recording.session) most self.old self.new) }
         ensures others { self.new ≡ with_session self.old self.new.recording.session }
     {
         // It tells that the board is the run of the recorded events.
         let _board = self.board();
-        run_for(&mut self.recording, goal, most)
+        run_past(&mut self.recording, &self.guards, goal, most)
     }
 
-    /// Takes steps of a run, as `run_for` does, and appends what each did if they are told.
+    /// Takes steps of a run, as `run_past` does, and appends what each did if they are told.
     #[tactic(auto, using(crate::proofs::Tracing::trace_ran, crate::proofs::Tracing::trace_aims, crate::proofs::Tracing::trace_told, crate::proofs::Tracing::trace_stops, crate::proofs::Tracing::none_told))]
     fn take_steps(
         &mut self,
@@ -177,12 +207,12 @@ impl Lab {
         most: u64,
         steps: &mut Vec<Step>,
     ) -> Result<End, NoMemory>
-        ensures ok { IfOk result (HasRun (run_ends goal.old self.old.recording.session) most
+        ensures ok { IfOk result (HasRun (run_ends self.old.guards goal.old self.old.recording.session) most
             self.old.recording.session self.new.recording.session) }
         ensures goal { OnOk result (goal.new
             ≡ goal_after goal.old (timed self.old) (steps_between (timed self.old) (timed self.new))) }
         ensures steps { OnOk result (steps.new.items ≡ steps.old.items ++ told_steps goal.old most self.old) }
-        ensures err { OnErr result (StopsIn (run_ends goal.old self.old.recording.session) most self.old self.new) }
+        ensures err { OnErr result (StopsIn (run_ends self.old.guards goal.old self.old.recording.session) most self.old self.new) }
         ensures others { self.new ≡ with_session self.old self.new.recording.session }
     {
         if goal.is_traced() {

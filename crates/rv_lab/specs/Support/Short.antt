@@ -4,7 +4,8 @@ use Rattle.std.specs.Prelude.{◌≡◌, ℕ, zero, suc, ◌-◌, List, [], Opti
 use Rattle.rv_base.specs.declared.memory.NoMemory.{NoMemory}
 use Rattle.rv_timeline.specs.declared.input.Input.{Input}
 use Rattle.rv_recording.specs.Recording.{RecordingState, gone_back, with_timed}
-use Rattle.rv_recording.specs.Until.{steps_of}
+use Rattle.rv_recording.specs.Out.{out_ends}
+use Rattle.rv_recording.specs.Until.{break_ends, step_ends, steps_of, until_ends}
 use Rattle.rv_monitor.specs.Commands as monitor
 use Rattle.rv_monitor.specs.Commands.{command_in}
 use Rattle.rv_monitor.specs.State.{SessionState, after}
@@ -79,6 +80,14 @@ abbrev pub Gives : List Input → LabState → LabState → Type 0
 Gives inputs old new = new ≡ with_inputs old inputs
 
 -- ---- calls of a run
+
+-- why a run from a session on would be over after some of its steps if no breakpoint had a condition
+abbrev pub plain_ends : Goal → SessionState → ℕ → Option End
+plain_ends goal.Count s = step_ends s
+plain_ends goal.Trace s = step_ends s
+plain_ends goal.Break s = break_ends s
+plain_ends (goal.Out calls) s = out_ends calls s
+plain_ends (goal.Until condition) s = until_ends condition s
 
 -- the steps of a call that are told: at most n
 abbrev pub told_steps : Goal → ℕ → LabState → List Step
