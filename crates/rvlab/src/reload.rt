@@ -1,6 +1,6 @@
 //! The source read again.
 use crate::words::Words;
-use rv_answers::{Answer, Place};
+use rv_answers::{Answer, BreakCondition, Place};
 use rv_base::{NoMemory, TEXT_LIMIT};
 use rv_lab::{Lab, LabFault, Printer, append_diagnosis};
 use rv_options::read_file;
@@ -20,8 +20,8 @@ pub struct SourceFile<'a> {
     known: Option<SystemTime>,
 }
 
-/// Makes a breakpoint at the line of a place, or at its address where it has none.
-fn set_break(rt: &HostRuntime, place: Place, lab: &mut Lab) -> Result<(), NoMemory> {
+/// Returns the command for a breakpoint at the line of a place, or at its address where it has none.
+fn break_line(rt: &HostRuntime, place: Place) -> Printer {
     let mut line = Printer::new(rt.alloc());
     line.say("b ");
     match place.line {
@@ -31,15 +31,34 @@ fn set_break(rt: &HostRuntime, place: Place, lab: &mut Lab) -> Result<(), NoMemo
             line.word(place.address);
         }
     }
-    lab.answer(line.bytes())?;
+    line
+}
+
+/// Gives the breakpoint at a place its condition, if it had one. One that means nothing in the new source is left out.
+fn set_condition(
+    rt: &HostRuntime,
+    place: Place,
+    conditions: &[BreakCondition],
+    lab: &mut Lab,
+) -> Result<(), NoMemory> {
+    for condition in conditions {
+        if condition.address == place.address {
+            let mut line = break_line(rt, place);
+            line.say(" if ");
+            line.put(condition.text.items());
+            lab.answer(line.bytes())?;
+        }
+    }
     Ok(())
 }
 
 /// Makes the breakpoints of a lab those of another one, too.
 fn copy_breaks(rt: &HostRuntime, old: &Lab, new: &mut Lab) -> Result<(), NoMemory> {
-    if let Some(Answer::Breakpoints(places)) = old.look(b"b")? {
-        for place in places.items() {
-            set_break(rt, *place, new)?;
+    if let Some(Answer::Breakpoints(breaks)) = old.look(b"b")? {
+        for place in breaks.places.items() {
+            let place = *place;
+            new.answer(break_line(rt, place).bytes())?;
+            set_condition(rt, place, breaks.conditions.items(), new)?;
         }
     }
     Ok(())
