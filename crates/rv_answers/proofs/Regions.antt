@@ -13,7 +13,7 @@ use Rattle.rv_answers.specs.States.{range_of, region_of, regions}
 use Rattle.rv_answers.specs.declared.values.Region.{Region}
 
 -- the last of some numbers
-last_number : (a n : ℕ) → range_with_len a (suc n) ≡ range_with_len a n ++ (a + n) ∷ []
+pub last_number : (a n : ℕ) → range_with_len a (suc n) ≡ range_with_len a n ++ (a + n) ∷ []
 last_number a zero = let same : a ≡ a + 0 = omega arith in ap (λ k. k ∷ []) same
 last_number a (suc n) =
     let same : a + 1 + n ≡ a + suc n = omega arith in

@@ -6,7 +6,7 @@ use Rattle.std.specs.Option.{option_map}
 use Rattle.std.specs.Str.{bytes_eq}
 use Rattle.rv_base.specs.Words.{words}
 use Rattle.rv_answers.specs.declared.command.Command.{Command}
-use Rattle.rv_answers.specs.declared.command.Command.TheVariants.{Step, Over, Moves, Where, Break, Clear, Registers, ControlRegister, Memory, Instruction, Traps, Edges, Why, Check, Display, Undisplay, Devices, Receive, Line, Save, Reload, Monitor, Help, Quit}
+use Rattle.rv_answers.specs.declared.command.Command.TheVariants.{Step, Over, Moves, Where, Break, Clear, Registers, ControlRegister, Memory, Instruction, Traps, Edges, Why, Check, Profile, Display, Undisplay, Devices, Receive, Line, Save, Reload, Monitor, Help, Quit}
 use Rattle.rv_answers.specs.declared.command.Command.TheVariants as command
 use Rattle.rv_answers.specs.declared.command.Move.TheVariants.{Go, Finish, Until, Trace, Back}
 
@@ -19,9 +19,9 @@ commands =
     (codes "b break", Break) ∷ (codes "d delete clear", Clear) ∷ (codes "r reg regs registers", Registers) ∷
     (codes "p", ControlRegister) ∷ (codes "m mem x", Memory) ∷ (codes "i", Instruction) ∷
     (codes "t traps", Traps) ∷ (codes "e", Edges) ∷ (codes "why", Why) ∷ (codes "check", Check) ∷
-    (codes "display", Display) ∷ (codes "undisplay", Undisplay) ∷ (codes "dev", Devices) ∷ (codes "rx", Receive) ∷
-    (codes "line", Line) ∷ (codes "save", Save) ∷ (codes "reload", Reload) ∷ (codes "monitor", Monitor) ∷
-    (codes "help h", Help) ∷ (codes "q exit quit", Quit) ∷ []
+    (codes "profile", Profile) ∷ (codes "display", Display) ∷ (codes "undisplay", Undisplay) ∷
+    (codes "dev", Devices) ∷ (codes "rx", Receive) ∷ (codes "line", Line) ∷ (codes "save", Save) ∷ (codes "reload", Reload) ∷
+    (codes "monitor", Monitor) ∷ (codes "help h", Help) ∷ (codes "q exit quit", Quit) ∷ []
 
 -- the command that a word names
 abbrev pub command_named : List ℕ → Option Command
@@ -48,6 +48,7 @@ help_word Traps = codes "t"
 help_word Edges = codes "e"
 help_word Why = codes "why"
 help_word Check = codes "check"
+help_word Profile = codes "profile"
 help_word Display = codes "display"
 help_word Undisplay = codes "undisplay"
 help_word Devices = codes "dev"

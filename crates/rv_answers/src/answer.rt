@@ -5,6 +5,7 @@ use crate::explained::Explanation;
 use crate::many::Many;
 use crate::moves::{Breakpoint, Breakpoints, Cleared, Given, Run, Saved, Stepped, Trace, Watch};
 use crate::origin::Origin;
+use crate::profile::Profiled;
 use crate::rows::Row;
 use crate::values::{
     ControlValue, Devices, Dump, Edges, Place, RegisterFile, RegisterValue, Standing, Trap,
@@ -119,6 +120,8 @@ pub enum Answer {
     Origin(Origin),
     /// `check`
     Checked(Checked),
+    /// `profile`
+    Profiled(Profiled),
     /// `display`
     Display(Watch),
     /// `help`, of a command or of all

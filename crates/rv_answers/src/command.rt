@@ -42,6 +42,7 @@ pub enum Command {
     Edges,
     Why,
     Check,
+    Profile,
     Display,
     Undisplay,
     Devices,
@@ -79,7 +80,7 @@ pub(crate) struct CommandRow {
 
 /// The commands by their words, in the order of the help: the first word is that of the help, and the others
 /// are as other tools have them.
-static COMMANDS: [(&str, CommandRow); 29] = [
+static COMMANDS: [(&str, CommandRow); 30] = [
     (
         "s step si",
         CommandRow {
@@ -252,6 +253,15 @@ static COMMANDS: [(&str, CommandRow); 29] = [
         },
     ),
     (
+        "profile",
+        CommandRow {
+            command: Command::Profile,
+            form: "profile [N]",
+            does: "runs a copy from reset on, up to the halt, for N steps at most (1000000 without N), and tells how many steps each function and each line took",
+            example: "profile",
+        },
+    ),
+    (
         "display",
         CommandRow {
             command: Command::Display,
@@ -416,6 +426,7 @@ pub fn command_word(command: Command) -> &'static str
         Command::Edges => "e",
         Command::Why => "why",
         Command::Check => "check",
+        Command::Profile => "profile",
         Command::Display => "display",
         Command::Undisplay => "undisplay",
         Command::Devices => "dev",

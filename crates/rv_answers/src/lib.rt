@@ -24,6 +24,8 @@ mod origin;
 mod origin_text;
 mod places;
 mod printer;
+mod profile;
+mod profile_text;
 mod protection;
 mod refusals;
 mod registers;
@@ -54,6 +56,7 @@ pub use moves::{
 };
 pub use origin::{Origin, Write};
 pub use printer::Printer;
+pub use profile::{Profiled, Spent};
 pub use rows::Row;
 pub use states::{bits_of, clock_of, has_bit, port_of, region_of, regions_of, sources_of};
 pub use values::{

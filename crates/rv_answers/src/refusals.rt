@@ -87,7 +87,7 @@ fn no_steps(command: Command) -> &'static str {
         Command::Moves(Move::Trace) => "is no number of up to 1000 steps",
         Command::Moves(Move::Back) => "is no number of up to 9999999999 steps",
         Command::Why => "isn't followed by the number of a step",
-        Command::Check => "is no number of up to 20000000 steps",
+        Command::Check | Command::Profile => "is no number of up to 20000000 steps",
         _ => "is no number of up to 1000000000 steps",
     }
 }

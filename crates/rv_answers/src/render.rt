@@ -81,6 +81,7 @@ impl Lines<'_> {
             Answer::Explained(told) => self.append_explanation(told, text),
             Answer::Origin(origin) => self.append_origin(origin, text),
             Answer::Checked(checked) => self.append_checked(checked, text),
+            Answer::Profiled(profile) => self.append_profile(profile, text),
             Answer::Display(watch) => append_display(*watch, text),
             Answer::Help(command) => append_help(*command, text),
             Answer::NoCommand(word) => append_unknown(word.items(), text),

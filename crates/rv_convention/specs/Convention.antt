@@ -176,17 +176,17 @@ pub record Moment : Type 0 where
   pub did : Outcome
   pub now : BoardState
 
--- after one more step
-unfoldable pub followed : Progress → Moment → Progress
-followed p m =
-    let address = m.before.machine.pc in
-    let turn = turn_of m.before m.did in
-    record {
-      calls = calls_after p.calls address m.now turn;
-      breaches = noted p.breaches (breach_of p.calls (p.steps + 1) address m.now turn);
-      steps = p.steps + 1;
-      has_halted = is_some m.now.machine.bus.halt;
-    }
+-- after one more step, which began at an address and meant that
+unfoldable pub after_turn : Progress → (address : ℕ) → Turn → (now : BoardState) → Progress
+after_turn p address turn now = record {
+  calls = calls_after p.calls address now turn;
+  breaches = noted p.breaches (breach_of p.calls (p.steps + 1) address now turn);
+  steps = p.steps + 1;
+  has_halted = is_some now.machine.bus.halt;
+}
+
+abbrev pub followed : Progress → Moment → Progress
+followed p m = after_turn p m.before.machine.pc (turn_of m.before m.did) m.now
 
 -- the next step of a state
 abbrev pub moment : TimedState → Moment

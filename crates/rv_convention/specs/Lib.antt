@@ -1,2 +1,3 @@
 pub mod Convention
+pub mod Profile
 pub mod Support

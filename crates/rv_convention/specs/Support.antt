@@ -1,2 +1,3 @@
 -- Definitions that aren't to audit: each file says why.
 pub mod Follows
+pub mod Tallies

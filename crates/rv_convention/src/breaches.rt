@@ -1,21 +1,18 @@
 //! The breaches of a run.
-ghost use Rattle.std.specs.Prelude.{◌≡◌, ◌+◌, ◌<◌, fold, IfOk, OnOk};
+ghost use Rattle.std.specs.Prelude.{◌≡◌, IfOk, OnOk};
 ghost use Rattle.rv_convention.specs.Convention as spec;
-ghost use Rattle.rv_convention.specs.Convention.{breach_of, calls_after, followed, moments, none_yet, noted};
-ghost use Rattle.rv_convention.specs.Support.Follows.{Follows};
+ghost use Rattle.rv_convention.specs.Convention.{after_turn, breach_of, calls_after, none_yet, noted};
 ghost use Rattle.rv_convention.specs.declared.turn.Turn.TheVariants as turns;
 
 use crate::calls::{
     Open, close_last, goes_back, has_room, innermost, returns_from, unrestored, wanted,
 };
+use crate::follow::{Follower, follow_run};
 use crate::registers::registers_of;
-use crate::turn::{Turn, next_turn, turn_of};
+use crate::turn::Turn;
 use rv_answers::{Breach, Checked, Deviation, Entry, Many, Return, push};
 use rv_base::NoMemory;
 use rv_board::BootedBoard;
-use rv_cache::DecodeCache;
-use rv_monitor::Session;
-use rv_ram::PagedRam;
 use rv_recording::Recording;
 use std::alloc::Global;
 use std::marker::Model;
@@ -185,51 +182,28 @@ impl Tracker {
             has_halted: false,
         }
     }
+}
 
-    /// Takes a step and follows it. Returns whether there was one to take.
-    #[tactic(auto, unfolding(crate::specs::Convention::followed))]
-    fn follow(
+impl Follower for Tracker {
+    ghost follows = { after_turn };
+
+    ghost steps = { λ p. p.steps };
+
+    #[tactic(auto, unfolding(crate::specs::Convention::after_turn))]
+    fn add(
         &mut self,
         alloc: Global,
-        run: &mut Session<PagedRam, DecodeCache>,
-    ) -> Result<bool, NoMemory>
-        requires { self.old.steps + 1 < 18446744073709551616 }
-        ensures { IfOk result (Follows run.old run.new self.old self.new) }
-    {
-        let address = run.board().pc();
-        let retires = next_turn(run.board());
-        let Some(outcome) = run.take_step()? else {
-            return Ok(false);
-        };
-        let turn = turn_of(outcome, retires);
+        address: u32,
+        turn: Turn,
+        now: &BootedBoard,
+    ) -> Result<(), NoMemory> {
         let step = self.steps + 1;
-        let now = run.board();
         let breach = follow_turn(alloc, &mut self.calls, step, address, now, turn)?;
         note(&mut self.breaches, breach)?;
         self.steps = step;
         self.has_halted = now.halted().is_some();
-        Ok(true)
+        Ok(())
     }
-}
-
-/// Follows the steps of a run, `most` at most.
-#[tactic(auto, using(crate::proofs::Following::begins, crate::proofs::Following::more, crate::proofs::Following::ends, crate::proofs::Following::all_followed))]
-fn follow_run(
-    alloc: Global,
-    run: &mut Session<PagedRam, DecodeCache>,
-    most: u64,
-) -> Result<Tracker, NoMemory>
-    requires begins { run.old.timed.taken ≡ 0 }
-    requires limit { run.old.limit ≡ most }
-    ensures { IfOk result (λ t. t ≡ fold followed none_yet (moments most run.old.timed)) }
-{
-    let mut seen = Tracker::new(alloc);
-    for done in 0..most {
-        if !seen.follow(alloc, run)? {
-            return Ok(seen);
-        }
-    }
-    Ok(seen)
 }
 
 /// Returns the breaches among the first `most` steps of a recording, also among those that weren't taken yet. The
@@ -248,7 +222,7 @@ pub fn check(alloc: Global, recording: &Recording, most: u64) -> Result<Checked,
         breaches,
         steps,
         has_halted,
-    } = follow_run(alloc, &mut run, most)?;
+    } = follow_run(alloc, Tracker::new(alloc), &mut run, most)?;
     Ok(Checked {
         steps,
         has_halted,

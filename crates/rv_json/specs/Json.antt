@@ -22,6 +22,8 @@ use Rattle.rv_answers.specs.Commands.{help_word}
 use Rattle.rv_answers.specs.declared.command.Command.{Command}
 use Rattle.rv_answers.specs.declared.convention.Breach.{Breach}
 use Rattle.rv_answers.specs.declared.convention.Checked.{Checked}
+use Rattle.rv_answers.specs.declared.profile.Profiled.{Profiled}
+use Rattle.rv_answers.specs.declared.profile.Spent.{Spent}
 use Rattle.rv_answers.specs.declared.convention.Deviation.{Deviation}
 use Rattle.rv_answers.specs.declared.convention.Deviation.TheVariants as deviations
 use Rattle.rv_answers.specs.declared.convention.Entry.{Entry}
@@ -384,6 +386,16 @@ unfoldable pub checked_data : Checked → Data
 checked_data c = kind "checked" (("steps", natural c.steps) ∷ ("has_halted", boolean c.has_halted)
     ∷ ("breaches", list_data breach_data c.breaches) ∷ [])
 
+-- ---- `profile`
+
+unfoldable pub spent_data : Spent → Data
+spent_data s = object (members (("line", natural s.line) ∷ ("address", natural s.address)
+    ∷ ("steps", natural s.steps) ∷ []))
+
+unfoldable pub profiled_data : Profiled → Data
+profiled_data p = kind "profiled" (("steps", natural p.steps) ∷ ("has_halted", boolean p.has_halted)
+    ∷ ("lines", list_data spent_data p.lines) ∷ ("functions", list_data spent_data p.functions) ∷ [])
+
 -- ---- refusals
 
 unfoldable pub command_data : Command → Data
@@ -448,6 +460,7 @@ answer_data ls (answers.Saved saved) = saved_data saved
 answer_data ls (answers.Explained explanation) = explanation_data explanation
 answer_data ls (answers.Origin origin) = origin_data origin
 answer_data ls (answers.Checked checked) = checked_data checked
+answer_data ls (answers.Profiled profile) = profiled_data profile
 answer_data ls (answers.Display watch) = kind "display" (("watch", watch_data watch) ∷ [])
 answer_data ls (answers.Help command) = kind "help" (("command", option_data command_data command) ∷ [])
 answer_data ls (answers.NoCommand word) = kind "no_command" (("word", text_data word) ∷ [])

@@ -115,6 +115,7 @@ impl ToJson for Answer {
             Answer::Explained(explanation) => explanation.send(names, out),
             Answer::Origin(origin) => origin.send(names, out),
             Answer::Checked(checked) => checked.send(names, out),
+            Answer::Profiled(profile) => profile.send(names, out),
             Answer::Display(watch) => send_one("display", "watch", watch, names, out),
             Answer::Help(command) => send_one("help", "command", command, names, out),
             Answer::NoCommand(word) => send_one("no_command", "word", &Text(word), names, out),

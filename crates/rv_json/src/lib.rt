@@ -9,6 +9,7 @@ mod looks;
 mod moves;
 mod names;
 mod object;
+mod profile;
 mod rejected;
 mod sent;
 mod text;

@@ -19,6 +19,7 @@ use Rattle.rv_monitor.specs.Views.{byte_at_offset, word_at}
 use Rattle.rv_operands.specs.Operands.{address, followed, only_of}
 use Rattle.rv_asm.specs.Lines.{Listed}
 use Rattle.rv_convention.specs.Convention.{checked}
+use Rattle.rv_convention.specs.Profile.{profiled}
 use Rattle.rv_recording.specs.Until.{watched_value}
 use Rattle.rv_recording.specs.declared.until.Watched.{Watched}
 use Rattle.rv_why.specs.Origins.{target_of}
@@ -202,11 +203,19 @@ display_answer l ws = option_map_or (λ word. option_map_or (λ w. answers.Displ
     (followed (listing l) (board l) word) (refused command.Display word why.NoAddress))
     (only_of ws) (refused command.Display [] why.NotOne)
 
--- ---- `check`
+-- ---- `check` and `profile`
+
+-- how many steps of a copy some operands ask for
+abbrev pub copied_steps : List ℕ → Option ℕ
+copied_steps text = count_of usual_steps 20000000 (words text)
 
 unfoldable pub check_answer : LabState → List ℕ → Answer
 check_answer l text = option_map_or (λ n. answers.Checked (checked l.recording n))
-    (count_of usual_steps 20000000 (words text)) (refused command.Check text why.NoSteps)
+    (copied_steps text) (refused command.Check text why.NoSteps)
+
+unfoldable pub profile_answer : LabState → List ℕ → Answer
+profile_answer l text = option_map_or (λ n. answers.Profiled (profiled (listing l) l.recording n))
+    (copied_steps text) (refused command.Profile text why.NoSteps)
 
 -- ---- the answer
 
@@ -221,5 +230,6 @@ look_answer command.Traps text l = answers.Traps (trap_runs l 0 (board l).traps)
 look_answer command.Edges text l = edges_answer l (words text)
 look_answer command.Devices text l = answers.Devices (devices_of (board l))
 look_answer command.Check text l = check_answer l text
+look_answer command.Profile text l = profile_answer l text
 look_answer command.Display text l = display_answer l (words text)
 look_answer _ text l = answers.Nothing

@@ -6,7 +6,7 @@ ghost use Rattle.rv_asm.specs.Seen.{seen};
 ghost use Rattle.rv_monitor.specs.Views.{byte_at_offset};
 ghost use Rattle.rv_operands.specs.Operands.{only_of};
 ghost use Rattle.rv_lab.specs.Answers as spec;
-ghost use Rattle.rv_lab.specs.Answers.{behind_last, breakpoints, cells_of, control_answer, edges_answer, instruction_answer, look_answer, memory_answer, refused, register_file, registers_answer, rows_answer, standing, trap_runs};
+ghost use Rattle.rv_lab.specs.Answers.{behind_last, breakpoints, cells_of, control_answer, copied_steps, edges_answer, instruction_answer, look_answer, memory_answer, refused, register_file, registers_answer, rows_answer, standing, trap_runs};
 ghost use Rattle.rv_lab.specs.Lines.{row_of};
 ghost use Rattle.rv_lab.specs.State.{board, listing};
 ghost use Rattle.rv_lab.specs.Support.Rows.{char_at, comes_again, edge_source, register_of, word_cell};
@@ -27,14 +27,21 @@ use rv_answers::{
 use rv_asm::Listing;
 use rv_base::{NoMemory, first_word, has_word, low_word};
 use rv_board::{BootedBoard, TrapRecord};
-use rv_convention::{check, registers_of};
+use rv_convention::{check, profile, registers_of};
 use rv_isa::{Reg, csr_named, reg_named};
 use rv_monitor::word_at;
 use rv_operands::only_word;
 use std::alloc::Global;
 
-/// The most steps of `check`.
-const MOST_CHECKED: u64 = 20_000_000;
+/// The most steps of `check` and `profile`.
+const MOST_COPIED: u64 = 20_000_000;
+
+/// Returns how many steps of a copy some operands ask for.
+fn copied_steps(operands: &[u8]) -> Option<u64>
+    ensures { result ≡ copied_steps operands.now }
+{
+    count_or(operands, USUAL_STEPS, MOST_COPIED)
+}
 
 /// Returns the register that some operands name.
 fn register_of(operands: &[u8]) -> Option<Reg>
@@ -426,9 +433,23 @@ impl Lab {
     fn check_answer(&self, operands: &[u8]) -> Result<Answer, NoMemory>
         ensures { IfOk result (λ a. a ≡ spec.check_answer self.now operands.now) }
     {
-        match count_or(operands, USUAL_STEPS, MOST_CHECKED) {
+        match copied_steps(operands) {
             Some(most) => Ok(Answer::Checked(check(self.alloc, &self.recording, most)?)),
             None => self.refused(Command::Check, operands, Why::NoSteps),
+        }
+    }
+
+    /// Answers `profile`.
+    #[tactic(auto, unfolding(crate::specs::Answers::profile_answer))]
+    fn profile_answer(&self, operands: &[u8]) -> Result<Answer, NoMemory>
+        ensures { IfOk result (λ a. a ≡ spec.profile_answer self.now operands.now) }
+    {
+        match copied_steps(operands) {
+            Some(most) => {
+                let told = profile(self.alloc, &self.recording, self.listing(), most)?;
+                Ok(Answer::Profiled(told))
+            }
+            None => self.refused(Command::Profile, operands, Why::NoSteps),
         }
     }
 
@@ -447,6 +468,7 @@ impl Lab {
             Command::Edges => self.edges_answer(operands),
             Command::Devices => Ok(Answer::Devices(self.devices()?)),
             Command::Check => self.check_answer(operands),
+            Command::Profile => self.profile_answer(operands),
             Command::Display => self.display_answer(operands),
             _ => Ok(Answer::Nothing),
         }
