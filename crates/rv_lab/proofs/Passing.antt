@@ -45,7 +45,7 @@ is_passing : (gs : List Guard) (g : Goal) (s : SessionState) (n : ℕ) → run_e
 is_passing gs goal.Count s n = past_any gs s n
 is_passing gs goal.Trace s n = past_any gs s n
 is_passing gs goal.Break s n = refl
-is_passing gs (goal.Out calls) s n = refl
+is_passing gs (goal.Out calls line) s n = refl
 is_passing gs (goal.Until c) s n = refl
 
 -- a run isn't over before the steps that it takes
@@ -99,7 +99,7 @@ not_at_first : (g : Goal) (s : SessionState) → is_break (plain_ends g s 0) ≡
 not_at_first goal.Count s = not_before (halted_of (after s.timed 0).board) (nat_lt (after s.timed 0).taken s.limit)
 not_at_first goal.Trace s = not_before (halted_of (after s.timed 0).board) (nat_lt (after s.timed 0).taken s.limit)
 not_at_first goal.Break s = not_before (halted_of (after s.timed 0).board) (nat_lt (after s.timed 0).taken s.limit)
-not_at_first (goal.Out calls) s = not_before (halted_of (after s.timed 0).board) (nat_lt (after s.timed 0).taken s.limit)
+not_at_first (goal.Out calls line) s = not_before (halted_of (after s.timed 0).board) (nat_lt (after s.timed 0).taken s.limit)
 not_at_first (goal.Until c) s = not_before (halted_of (after s.timed 0).board) (nat_lt (after s.timed 0).taken s.limit)
 
 has_moved : (g : Goal) (s : SessionState) (n : ℕ) → plain_ends g s n ≡ Some Breakpoint → 0 < n

@@ -1,5 +1,5 @@
 -- A run in pieces of any sizes.
-use Rattle.std.proofs.Common.{◌≡◌, ◌∙◌, ℕ, zero, suc, ◌+◌, ◌-◌, ◌≤◌, ◌==◌, Bool, true, false, List, refl, sym, ap, subst, arith, ⊎_elim}
+use Rattle.std.proofs.Common.{◌≡◌, ◌∙◌, ℕ, zero, suc, ◌+◌, ◌-◌, ◌≤◌, Bool, true, false, List, refl, sym, ap, subst, arith, ⊎_elim}
 use Rattle.std.proofs.lemmas.Bool.{cases_lt, false≢true}
 use Rattle.std.proofs.lemmas.Bool.Decides.{nat_tests}
 use native.Mathlib.Numerals.{unary_clauses}
@@ -9,7 +9,7 @@ use Rattle.rv_board.specs.Support.State.{halted_of, pc_of}
 use Rattle.rv_hart.specs.Step.{step}
 use Rattle.rv_monitor.specs.State.{Addresses, IsInTime, SessionState, TimedState, after, with_due}
 use Rattle.rv_monitor.proofs.Steps.{after_more, after_none, in_time_after}
-use Rattle.rv_recording.specs.Out.{open_at}
+use Rattle.rv_recording.specs.Out.{is_out, open_at}
 use Rattle.rv_recording.specs.Until.{comes, end_at, holds, steps_of}
 use Rattle.rv_recording.specs.declared.until.Condition.{Condition}
 use Rattle.rv_recording.specs.declared.until.End.{End}
@@ -141,9 +141,11 @@ module _ (s : SessionState) (k : ℕ) (h : IsInTime s.timed) where
   ends_later gs goal.Count e i = rest_is (λ n. false) (λ n. false) set.empty (λ j. refl) e i
   ends_later gs goal.Trace e i = rest_is (λ n. false) (λ n. false) set.empty (λ j. refl) e i
   ends_later gs goal.Break e i = rest_past gs (λ n. false) (λ n. false) s.breakpoints.addresses (λ j. refl) e i
-  ends_later gs (goal.Out calls) e i =
-      rest_past gs (λ n. open_at calls s.timed n == 0) (λ n. open_at (open_at calls s.timed k) mid.timed n == 0)
-      s.breakpoints.addresses (λ j. ap (λ n. n == 0) (open_later calls (suc j))) e i
+  ends_later gs (goal.Out calls line) e i =
+      rest_past gs (λ n. is_out line (open_at calls s.timed n) (after s.timed n).board)
+      (λ n. is_out line (open_at (open_at calls s.timed k) mid.timed n) (after mid.timed n).board)
+      s.breakpoints.addresses (λ j. ap (λ n. is_out line n (after mid.timed (suc j)).board) (open_later calls (suc j))
+      ∙ ap (λ (t : TimedState). is_out line (open_at calls s.timed (k + suc j)) t.board) (later (suc j))) e i
   ends_later gs (goal.Until c) e i =
       rest_past gs (comes c s.timed) (comes c mid.timed) s.breakpoints.addresses (comes_later c) e i
 
@@ -151,7 +153,7 @@ module _ (s : SessionState) (k : ℕ) (h : IsInTime s.timed) where
   goal_later goal.Count i = refl
   goal_later goal.Trace i = refl
   goal_later goal.Break i = refl
-  goal_later (goal.Out calls) i = ap goal.Out (open_later calls i)
+  goal_later (goal.Out calls line) i = ap (λ n. goal.Out n line) (open_later calls i)
   goal_later (goal.Until c) i = refl
 
   -- what `c` goes on for after the rest

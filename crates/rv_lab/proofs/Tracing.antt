@@ -29,7 +29,7 @@ trace_goal : (g : Goal) → is_traced g ≡ true → goal.Trace ≡ g
 trace_goal goal.Trace e = refl
 trace_goal goal.Count e = absurd (false≢true e)
 trace_goal goal.Break e = absurd (false≢true e)
-trace_goal (goal.Out calls) e = absurd (false≢true e)
+trace_goal (goal.Out calls line) e = absurd (false≢true e)
 trace_goal (goal.Until condition) e = absurd (false≢true e)
 
 module _ (g : Goal) (b : Bool) (is : b ≡ is_traced g) (yes : b ≡ true) where

@@ -49,12 +49,12 @@ abbrev pub run_ends : List Guard → Goal → SessionState → ℕ → Option En
 run_ends gs goal.Count s = step_ends s
 run_ends gs goal.Trace s = step_ends s
 run_ends gs goal.Break s = passing gs s (break_ends s)
-run_ends gs (goal.Out calls) s = passing gs s (out_ends calls s)
+run_ends gs (goal.Out calls line) s = passing gs s (out_ends calls line s)
 run_ends gs (goal.Until condition) s = passing gs s (until_ends condition s)
 
 -- what the run goes on for after n steps
 abbrev pub goal_after : Goal → TimedState → ℕ → Goal
-goal_after (goal.Out calls) s n = goal.Out (open_at calls s n)
+goal_after (goal.Out calls line) s n = goal.Out (open_at calls s n) line
 goal_after other s n = other
 
 -- the plan of a run after n steps: there is one exactly while the run isn't over and steps are left

@@ -1,12 +1,14 @@
 -- To audit: public contracts cite this.
 -- What a command line asks for, by its words and the lab as it stands (this project's own: docs/LAB.md).
-use Rattle.std.specs.Prelude.{ℕ, ◌+◌, ◌-◌, ◌/◌, ◌==◌, Bool, false, true, List, [], ◌∷◌, if◌then◌else◌, slice_get, codes, Option, Some, None, option_and_then, unwrap_or}
-use Rattle.std.specs.Option.{option_map_or}
+use Rattle.std.specs.Prelude.{ℕ, ◌+◌, ◌-◌, ◌/◌, ◌==◌, Bool, false, true, List, [], ◌∷◌, if◌then◌else◌, length, slice_get, codes, Option, Some, None, option_and_then, unwrap_or}
+use Rattle.std.specs.Option.{option_map, option_map_or}
 use Rattle.std.specs.Str.{bytes_eq}
 use Rattle.rv_base.specs.Words.{words}
 use Rattle.rv_timeline.specs.Timed.{driven}
 use Rattle.rv_timeline.specs.declared.input.Input.{Input}
 use Rattle.rv_recording.specs.Recording.{last_step}
+use Rattle.rv_asm.specs.Lines.{Listed, address_of, bytes_of}
+use Rattle.rv_recording.specs.declared.out.Span.{Span}
 use Rattle.rv_recording.specs.declared.until.Condition.{Condition}
 use Rattle.rv_recording.specs.declared.until.Condition.TheVariants as condition
 use Rattle.rv_why.specs.Origins.{last_sought}
@@ -92,11 +94,21 @@ help_order text ws = or_refused (option_and_then command_named (only ws)) (λ c.
 abbrev pub steps_order : ℕ → Order
 steps_order n = if n == 1 then orders.Once else orders.Steps n
 
+-- `next`: past the line at pc, if there is one, and past each call that it makes
+abbrev pub span_of : Listed → (n : ℕ) → Option Span
+span_of l n = option_map (λ a. record { address = a; size = length (bytes_of l n) }) (address_of l n)
+
+abbrev pub here : LabState → Option Span
+here l = option_and_then (span_of (listing l)) (line_at (listing l) (board l).machine.pc)
+
+abbrev pub next_order : LabState → Order
+next_order l = orders.Run (planned (goal.Out 0 (here l)) usual_steps)
+
 -- what an empty line asks for: the last step or list command again
 abbrev pub again_order : Command → LabState → Order
 again_order Step l = steps_order l.count
 again_order StepOnce l = orders.Once
-again_order Over l = orders.Run (planned (goal.Out 0) usual_steps)
+again_order Over l = next_order l
 again_order command.List l = orders.List (record { after = l.listed; count = 11 }) true
 again_order _ l = orders.Answered answers.Nothing
 
@@ -138,8 +150,8 @@ command_order Step word text l =
     or_refused (count_of 1 most_steps (words text)) steps_order (refused Step text why.NoSteps)
 command_order (Moves Go) word text l = or_refused (count_of usual_steps most_steps (words text))
     (λ n. orders.Run (planned l.resumes n)) (refused (Moves Go) text why.NoSteps)
-command_order Over word text l = orders.Run (planned (goal.Out 0) usual_steps)
-command_order (Moves Finish) word text l = orders.Run (planned (goal.Out 1) usual_steps)
+command_order Over word text l = next_order l
+command_order (Moves Finish) word text l = orders.Run (planned (goal.Out 1 None) usual_steps)
 command_order (Moves Until) word text l = until_order text l
 command_order (Moves Trace) word text l = or_refused (count_of 10 1000 (words text))
     (λ n. orders.Run (planned goal.Trace n)) (refused (Moves Trace) text why.NoSteps)

@@ -113,7 +113,7 @@ abbrev pub aim_of : LabState → Goal → Aim
 aim_of l goal.Count = aim.Steps
 aim_of l goal.Trace = aim.Steps
 aim_of l goal.Break = aim.Breakpoint
-aim_of l (goal.Out calls) = aim.Return
+aim_of l (goal.Out calls line) = aim.Return
 aim_of l (goal.Until c) = until_aim l c
 
 -- the monitor's word for why a run is over

@@ -4,7 +4,7 @@ ghost use Rattle.rv_base.specs.Words.{words};
 ghost use Rattle.rv_answers.specs.declared.command.Command.TheVariants as command;
 ghost use Rattle.rv_answers.specs.declared.command.Move.TheVariants as moves;
 ghost use Rattle.rv_lab.specs.Answers.{refused};
-ghost use Rattle.rv_lab.specs.Orders.{again_order, back_by, back_order, back_until, break_order, command_order, guard_order, help_order, is_of_board, list_order, list_round, no_break, save_order, steps_order, until_order, why_order};
+ghost use Rattle.rv_lab.specs.Orders.{again_order, back_by, back_order, back_until, break_order, command_order, guard_order, help_order, here, is_of_board, list_order, list_round, next_order, no_break, save_order, steps_order, until_order, why_order};
 ghost use Rattle.rv_operands.specs.Operands.{leading};
 ghost use Rattle.rv_lab.specs.Commands.{planned};
 ghost use Rattle.rv_lab.specs.State.{board, listing};
@@ -21,7 +21,7 @@ use crate::source::{Excerpt, MOST_LINES, USUAL_LINES};
 use rv_answers::{Answer, Command, Many, Move, Why, command_named, push};
 use rv_base::{NoMemory, first_word, has_word};
 use rv_operands::{Leading, line_number, only_word, operands_of, read_bytes_inputs, trimmed};
-use rv_recording::{Condition, LAST_STEP};
+use rv_recording::{Condition, LAST_STEP, Span};
 use rv_timeline::{Input, line_input};
 use rv_why::last_met;
 
@@ -201,7 +201,7 @@ impl Lab {
     {
         match moves {
             Move::Go => self.go_order(operands),
-            Move::Finish => Ok(run_order(Goal::Out(1), USUAL_STEPS)),
+            Move::Finish => Ok(run_order(Goal::Out(1, None), USUAL_STEPS)),
             Move::Until => self.until_order(operands),
             Move::Trace => self.trace_order(operands),
             Move::Back => self.back_order(operands),
@@ -403,6 +403,24 @@ impl Lab {
         Ok(Order::Monitor(self.copied(line)?))
     }
 
+    /// Returns the line at pc, if there is one.
+    fn here(&self) -> Option<Span>
+        ensures { result ≡ here self.now }
+    {
+        let listing = self.listing();
+        let line = line_at(listing, self.board().pc())?;
+        let address = listing.address(line)?;
+        let size = listing.bytes(line).len();
+        Some(Span { address, size })
+    }
+
+    /// Returns the order of `next`: to go on past the line at pc.
+    fn next_order(&self) -> Order
+        ensures { result ≡ next_order self.now }
+    {
+        run_order(Goal::Out(0, self.here()), USUAL_STEPS)
+    }
+
     /// Returns what an empty line asks for.
     fn again_order(&self) -> Order
         ensures { result ≡ again_order self.now.again self.now }
@@ -410,7 +428,7 @@ impl Lab {
         match self.last.command {
             Command::Step => steps_order(self.last.count),
             Command::StepOnce => Order::Once,
-            Command::Over => run_order(Goal::Out(0), USUAL_STEPS),
+            Command::Over => self.next_order(),
             Command::List => {
                 let after = self.last.listed;
                 let count = USUAL_LINES as usize;
@@ -431,7 +449,7 @@ impl Lab {
     {
         match line.command {
             Command::Step => self.step_order(line.operands),
-            Command::Over => Ok(run_order(Goal::Out(0), USUAL_STEPS)),
+            Command::Over => Ok(self.next_order()),
             Command::Moves(moves) => self.move_order(moves, line.operands),
             Command::List => self.list_order(line.operands),
             Command::Break => self.break_order(line.operands),

@@ -2,7 +2,7 @@
 ghost use Rattle.std.specs.Prelude.{◌≡◌};
 ghost use Rattle.rv_lab.specs.Commands as spec;
 
-use rv_recording::{Condition, Watched};
+use rv_recording::{Condition, Span, Watched};
 
 /// What a run goes on for.
 #[derive(Clone, Copy)]
@@ -13,8 +13,8 @@ pub(crate) enum Goal {
     Trace,
     /// A breakpoint.
     Break,
-    /// The return from all of these open calls and handlers.
-    Out(u64),
+    /// The return from all of these open calls and handlers, and the end of a line.
+    Out(u64, Option<Span>),
     /// A condition.
     Until(Condition),
 }

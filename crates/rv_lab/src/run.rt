@@ -51,10 +51,10 @@ fn run_for(recording: &mut Recording, goal: &mut Goal, most: u64) -> Result<End,
         Goal::Count | Goal::Trace => recording.run_steps(most),
         Goal::Break => recording.run_to_break(most),
         Goal::Until(condition) => recording.run_until(condition, most),
-        Goal::Out(open) => {
+        Goal::Out(open, line) => {
             let mut open = open;
-            let end = recording.run_out(&mut open, most)?;
-            *goal = Goal::Out(open);
+            let end = recording.run_out(&mut open, line, most)?;
+            *goal = Goal::Out(open, line);
             Ok(end)
         }
     }

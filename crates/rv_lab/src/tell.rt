@@ -112,7 +112,7 @@ impl Lab {
         match goal {
             Goal::Count | Goal::Trace => Aim::Steps,
             Goal::Break => Aim::Breakpoint,
-            Goal::Out(_) => Aim::Return,
+            Goal::Out(..) => Aim::Return,
             Goal::Until(condition) => self.until_aim(condition),
         }
     }

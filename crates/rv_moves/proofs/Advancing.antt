@@ -51,16 +51,16 @@ opened_inside calls left old new some is state =
 
 -- a run out of calls of at most one step takes one
 pub one_out : (calls : ℕ) (old new : RecordingState) (end : End) → IsInTime old.session.timed
-    → may_step old.session ≡ true → HasRun (out_ends calls old.session) 1 old.session new.session end
+    → may_step old.session ≡ true → HasRun (out_ends calls None old.session) 1 old.session new.session end
     → new ≡ record old { session = new.session } → new ≡ with_timed old (after old.session.timed 1)
 one_out calls old new end in_time may ran others =
     let runs = running_by _ _ may in
     let first : after old.session.timed 0 ≡ old.session.timed = after_none old.session.timed in_time in
-    let none : out_ends calls old.session 0 ≡ None =
+    let none : out_ends calls None old.session 0 ≡ None =
     goes _ _ _ _ (ap (λ (t : TimedState). t.board.machine.bus.halt) first ∙ runs.0) refl refl
     (ap (λ (t : TimedState). nat_lt t.taken old.session.limit) first ∙ runs.1) in
-    let one : steps_of (out_ends calls old.session) 1 ≡ 1 =
-    all_steps (out_ends calls old.session) 1 (first_none (out_ends calls old.session) none) in
+    let one : steps_of (out_ends calls None old.session) 1 ≡ 1 =
+    all_steps (out_ends calls None old.session) 1 (first_none (out_ends calls None old.session) none) in
     others ∙ ap (λ (s : SessionState). record old { session = s })
     (ran.state ∙ ap (λ (n : ℕ). record old.session { timed = after old.session.timed n }) one)
 

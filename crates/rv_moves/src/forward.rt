@@ -104,7 +104,7 @@ fn take_step(recording: &mut Recording, calls: &mut u64) -> Result<(), NoMemory>
     }
     // It tells that the inputs of all steps so far were given.
     let _board = recording.session().board();
-    let _end = recording.run_out(calls, 1)?;
+    let _end = recording.run_out(calls, None, 1)?;
     Ok(())
 }
 

@@ -1,7 +1,8 @@
 -- To audit: public contracts cite this.
--- The number of open calls. A run out of calls goes on up to the first step with which none is open: `finish` of
--- the lab begins with one, that of the present function or handler, and `next` with none.
-use Rattle.std.specs.Prelude.{ℕ, zero, suc, ◌+◌, ◌-◌, ◌^◌, ◌==◌, ◌&&◌, min, if◌then◌else◌, Option, Some}
+-- The number of open calls. A run out of calls goes on up to the first step with which none is open, and pc isn't inside
+-- of a line: `finish` of the lab begins with one, that of the present function or handler, and no line; `next` with none,
+-- and the line at pc.
+use Rattle.std.specs.Prelude.{ℕ, zero, suc, ◌+◌, ◌-◌, ◌^◌, ◌==◌, ◌&&◌, Bool, false, min, nat_lt, if◌then◌else◌, Option, Some, None}
 use Rattle.std.specs.Option.{option_and_then}
 use Rattle.rv_isa.specs.Support.Meaning.{means}
 use Rattle.rv_isa.specs.declared.kind.Kind.{Kind}
@@ -12,6 +13,8 @@ use Rattle.rv_hart.specs.Step.{step}
 use Rattle.rv_monitor.specs.State.{SessionState, TimedState, after, with_due}
 use Rattle.rv_monitor.specs.Views.{word_at}
 use Rattle.rv_recording.specs.Until.{end_at}
+use Rattle.rv_board.specs.BoardState.{BoardState}
+use Rattle.rv_recording.specs.declared.out.Span.{Span}
 use Rattle.rv_recording.specs.declared.until.End.{End}
 
 -- the number of open calls after a step that did that, by its instruction: a trap calls its handler; a jump that
@@ -32,6 +35,17 @@ open_at calls s (suc n) =
     let now = after s n in open_after (open_at calls s n)
     (step (with_due now).board.machine).1 (option_and_then means (word_at now.board now.board.machine.pc))
 
--- why a run out of some open calls is over
-abbrev pub out_ends : ℕ → SessionState → ℕ → Option End
-out_ends calls s = end_at (λ i. open_at calls s.timed i == 0) s.breakpoints.addresses s
+-- pc is inside of a line, if there is one: at one of its bytes, but not at the first
+abbrev pub is_inside : Option Span → BoardState → Bool
+is_inside None b = false
+is_inside (Some line) b =
+    nat_lt line.address b.machine.pc && nat_lt (b.machine.pc - line.address) line.size
+
+-- whether a run is out of its calls and its line
+unfoldable pub is_out : Option Span → (calls : ℕ) → BoardState → Bool
+is_out line calls b = if is_inside line b then false else calls == 0
+
+-- why a run out of some open calls and of a line is over
+abbrev pub out_ends : ℕ → Option Span → SessionState → ℕ → Option End
+out_ends calls line s =
+    end_at (λ i. is_out line (open_at calls s.timed i) (after s.timed i).board) s.breakpoints.addresses s

@@ -9,5 +9,6 @@ mod out;
 mod recording;
 mod until;
 
+pub use out::Span;
 pub use recording::{LAST_STEP, Recording};
 pub use until::{Condition, End, Watched};

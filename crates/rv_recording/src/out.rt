@@ -6,7 +6,7 @@ ghost use Rattle.rv_board.specs.Support.State.{pc_of};
 ghost use Rattle.rv_hart.specs.declared.trap.Outcome.TheVariants.{Retired};
 ghost use Rattle.rv_monitor.specs.Stops.{steps_between};
 ghost use Rattle.rv_monitor.specs.Views.{word_at};
-ghost use Rattle.rv_recording.specs.Out.{open_after, open_at, out_ends};
+ghost use Rattle.rv_recording.specs.Out.{is_inside, is_out, open_after, open_at, out_ends};
 ghost use Rattle.rv_recording.specs.Until.{HasRun};
 ghost use Rattle.rv_recording.specs.Refused.{IsRefusedIn};
 ghost use Rattle.rv_recording.specs.Support.Steps.{StepsOut, after_call, end_after};
@@ -18,6 +18,15 @@ use rv_board::BootedBoard;
 use rv_hart::Outcome;
 use rv_isa::{Instr, Kind, decode};
 use rv_monitor::word_at;
+
+/// The bytes of a line of a source.
+#[derive(Clone, Copy)]
+pub struct Span {
+    /// The address of the first.
+    pub address: u32,
+    /// How many they are.
+    pub size: usize,
+}
 
 /// Returns the number of open calls with one more.
 fn after_call(calls: u64) -> u64
@@ -74,34 +83,59 @@ fn open_after(calls: u64, outcome: Outcome, instr: Option<Instr>) -> u64
     }
 }
 
+/// Returns whether pc is inside of a line: at one of its bytes, but not at the first.
+fn is_inside(line: Option<Span>, board: &BootedBoard) -> bool
+    ensures { result ≡ is_inside line board.now }
+{
+    let pc = board.pc();
+    match line {
+        Some(line) => line.address < pc && ((pc - line.address) as usize) < line.size,
+        None => false,
+    }
+}
+
+/// Returns whether a run is out of its calls and its line.
+#[tactic(auto, unfolding(crate::specs::Out::is_out))]
+fn is_out(line: Option<Span>, calls: u64, board: &BootedBoard) -> bool
+    ensures { result ≡ is_out line calls board.now }
+{
+    !is_inside(line, board) && calls == 0
+}
+
 impl Recording {
     /// Takes a step of a run out of calls, and returns why the run ends with it, if it does.
-    fn step_out(&mut self, calls: &mut u64) -> Result<Option<End>, NoMemory>
-        ensures { StepsOut calls.old calls.new self.old self.new result }
+    fn step_out(&mut self, calls: &mut u64, line: Option<Span>) -> Result<Option<End>, NoMemory>
+        ensures { StepsOut line calls.old calls.new self.old self.new result }
     {
         let instr = next_instr(self.session().board());
         match self.take_step() {
             Ok(Some(outcome)) => {
                 *calls = open_after(*calls, outcome, instr);
-                Ok(end_after(*calls == 0, self.session()))
+                let is_over = is_out(line, *calls, self.session().board());
+                Ok(end_after(is_over, self.session()))
             }
             Ok(None) => Ok(Some(End::Stuck)),
             Err(NoMemory) => Err(NoMemory),
         }
     }
 
-    /// Takes steps until one after which no call is open, the board has halted or the next instruction is at
-    /// a breakpoint, at most `most`, and returns which it was. `calls` is the number of calls and handlers
-    /// that are open; 1 stands for the present function.
+    /// Takes steps until one after which no call is open and pc isn't inside of a line, the board has halted or the next
+    /// instruction is at a breakpoint, at most `most`, and returns which it was. `calls` is the number of calls and
+    /// handlers that are open; 1 stands for the present function.
     ///
     /// # Errors
     ///
     /// `NoMemory` if memory runs out at a step. The steps before it are taken.
-    pub fn run_out(&mut self, calls: &mut u64, most: u64) -> Result<End, NoMemory>
+    pub fn run_out(
+        &mut self,
+        calls: &mut u64,
+        line: Option<Span>,
+        most: u64,
+    ) -> Result<End, NoMemory>
         ensures ok { IfOk result
-            (HasRun (out_ends calls.old self.old.session) most self.old.session self.new.session) }
+            (HasRun (out_ends calls.old line self.old.session) most self.old.session self.new.session) }
         ensures err { OnErr result
-            (IsRefusedIn (out_ends calls.old self.old.session) most self.old.session self.new.session) }
+            (IsRefusedIn (out_ends calls.old line self.old.session) most self.old.session self.new.session) }
         ensures calls { calls.new ≡ open_at calls.old self.old.session.timed
             (steps_between self.old.session.timed self.new.session.timed) }
         ensures others { self.new ≡ record self.old { session = self.new.session } }
@@ -112,7 +146,7 @@ impl Recording {
             return Ok(end);
         }
         for done in 0..most {
-            match self.step_out(calls) {
+            match self.step_out(calls, line) {
                 Ok(None) => {}
                 Ok(Some(end)) => return Ok(end),
                 Err(NoMemory) => return Err(NoMemory),

@@ -86,7 +86,7 @@ abbrev pub plain_ends : Goal → SessionState → ℕ → Option End
 plain_ends goal.Count s = step_ends s
 plain_ends goal.Trace s = step_ends s
 plain_ends goal.Break s = break_ends s
-plain_ends (goal.Out calls) s = out_ends calls s
+plain_ends (goal.Out calls line) s = out_ends calls line s
 plain_ends (goal.Until condition) s = until_ends condition s
 
 -- the steps of a call that are told: at most n

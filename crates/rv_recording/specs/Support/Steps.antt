@@ -1,6 +1,6 @@
 -- Not to audit: private contracts alone cite this.
 -- One step of a run.
-use Rattle.std.specs.Prelude.{◌≡◌, ◌⊎◌, ℕ, ◌+◌, ◌-◌, ◌^◌, ◌==◌, min, Bool, true, false, if◌then◌else◌, nat_lt, Option, Some, None, is_some, Result, Ok, Err}
+use Rattle.std.specs.Prelude.{◌≡◌, ◌⊎◌, ℕ, ◌+◌, ◌-◌, ◌^◌, min, Bool, true, false, if◌then◌else◌, nat_lt, Option, Some, None, is_some, Result, Ok, Err}
 use Rattle.std.specs.FinSet as set
 use Rattle.std.specs.Option.{option_and_then}
 use Rattle.rv_isa.specs.Support.Meaning.{means}
@@ -16,7 +16,8 @@ use Rattle.rv_monitor.specs.declared.stop.Stop.{Stop}
 use Rattle.rv_monitor.specs.declared.stop.Stop.TheVariants as stop
 use Rattle.rv_recording.specs.Recording.{RecordingState, with_timed}
 use Rattle.rv_recording.specs.Until.{holds}
-use Rattle.rv_recording.specs.Out.{open_after}
+use Rattle.rv_recording.specs.Out.{is_out, open_after}
+use Rattle.rv_recording.specs.declared.out.Span.{Span}
 use Rattle.rv_recording.specs.declared.until.End.{End}
 use Rattle.rv_recording.specs.declared.until.End.TheVariants.{Halted, Reached, Breakpoint, Limit, Stuck}
 use Rattle.rv_recording.specs.declared.until.Condition.{Condition}
@@ -65,12 +66,12 @@ TakesOne end old new (Err refused) =
 
 -- a call took a step, with the number of open calls before and after it, and tells why the run ends with it;
 -- or there was none to be taken; or memory ran out at it
-abbrev pub StepsOut : (calls left : ℕ) → RecordingState → RecordingState → Result (Option End) NoMemory → Type 0
-StepsOut calls left old new (Ok end) =
+abbrev pub StepsOut : Option Span → (calls left : ℕ) → RecordingState → RecordingState → Result (Option End) NoMemory → Type 0
+StepsOut line calls left old new (Ok end) =
     ((new ≡ with_timed old (after old.session.timed 1)) × (left ≡ open_of_step calls old.session.timed)
-    × (end ≡ end_after (left == 0) (next_of old.session)))
+    × (end ≡ end_after (is_out line left (after old.session.timed 1).board) (next_of old.session)))
     ⊎ ((may_step old.session ≡ false) × (new ≡ old) × (left ≡ calls) × (end ≡ Some Stuck))
-StepsOut calls left old new (Err refused) =
+StepsOut line calls left old new (Err refused) =
     (may_step old.session ≡ true) × (new ≡ with_timed old (with_due old.session.timed))
     × (writes new.session.timed.board Step ≡ true) × (left ≡ calls)
 
