@@ -1,7 +1,7 @@
 -- How many steps a run takes.
-use Rattle.std.proofs.Common.{rules, ◌≡◌, ◌∙◌, ℕ, zero, suc, ◌+◌, ◌-◌, ◌<◌, ◌≤◌, Bool, true, false, add-one, refl, sym, arith, inl, inr, ⊎_elim}
+use Rattle.std.proofs.Common.{rules, ◌≡◌, ◌∙◌, ℕ, zero, suc, ◌+◌, ◌<◌, ◌≤◌, Bool, true, false, refl, sym, arith}
 use native.Mathlib.Numerals.{unary_clauses}
-use Rattle.std.specs.Prelude.{if◌then◌else◌, is_some, Option, Some, None}
+use Rattle.std.specs.Prelude.{if◌then◌else◌, is_some, Option}
 use Rattle.std.proofs.lemmas.Bool.{cases_lt, false≢true}
 use Rattle.rv_recording.specs.Until.{steps_of}
 use Rattle.rv_recording.specs.Refused.{NoneEnds}

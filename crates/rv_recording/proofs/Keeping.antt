@@ -1,5 +1,5 @@
 -- The states that a recording keeps on the way.
-use Rattle.std.proofs.Common.{rules, arith, ◌≡◌, ◌∙◌, ℕ, zero, suc, Bool, true, false, cond, List, [], ◌∷◌, refl, sym, subst}
+use Rattle.std.proofs.Common.{rules, arith, ◌≡◌, ℕ, zero, suc, Bool, true, false, cond, List, [], ◌∷◌, refl, sym, subst}
 use Rattle.std.specs.Option.{option_map}
 use Rattle.std.specs.Prelude.{find, nat_le, not, ◌&&◌, is_ok, remove, insert, None, Result, Ok, Err}
 use Rattle.rv_cache.specs.SlotCount.{is_slot_count}

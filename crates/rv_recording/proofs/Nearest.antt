@@ -1,5 +1,5 @@
 -- A session that stands at a kept state.
-use Rattle.std.proofs.Common.{◌≡◌, ℕ, ◌-◌, ◌≤◌, List, sym, subst, arith}
+use Rattle.std.proofs.Common.{◌≡◌, ℕ, ◌-◌, ◌≤◌, sym, subst, arith}
 use Rattle.std.specs.FinSet as set
 use Rattle.rv_board.specs.Move.{run}
 use Rattle.rv_board.specs.Support.State.{BoardState}

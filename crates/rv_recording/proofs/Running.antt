@@ -1,6 +1,6 @@
 -- Runs, step by step.
-use Rattle.std.proofs.Common.{rules, ◌≡◌, ◌∙◌, ℕ, suc, ◌+◌, ◌-◌, ◌<◌, ◌≤◌, ◌==◌, Bool, true, false, refl, sym, ap, subst, arith, inl, inr, ⊎_elim}
-use Rattle.std.specs.Prelude.{◌&&◌, zero, nat_lt, if◌then◌else◌, is_none, is_some, unwrap_or, Option, Some, None, Ok, Err}
+use Rattle.std.proofs.Common.{rules, ◌≡◌, ◌∙◌, ℕ, suc, ◌+◌, ◌<◌, Bool, true, false, refl, sym, ap, subst, arith, inl, inr}
+use Rattle.std.specs.Prelude.{◌&&◌, nat_lt, if◌then◌else◌, is_none, is_some, unwrap_or, Option, Some, None, Ok, Err}
 use Rattle.std.proofs.Math.Numerals.{add-one}
 use Rattle.std.proofs.lemmas.Bool.{cases_lt, false≢true}
 use Rattle.std.proofs.lemmas.Bool.Decides.{nat_tests}
@@ -10,7 +10,7 @@ use Rattle.rv_monitor.specs.State.{Addresses, IsInTime, SessionState, TimedState
 use Rattle.rv_monitor.specs.Stops.{may_step, steps_between}
 use Rattle.rv_monitor.proofs.Steps.{after_none, after_more}
 use Rattle.rv_recording.specs.Recording.{RecordingState, with_timed}
-use Rattle.rv_recording.specs.Until.{HasRun, comes, end_at, holds, steps_of, until_ends}
+use Rattle.rv_recording.specs.Until.{HasRun, comes, end_at, steps_of, until_ends}
 use Rattle.rv_recording.specs.Refused.{IsRefusedIn, NoneEnds}
 use Rattle.rv_recording.specs.Support.Steps.{TakesOne, end_after, end_before, end_of_step, next_of}
 use Rattle.rv_recording.specs.declared.until.Condition.{Condition}

@@ -1,6 +1,6 @@
 -- Calls of a session are runs.
-use Rattle.std.proofs.Common.{rules, ◌≡◌, ◌∙◌, ℕ, suc, ◌+◌, ◌-◌, ◌<◌, ◌≤◌, Bool, true, false, refl, ap, subst, arith, inl, inr, ⊎_elim}
-use Rattle.std.specs.Prelude.{◌&&◌, min, nat_lt, if◌then◌else◌, is_some, unwrap_or, Option, Some, None, Result, Ok, Err, OnErr}
+use Rattle.std.proofs.Common.{rules, ◌≡◌, ℕ, ◌+◌, ◌<◌, ◌≤◌, Bool, true, false, refl, ap, subst, arith, ⊎_elim}
+use Rattle.std.specs.Prelude.{◌&&◌, nat_lt, if◌then◌else◌, is_some, unwrap_or, Option, Some, None, Result, Ok, Err, OnErr}
 use Rattle.rv_base.specs.declared.memory.NoMemory.{NoMemory}
 use Rattle.std.proofs.lemmas.Bool.{cases_lt, false≢true}
 use Rattle.rv_monitor.specs.State.{Addresses, SessionState, TimedState, after, with_due}

@@ -1,4 +1,4 @@
-use Rattle.std.proofs.Common.{rules, arith, ◌*◌, ◌∙◌}
+use Rattle.std.proofs.Common.{rules, arith}
 use Rattle.rv_recording.proofs.Keeping.{has_slots, none_taken}
 use Rattle.rv_recording.proofs.recording.Recording.board_before.Goals as goal
 

@@ -1,4 +1,4 @@
-use Rattle.std.proofs.Common.{rules, ◌≡◌, ◌∙◌, ap, sym, arith}
+use Rattle.std.proofs.Common.{rules, ◌∙◌, ap, sym, arith}
 use Rattle.rv_board.specs.Move.{run}
 use Rattle.rv_monitor.specs.Events.{events_of}
 use Rattle.rv_recording.specs.Recording.{RecordingState, first_board}

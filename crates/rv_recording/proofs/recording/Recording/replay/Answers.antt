@@ -1,4 +1,4 @@
-use Rattle.std.proofs.Common.{rules, ◌≡◌, ◌∙◌, arith}
+use Rattle.std.proofs.Common.{rules, arith}
 use Rattle.rv_recording.proofs.Replays.{replayed}
 use Rattle.rv_recording.proofs.recording.Recording.replay.Goals as goal
 

@@ -1,4 +1,4 @@
-use Rattle.std.proofs.Common.{rules, ◌≡◌, ◌∙◌, subst, arith}
+use Rattle.std.proofs.Common.{rules, ◌∙◌, subst, arith}
 use Rattle.rv_monitor.specs.State.{SessionState, IsInTime}
 use Rattle.rv_recording.specs.Until.{comes, until_ends}
 use Rattle.rv_recording.proofs.Running.{Going, before_is, begins, over_before, goes_on, ended, limit, refused, end_is, others_at, others_next, others_due}
