@@ -17,7 +17,8 @@ use Rattle.rv_recording.specs.Breaks.{IsNext}
 use Rattle.rv_lab.specs.Answers.{breakpoints, distance_at, place_of, trap_runs}
 use Rattle.rv_lab.specs.Lines.{line_at}
 use Rattle.rv_lab.specs.State.{LabState}
-use Rattle.rv_lab.specs.Support.Rows.{comes_again, label_at}
+use Rattle.rv_why.specs.Repeats.{comes_again}
+use Rattle.rv_lab.specs.Support.Rows.{label_at}
 use Rattle.rv_lab.proofs.TrapRuns.{front, more, no_more}
 
 -- ---- what a function gives of some numbers

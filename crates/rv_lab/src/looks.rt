@@ -9,7 +9,7 @@ ghost use Rattle.rv_lab.specs.Answers as spec;
 ghost use Rattle.rv_lab.specs.Answers.{behind_last, breakpoints, cells_of, control_answer, copied_steps, edges_answer, instruction_answer, look_answer, memory_answer, refused, register_file, registers_answer, rows_answer, standing, trap_runs};
 ghost use Rattle.rv_lab.specs.Lines.{row_of};
 ghost use Rattle.rv_lab.specs.State.{board, listing};
-ghost use Rattle.rv_lab.specs.Support.Rows.{char_at, comes_again, edge_source, register_of, word_cell};
+ghost use Rattle.rv_lab.specs.Support.Rows.{char_at, edge_source, register_of, word_cell};
 
 use crate::control::{MIE, MIP, MSTATUS, csr_word, name_in};
 use crate::devices::{edge_source, interrupts_of};
@@ -31,6 +31,7 @@ use rv_convention::{check, profile, registers_of};
 use rv_isa::{Reg, csr_named, reg_named};
 use rv_monitor::word_at;
 use rv_operands::only_word;
+use rv_why::comes_again;
 use std::alloc::Global;
 
 /// The most steps of `check` and `profile`.
@@ -48,16 +49,6 @@ fn register_of(operands: &[u8]) -> Option<Reg>
     ensures { result ≡ register_of (words operands.now) }
 {
     reg_named(only_word(operands)?)
-}
-
-/// Whether a trap is the same as the one before it.
-fn comes_again(trap: TrapRecord, next: Option<TrapRecord>) -> bool
-    ensures { result ≡ comes_again trap next }
-{
-    match next {
-        Some(next) => trap.cause == next.cause && trap.epc == next.epc && trap.tval == next.tval,
-        None => false,
-    }
 }
 
 /// Returns how far the last label at an address of the image or before it lies before it.

@@ -9,7 +9,6 @@ use Rattle.std.specs.Option.{option_map, option_map_or}
 use Rattle.rv_isa.specs.Number.{flag}
 use Rattle.rv_pmp.specs.Mode.{is_machine}
 use Rattle.rv_board.specs.BoardState.{BoardState, csr_of}
-use Rattle.rv_board.specs.declared.event.TrapRecord.{TrapRecord}
 use Rattle.rv_monitor.specs.Views.{byte_at_offset, word_at}
 use Rattle.rv_base.specs.Tables.{lookup}
 use Rattle.rv_isa.specs.Names.{register_names}
@@ -72,10 +71,3 @@ char_at b a offset = unwrap_or (byte_at_offset b a offset) 0
 
 unfoldable pub text_length : BoardState → ℕ → ℕ → ℕ
 text_length b a n = position_or_len (λ offset. char_at b a offset == 0) (range_with_len 0 n)
-
--- ---- `t`
-
--- the next trap is the same
-abbrev pub comes_again : TrapRecord → Option TrapRecord → Bool
-comes_again t next =
-    option_map_or (λ u. (t.cause == u.cause) && ((t.epc == u.epc) && (t.tval == u.tval))) next false
