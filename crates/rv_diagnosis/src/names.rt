@@ -2,12 +2,13 @@
 use rv_base::cut_lines;
 use rv_source::{Label, Statement, read_line_form};
 use std::alloc::Global;
-use strsim::generic_levenshtein;
+use strsim::generic_damerau_levenshtein;
 
 /// The longest word for which a near name is looked for.
 const LONGEST: usize = 64;
 
-/// The name that takes the fewest edits to become a word, of those that were offered.
+/// The name that takes the fewest edits to become a word, of those that were offered. Two neighbours that change places
+/// are one edit.
 #[derive(Clone, Copy)]
 pub(crate) struct Nearest<'a> {
     pub word: &'a [u8],
@@ -38,7 +39,11 @@ impl<'a> Nearest<'a> {
         if self.word.len() > LONGEST || name.len() > LONGEST || name.is_empty() {
             return;
         }
-        if let Ok(edits) = generic_levenshtein(alloc, self.word, name)
+        // at least as many edits as one is longer than the other
+        if self.word.len().abs_diff(name.len()) > self.edits {
+            return;
+        }
+        if let Ok(edits) = generic_damerau_levenshtein(alloc, self.word, name)
             && (edits < self.edits
                 || edits == self.edits && !self.name.is_empty() && self.word.starts_with(name))
         {
