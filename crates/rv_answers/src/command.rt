@@ -104,7 +104,7 @@ static COMMANDS: [(&str, CommandRow); 30] = [
         CommandRow {
             command: Command::Over,
             form: "next",
-            does: "takes a step, and a call as one step",
+            does: "goes on past the line here, and past the calls that it makes",
             example: "next",
         },
     ),
