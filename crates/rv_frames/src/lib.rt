@@ -9,7 +9,13 @@ mod entries;
 mod functions;
 mod instructions;
 mod places;
+mod row;
+mod rows;
 mod state;
 mod walk;
 
 pub use functions::functions_of;
+pub use places::Entry;
+pub use row::{FrameRow, Kept};
+pub use rows::frame_rows;
+pub use state::Stack;
