@@ -6,7 +6,7 @@ use Rattle.std.specs.Option.{option_map}
 use Rattle.std.specs.Str.{bytes_eq}
 use Rattle.rv_base.specs.Words.{words}
 use Rattle.rv_answers.specs.declared.command.Command.{Command}
-use Rattle.rv_answers.specs.declared.command.Command.TheVariants.{Step, Over, Moves, Where, Break, Clear, Registers, ControlRegister, Memory, Instruction, Traps, Edges, Why, Check, Profile, Display, Undisplay, Devices, Receive, Line, Save, Reload, Monitor, Help, Quit}
+use Rattle.rv_answers.specs.declared.command.Command.TheVariants.{Step, Over, Moves, Where, Backtrace, Break, Clear, Registers, ControlRegister, Memory, Instruction, Traps, Edges, Why, Check, Profile, Display, Undisplay, Devices, Receive, Line, Save, Reload, Monitor, Help, Quit}
 use Rattle.rv_answers.specs.declared.command.Command.TheVariants as command
 use Rattle.rv_answers.specs.declared.command.Move.TheVariants.{Go, Finish, Until, Trace, Back}
 
@@ -15,7 +15,8 @@ unfoldable pub commands : List (List ℕ × Command)
 commands =
     (codes "s step si", Step) ∷ (codes "c continue run go", Moves Go) ∷ (codes "next n ni", Over) ∷
     (codes "finish fin", Moves Finish) ∷ (codes "until", Moves Until) ∷ (codes "trace", Moves Trace) ∷
-    (codes "u undo back", Moves Back) ∷ (codes "w where", Where) ∷ (codes "l list", command.List) ∷
+    (codes "u undo back", Moves Back) ∷ (codes "w where", Where) ∷ (codes "bt backtrace", Backtrace) ∷
+    (codes "l list", command.List) ∷
     (codes "b break", Break) ∷ (codes "d delete clear", Clear) ∷ (codes "r reg regs registers", Registers) ∷
     (codes "p", ControlRegister) ∷ (codes "m mem x", Memory) ∷ (codes "i", Instruction) ∷
     (codes "t traps", Traps) ∷ (codes "e", Edges) ∷ (codes "why", Why) ∷ (codes "check", Check) ∷
@@ -37,6 +38,7 @@ help_word (Moves Until) = codes "until"
 help_word (Moves Trace) = codes "trace"
 help_word (Moves Back) = codes "u"
 help_word Where = codes "w"
+help_word Backtrace = codes "bt"
 help_word command.List = codes "l"
 help_word Break = codes "b"
 help_word Clear = codes "d"

@@ -1,4 +1,5 @@
 pub mod Commands
+pub mod Frames
 pub mod Printer
 pub mod Memory
 pub mod States

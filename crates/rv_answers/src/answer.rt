@@ -2,6 +2,7 @@
 use crate::command::Command;
 use crate::convention::Checked;
 use crate::explained::Explanation;
+use crate::frames::Backtrace;
 use crate::many::Many;
 use crate::moves::{Breakpoint, Breakpoints, Cleared, Given, Run, Saved, Stepped, Trace, Watch};
 use crate::origin::Origin;
@@ -118,6 +119,8 @@ pub enum Answer {
     Explained(Explanation),
     /// `why` of a register or a word
     Origin(Origin),
+    /// `bt`
+    Backtrace(Backtrace),
     /// `check`
     Checked(Checked),
     /// `profile`

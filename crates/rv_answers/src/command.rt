@@ -31,6 +31,7 @@ pub enum Command {
     Over,
     Moves(Move),
     Where,
+    Backtrace,
     List,
     Break,
     Clear,
@@ -80,7 +81,7 @@ pub(crate) struct CommandRow {
 
 /// The commands by their words, in the order of the help: the first word is that of the help, and the others
 /// are as other tools have them.
-static COMMANDS: [(&str, CommandRow); 30] = [
+static COMMANDS: [(&str, CommandRow); 31] = [
     (
         "s step si",
         CommandRow {
@@ -151,6 +152,15 @@ static COMMANDS: [(&str, CommandRow); 30] = [
             form: "w",
             does: "tells where the program is",
             example: "w",
+        },
+    ),
+    (
+        "bt backtrace",
+        CommandRow {
+            command: Command::Backtrace,
+            form: "bt",
+            does: "tells by which calls and traps the program came here, as far as the code tells it",
+            example: "bt",
         },
     ),
     (
@@ -415,6 +425,7 @@ pub fn command_word(command: Command) -> &'static str
         Command::Moves(Move::Trace) => "trace",
         Command::Moves(Move::Back) => "u",
         Command::Where => "w",
+        Command::Backtrace => "bt",
         Command::List => "l",
         Command::Break => "b",
         Command::Clear => "d",

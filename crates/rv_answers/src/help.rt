@@ -62,7 +62,7 @@ fn offer_commands(nearest: &mut Nearest<'_>) {
 }
 
 /// Words of gdb, with what to type here.
-static OTHERS: [(&str, &str); 23] = [
+static OTHERS: [(&str, &str); 21] = [
     (
         "info",
         "`r` shows the registers, `b` the breakpoints, `t` the traps, `dev` the devices",
@@ -102,11 +102,6 @@ static OTHERS: [(&str, &str); 23] = [
     (
         "start",
         "the program stands at its first instruction; `u 9999999999` goes back to it",
-    ),
-    ("bt", "`r ra` shows where the present function returns to"),
-    (
-        "backtrace",
-        "`r ra` shows where the present function returns to",
     ),
     (
         "set",

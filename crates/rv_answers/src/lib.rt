@@ -11,6 +11,8 @@ mod devices;
 mod explained;
 mod extent;
 mod forms;
+mod frames;
+mod frames_text;
 mod help;
 mod inputs;
 mod interrupts;
@@ -47,6 +49,7 @@ pub use explained::{
     Area, Barrier, Before, Explained, Explanation, Handler, Reason, Repeated, Sum, Unfetched,
 };
 pub use extent::{Extent, Format, read_extent};
+pub use frames::{Backtrace, Frame, Outermost, Reached, is_guess};
 pub use lines::Lines;
 pub use many::{Many, push};
 pub use memory::escapes;

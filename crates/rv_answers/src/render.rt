@@ -80,6 +80,7 @@ impl Lines<'_> {
             Answer::Saved(saved) => append_saved(saved, text),
             Answer::Explained(told) => self.append_explanation(told, text),
             Answer::Origin(origin) => self.append_origin(origin, text),
+            Answer::Backtrace(backtrace) => self.append_backtrace(backtrace, text),
             Answer::Checked(checked) => self.append_checked(checked, text),
             Answer::Profiled(profile) => self.append_profile(profile, text),
             Answer::Display(watch) => append_display(*watch, text),

@@ -22,6 +22,13 @@ use Rattle.rv_answers.specs.Commands.{help_word}
 use Rattle.rv_answers.specs.declared.command.Command.{Command}
 use Rattle.rv_answers.specs.declared.convention.Breach.{Breach}
 use Rattle.rv_answers.specs.declared.convention.Checked.{Checked}
+use Rattle.rv_answers.specs.Frames.{is_guess}
+use Rattle.rv_answers.specs.declared.frames.Backtrace.{Backtrace}
+use Rattle.rv_answers.specs.declared.frames.Frame.{Frame}
+use Rattle.rv_answers.specs.declared.frames.Outermost.{Outermost}
+use Rattle.rv_answers.specs.declared.frames.Outermost.TheVariants as outermost
+use Rattle.rv_answers.specs.declared.frames.Reached.{Reached}
+use Rattle.rv_answers.specs.declared.frames.Reached.TheVariants as reached
 use Rattle.rv_answers.specs.declared.profile.Profiled.{Profiled}
 use Rattle.rv_answers.specs.declared.profile.Spent.{Spent}
 use Rattle.rv_answers.specs.declared.convention.Deviation.{Deviation}
@@ -386,6 +393,32 @@ unfoldable pub checked_data : Checked → Data
 checked_data c = kind "checked" (("steps", natural c.steps) ∷ ("has_halted", boolean c.has_halted)
     ∷ ("breaches", list_data breach_data c.breaches) ∷ [])
 
+-- ---- `bt`
+
+unfoldable pub reached_data : Reached → Data
+reached_data reached.Here = string (codes "here")
+reached_data (reached.Call is_guess) = string (codes "call")
+reached_data (reached.Trap is_guess) = string (codes "trap")
+
+unfoldable pub frame_data : Frame → Data
+frame_data f = object (members (("address", natural f.address) ∷ ("sp", natural f.sp)
+    ∷ ("reached", reached_data f.reached) ∷ ("is_guess", boolean (is_guess f.reached)) ∷ []))
+
+unfoldable pub outermost_data : Outermost → Data
+outermost_data outermost.Start = kind "start" []
+outermost_data outermost.Resumed = kind "resumed" []
+outermost_data outermost.NoFunction = kind "no_function" []
+outermost_data outermost.NoRa = kind "no_ra" []
+outermost_data outermost.NoSp = kind "no_sp" []
+outermost_data outermost.NoMepc = kind "no_mepc" []
+outermost_data (outermost.Outside address) = kind "outside" (("address", natural address) ∷ [])
+outermost_data (outermost.Below sp) = kind "below" (("sp", natural sp) ∷ [])
+outermost_data outermost.More = kind "more" []
+
+unfoldable pub backtrace_data : Backtrace → Data
+backtrace_data b =
+    kind "backtrace" (("frames", list_data frame_data b.frames) ∷ ("outermost", outermost_data b.outermost) ∷ [])
+
 -- ---- `profile`
 
 unfoldable pub spent_data : Spent → Data
@@ -459,6 +492,7 @@ answer_data ls (answers.Given given) = given_data given
 answer_data ls (answers.Saved saved) = saved_data saved
 answer_data ls (answers.Explained explanation) = explanation_data explanation
 answer_data ls (answers.Origin origin) = origin_data origin
+answer_data ls (answers.Backtrace backtrace) = backtrace_data backtrace
 answer_data ls (answers.Checked checked) = checked_data checked
 answer_data ls (answers.Profiled profile) = profiled_data profile
 answer_data ls (answers.Display watch) = kind "display" (("watch", watch_data watch) ∷ [])

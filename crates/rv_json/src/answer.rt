@@ -114,6 +114,7 @@ impl ToJson for Answer {
             Answer::Saved(saved) => saved.send(names, out),
             Answer::Explained(explanation) => explanation.send(names, out),
             Answer::Origin(origin) => origin.send(names, out),
+            Answer::Backtrace(backtrace) => backtrace.send(names, out),
             Answer::Checked(checked) => checked.send(names, out),
             Answer::Profiled(profile) => profile.send(names, out),
             Answer::Display(watch) => send_one("display", "watch", watch, names, out),

@@ -5,6 +5,7 @@ mod answer;
 mod convention;
 mod explained;
 mod faults;
+mod frames;
 mod looks;
 mod moves;
 mod names;

@@ -15,6 +15,7 @@ use Rattle.rv_lab.specs.Commands.{IsWithin, begun, monitored_run, piece_most, pi
 use Rattle.rv_lab.specs.Support.Short.{GoesOnWith, Starts, Steps}
 use Rattle.rv_lab.specs.Refusals.{Leads, RunsOut, StopsShort, by_hand, due, nowhere, steps}
 use Rattle.rv_asm.specs.Lines.{Located}
+use Rattle.rv_frames.specs.declared.row.FrameRow.{FrameRow}
 use Rattle.rv_program.specs.Program.{Assembly}
 use Rattle.rv_lab.specs.State.{LabState, setup, timed}
 use Rattle.rv_lab.specs.declared.order.Order.{Order}
@@ -103,7 +104,7 @@ monitors c limit (Some p) old new e w = goes p (begun old) new w
 monitors_setup : (c : Option commands.Command) (limit : ℕ) (o : Option Plan) (old new : LabState) → o ≡ run_of c limit
     → MonitorLeaves c o old new → setup new ≡ setup old
 monitors_setup c limit None old new e w =
-    ap setup w.0 ∙ ap (λ (a : Assembly). (old.source, old.places, a, old.recording.pages, old.recording.slots, old.piece))
+    ap setup w.0 ∙ ap (λ (a : Assembly). (old.source, old.places, old.frames, a, old.recording.pages, old.recording.slots, old.piece))
     (looks_same c limit old.recording.session new.recording.session (sym e) w.1).1
 monitors_setup c limit (Some p) old new e w = ap setup w
 
@@ -148,13 +149,13 @@ out n Does old new each (inr (inl d)) = each new d
 out n Does old new each (inr (inr s)) = omega (arith, each s.0 s.1, rises (timed new) (timed s.0) s.3)
 
 abbrev Setup : Type 0
-Setup = List ℕ × Located × Assembly × ℕ × ℕ × ℕ
+Setup = List ℕ × Located × List FrameRow × Assembly × ℕ × ℕ × ℕ
 
 pub out_setup_by : (o : Order) (old new : LabState) → RunsOut (Leaves o) old new → setup new ≡ setup old
 out_setup_by o old new (inl e) = ap setup e
 out_setup_by o old new (inr (inl d)) = left_setup_by o old new d
 out_setup_by o old new (inr (inr s)) =
-    ap setup s.4 ∙ ap (λ (x : Setup). (x.0, x.1, old.recording.session.program, old.recording.pages, old.recording.slots, x.5))
+    ap setup s.4 ∙ ap (λ (x : Setup). (x.0, x.1, x.2, old.recording.session.program, old.recording.pages, old.recording.slots, x.6))
     (left_setup_by o old s.0 s.1)
 
 -- ---- the calls

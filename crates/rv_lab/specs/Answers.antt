@@ -18,6 +18,7 @@ use Rattle.rv_board.specs.declared.event.TrapRecord.{TrapRecord}
 use Rattle.rv_monitor.specs.Views.{byte_at_offset, word_at}
 use Rattle.rv_operands.specs.Operands.{address, followed, only_of}
 use Rattle.rv_asm.specs.Lines.{Listed}
+use Rattle.rv_backtrace.specs.Backtrace.{backtrace}
 use Rattle.rv_convention.specs.Convention.{checked}
 use Rattle.rv_convention.specs.Profile.{profiled}
 use Rattle.rv_recording.specs.Until.{watched_value}
@@ -222,6 +223,7 @@ profile_answer l text = option_map_or (λ n. answers.Profiled (profiled (listing
 -- what a command answers that only looks
 unfoldable pub look_answer : Command → List ℕ → LabState → Answer
 look_answer command.Where text l = answers.Where (standing l)
+look_answer command.Backtrace text l = answers.Backtrace (backtrace (listing l) l.frames (board l))
 look_answer command.Registers text l = registers_answer l text
 look_answer command.ControlRegister text l = control_answer l text
 look_answer command.Memory text l = memory_answer l (words text)

@@ -8,18 +8,20 @@ use Rattle.rv_monitor.specs.State.{TimedState}
 use Rattle.rv_recording.specs.Recording.{RecordingState}
 use Rattle.rv_answers.specs.declared.command.Command.{Command}
 pub use Rattle.rv_convention.specs.Convention.{registers_of}
+use Rattle.rv_frames.specs.declared.row.FrameRow.{FrameRow}
 use Rattle.rv_lab.specs.declared.guard.Guard.{Guard}
 use Rattle.rv_lab.specs.declared.plan.Goal.{Goal}
 use Rattle.rv_lab.specs.declared.plan.Plan.{Plan}
 use Rattle.rv_lab.specs.declared.plan.Trail.{Trail}
 
--- a source with the places of its lines and the recording of its program; the conditions of breakpoints; the registers and the number of steps
--- before the last command that moved the board, and the bytes of the console that were told; what an empty line
--- repeats, the steps of the last `s`, and the last line of the last `l`; the run that isn't over; what `c` goes on
--- for; what `why` alone goes on with; and the most steps of a call
+-- a source with the places of its lines, the rows of its frames and the recording of its program; the conditions of
+-- breakpoints; the registers and the number of steps before the last command that moved the board, and the bytes of the
+-- console that were told; what an empty line repeats, the steps of the last `s`, and the last line of the last `l`; the
+-- run that isn't over; what `c` goes on for; what `why` alone goes on with; and the most steps of a call
 pub record LabState : Type 0 where
   pub source : List ℕ
   pub places : Located
+  pub frames : List FrameRow
   pub recording : RecordingState
   pub guards : List Guard
   pub registers : List ℕ
@@ -37,10 +39,10 @@ pub record LabState : Type 0 where
 abbrev pub listing : LabState → Listed
 listing l = listing_of l.recording.session.program l.places
 
--- what no command changes: the source, the places of its lines, the program (and so the listing), the sizes of
--- its board, and the steps of a call
-abbrev pub setup : LabState → List ℕ × Located × Assembly × ℕ × ℕ × ℕ
-setup l = (l.source, l.places, l.recording.session.program, l.recording.pages, l.recording.slots, l.piece)
+-- what no command changes: the source, the places of its lines, the rows of its frames, the program (and so the
+-- listing), the sizes of its board, and the steps of a call
+abbrev pub setup : LabState → List ℕ × Located × List FrameRow × Assembly × ℕ × ℕ × ℕ
+setup l = (l.source, l.places, l.frames, l.recording.session.program, l.recording.pages, l.recording.slots, l.piece)
 
 -- the board with its inputs, and the board alone
 abbrev pub timed : LabState → TimedState

@@ -25,6 +25,7 @@ use rv_asm::{Listing, Places, Program, list};
 use rv_base::NoMemory;
 use rv_board::BootedBoard;
 use rv_convention::registers_of;
+use rv_frames::{FrameRow, frame_rows};
 use rv_recording::Recording;
 use std::alloc::Global;
 use std::marker::Model;
@@ -100,6 +101,7 @@ pub struct Lab {
     pub(crate) alloc: Global,
     pub(crate) source: Vec<u8>,
     pub(crate) places: Places,
+    pub(crate) frames: Vec<FrameRow>,
     pub(crate) recording: Recording,
     /// The conditions of breakpoints.
     pub(crate) guards: Vec<Guard>,
@@ -118,6 +120,7 @@ impl Drop for Lab {
             alloc: _,
             source: _,
             places: _,
+            frames: _,
             recording: _,
             guards: _,
             last: _,
@@ -137,7 +140,7 @@ impl Model for Lab {
 
     ghost coded = { Prim.hlevel (codes, plic_code, set.code {R = nat_cmp} coded_ℕ) };
 
-    ghost view = { λ l. record { source = l.source.items; places = l.places; recording = l.recording; guards = l.guards.items; registers = l.last.registers; before = l.last.steps; told = l.last.told; again = l.last.command; count = l.last.count; listed = l.last.listed; plan = l.last.plan; resumes = l.last.resumes; trail = l.last.trail; piece = l.piece } };
+    ghost view = { λ l. record { source = l.source.items; places = l.places; frames = l.frames.items; recording = l.recording; guards = l.guards.items; registers = l.last.registers; before = l.last.steps; told = l.last.told; again = l.last.command; count = l.last.count; listed = l.last.listed; plan = l.last.plan; resumes = l.last.resumes; trail = l.last.trail; piece = l.piece } };
 }
 
 impl Lab {
@@ -161,6 +164,13 @@ impl Lab {
         let (program, places) = list(alloc, source)?;
         let (pages, slots) = (u32::from(sizes.pages), u32::from(sizes.slots));
         let recording = Recording::open(alloc, program, inputs, pages, slots)?;
+        let listing = Listing {
+            program: recording.session().program(),
+            places: &places,
+        };
+        let Ok(frames) = frame_rows(alloc, listing) else {
+            return Err(LabFault::OutOfMemory);
+        };
         let Ok(source) = Vec::from_slice(alloc, source) else {
             return Err(LabFault::OutOfMemory);
         };
@@ -179,6 +189,7 @@ impl Lab {
             alloc,
             source,
             places,
+            frames,
             recording,
             guards: Vec::new(alloc),
             last,

@@ -5,6 +5,7 @@ ghost use Rattle.rv_base.specs.Words.{words};
 ghost use Rattle.rv_asm.specs.Seen.{seen};
 ghost use Rattle.rv_monitor.specs.Views.{byte_at_offset};
 ghost use Rattle.rv_operands.specs.Operands.{only_of};
+ghost use Rattle.rv_backtrace.specs.Backtrace.{backtrace};
 ghost use Rattle.rv_lab.specs.Answers as spec;
 ghost use Rattle.rv_lab.specs.Answers.{behind_last, breakpoints, cells_of, control_answer, copied_steps, edges_answer, instruction_answer, look_answer, memory_answer, refused, register_file, registers_answer, rows_answer, standing, trap_runs};
 ghost use Rattle.rv_lab.specs.Lines.{row_of};
@@ -20,11 +21,12 @@ use crate::places::{line_at, near_label};
 use crate::run::USUAL_STEPS;
 use crate::source::{Excerpt, line_count};
 use rv_answers::{
-    Answer, Cells, Command, ControlValue, Devices, Dump, Edges, Extent, Format, Many, Place,
-    Refusal, RegisterFile, RegisterValue, Row, Standing, Trap, Why, bits_of, clock_of, port_of,
-    push, read_extent, regions_of, sources_of, threshold,
+    Answer, Backtrace, Cells, Command, ControlValue, Devices, Dump, Edges, Extent, Format, Many,
+    Place, Refusal, RegisterFile, RegisterValue, Row, Standing, Trap, Why, bits_of, clock_of,
+    port_of, push, read_extent, regions_of, sources_of, threshold,
 };
 use rv_asm::Listing;
+use rv_backtrace::backtrace;
 use rv_base::{NoMemory, first_word, has_word, low_word};
 use rv_board::{BootedBoard, TrapRecord};
 use rv_convention::{check, profile, registers_of};
@@ -405,6 +407,13 @@ impl Lab {
         })
     }
 
+    /// Answers `bt`.
+    fn calls(&self) -> Result<Backtrace, NoMemory>
+        ensures { IfOk result (λ b. b ≡ backtrace (listing self.now) self.now.frames (board self.now)) }
+    {
+        backtrace(self.alloc, self.listing(), &self.frames, self.board())
+    }
+
     /// Answers `display`.
     #[tactic(auto, unfolding(crate::specs::Answers::display_answer))]
     fn display_answer(&self, operands: &[u8]) -> Result<Answer, NoMemory>
@@ -451,6 +460,7 @@ impl Lab {
     {
         match command {
             Command::Where => Ok(Answer::Where(self.standing())),
+            Command::Backtrace => Ok(Answer::Backtrace(self.calls()?)),
             Command::Registers => self.registers_answer(operands),
             Command::ControlRegister => self.control_answer(operands),
             Command::Memory => self.memory_answer(operands),
