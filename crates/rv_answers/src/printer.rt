@@ -165,11 +165,11 @@ impl Printer {
         append_shown(text, self);
     }
 
-    /// Appends that a text isn't what a command wants, and why.
+    /// Appends that a text, without the blanks at its ends, isn't what a command wants, and why.
     pub fn refuse(&mut self, command: &str, text: &[u8], why: &str) {
         self.say(command);
         self.say(": `");
-        self.shown(text);
+        self.shown(text.trim_ascii());
         self.say("` ");
         self.say(why);
     }
