@@ -6,7 +6,7 @@ use Rattle.std.specs.Option.{option_map}
 use Rattle.std.specs.Str.{bytes_eq}
 use Rattle.rv_base.specs.Words.{words}
 use Rattle.rv_answers.specs.declared.command.Command.{Command}
-use Rattle.rv_answers.specs.declared.command.Command.TheVariants.{Step, Over, Moves, Where, Backtrace, Break, Clear, Registers, ControlRegister, Memory, Instruction, Traps, Edges, Why, Check, Profile, Display, Undisplay, Devices, Receive, Line, Save, Reload, Monitor, Help, Quit}
+use Rattle.rv_answers.specs.declared.command.Command.TheVariants.{Step, Over, Moves, Where, Backtrace, Break, Clear, Registers, ControlRegister, Memory, Instruction, Traps, Edges, Why, Check, Profile, Display, Undisplay, Watch, Unwatch, Devices, Receive, Line, Save, Reload, Monitor, Help, Quit}
 use Rattle.rv_answers.specs.declared.command.Command.TheVariants as command
 use Rattle.rv_answers.specs.declared.command.Move.TheVariants.{Go, Finish, Until, Trace, Back}
 
@@ -21,6 +21,7 @@ commands =
     (codes "p", ControlRegister) ∷ (codes "m mem x", Memory) ∷ (codes "i", Instruction) ∷
     (codes "t traps", Traps) ∷ (codes "e", Edges) ∷ (codes "why", Why) ∷ (codes "check", Check) ∷
     (codes "profile", Profile) ∷ (codes "display", Display) ∷ (codes "undisplay", Undisplay) ∷
+    (codes "watch", Watch) ∷ (codes "unwatch", Unwatch) ∷
     (codes "dev", Devices) ∷ (codes "rx", Receive) ∷ (codes "line", Line) ∷ (codes "save", Save) ∷ (codes "reload", Reload) ∷
     (codes "monitor", Monitor) ∷ (codes "help h", Help) ∷ (codes "q exit quit", Quit) ∷ []
 
@@ -53,6 +54,8 @@ help_word Check = codes "check"
 help_word Profile = codes "profile"
 help_word Display = codes "display"
 help_word Undisplay = codes "undisplay"
+help_word Watch = codes "watch"
+help_word Unwatch = codes "unwatch"
 help_word Devices = codes "dev"
 help_word Receive = codes "rx"
 help_word Line = codes "line"

@@ -49,6 +49,8 @@ pub enum Why {
     NoCommand,
     /// The files can't be written.
     NotWritten,
+    /// As many registers and words are watched as may be.
+    TooMany,
 }
 
 /// A command whose operands have no meaning.
@@ -127,6 +129,12 @@ pub enum Answer {
     Profiled(Profiled),
     /// `display`
     Display(Watch),
+    /// `watch` with a register or a word: it is watched
+    Watch(Watch),
+    /// `watch` alone
+    Watches(Many<Watch>),
+    /// `unwatch`, with the number of registers and words that were watched and are no more
+    Unwatched(usize),
     /// `help`, of a command or of all
     Help(Option<Command>),
     /// The first word of the line is no command.

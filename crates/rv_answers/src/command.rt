@@ -46,6 +46,8 @@ pub enum Command {
     Profile,
     Display,
     Undisplay,
+    Watch,
+    Unwatch,
     Devices,
     Receive,
     Line,
@@ -81,7 +83,7 @@ pub(crate) struct CommandRow {
 
 /// The commands by their words, in the order of the help: the first word is that of the help, and the others
 /// are as other tools have them.
-static COMMANDS: [(&str, CommandRow); 31] = [
+static COMMANDS: [(&str, CommandRow); 33] = [
     (
         "s step si",
         CommandRow {
@@ -177,7 +179,7 @@ static COMMANDS: [(&str, CommandRow); 31] = [
         CommandRow {
             command: Command::Break,
             form: "b [WHERE [if WHAT]]",
-            does: "sets a breakpoint at a line, an address or a name, which stops a run only if WHAT holds, as in `until`; or lists them",
+            does: "sets a breakpoint at a line, an address or a name, which stops a run only if WHAT holds, as in `until`; or lists them, and what is watched",
             example: "b 12",
         },
     ),
@@ -290,6 +292,24 @@ static COMMANDS: [(&str, CommandRow); 31] = [
         },
     ),
     (
+        "watch",
+        CommandRow {
+            command: Command::Watch,
+            form: "watch [REG|WHERE]",
+            does: "has each run stop after the first step that changes a register or a word; or lists what is watched",
+            example: "watch a0",
+        },
+    ),
+    (
+        "unwatch",
+        CommandRow {
+            command: Command::Unwatch,
+            form: "unwatch [REG|WHERE]",
+            does: "ends what was asked for by `watch`, of one or of all",
+            example: "unwatch a0",
+        },
+    ),
+    (
         "dev",
         CommandRow {
             command: Command::Devices,
@@ -330,7 +350,7 @@ static COMMANDS: [(&str, CommandRow); 31] = [
         CommandRow {
             command: Command::Reload,
             form: "reload",
-            does: "reads the source again and begins anew, with the same breakpoints by their lines, inputs and displays",
+            does: "reads the source again and begins anew, with the same breakpoints by their lines, watches, inputs and displays",
             example: "reload",
         },
     ),
@@ -440,6 +460,8 @@ pub fn command_word(command: Command) -> &'static str
         Command::Profile => "profile",
         Command::Display => "display",
         Command::Undisplay => "undisplay",
+        Command::Watch => "watch",
+        Command::Unwatch => "unwatch",
         Command::Devices => "dev",
         Command::Receive => "rx",
         Command::Line => "line",

@@ -62,7 +62,7 @@ fn offer_commands(nearest: &mut Nearest<'_>) {
 }
 
 /// Words of gdb, with what to type here.
-static OTHERS: [(&str, &str); 21] = [
+static OTHERS: [(&str, &str); 20] = [
     (
         "info",
         "`r` shows the registers, `b` the breakpoints, `t` the traps, `dev` the devices",
@@ -86,11 +86,13 @@ static OTHERS: [(&str, &str); 21] = [
     ("advance", "`until WHERE` goes on up to a place"),
     ("tbreak", "`until WHERE` goes on up to a place"),
     (
-        "watch",
-        "`until REG` or `until [WHERE]` goes on until it changes",
+        "rwatch",
+        "`watch [WHERE]` has runs stop where a word changes",
     ),
-    ("rwatch", "`until [WHERE]` goes on until a word changes"),
-    ("awatch", "`until [WHERE]` goes on until a word changes"),
+    (
+        "awatch",
+        "`watch [WHERE]` has runs stop where a word changes",
+    ),
     (
         "condition",
         "`b WHERE if REG = V` stops there only if it holds",

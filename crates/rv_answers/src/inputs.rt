@@ -2,6 +2,7 @@
 use crate::Printer;
 use crate::lines::Lines;
 use crate::moves::{BreakCondition, Breakpoint, Breakpoints, Cleared, Given, Saved};
+use crate::runs::append_watches;
 
 /// Appends the condition of a breakpoint.
 fn append_condition(condition: &[u8], text: &mut Printer) {
@@ -44,6 +45,7 @@ impl Lines<'_> {
             append_condition_at(breaks.conditions.items(), place.address, text);
             text.end();
         }
+        append_watches(breaks.watches.items(), text);
     }
 
     /// Appends that no breakpoint is at a place.

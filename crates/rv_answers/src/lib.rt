@@ -54,7 +54,7 @@ pub use lines::Lines;
 pub use many::{Many, push};
 pub use memory::escapes;
 pub use moves::{
-    Aim, BreakCondition, Breakpoint, Breakpoints, Cleared, Ending, Given, Run, Saved, Step,
+    Aim, BreakCondition, Breakpoint, Breakpoints, Change, Cleared, Ending, Given, Run, Saved, Step,
     Stepped, Target, Trace, Watch,
 };
 pub use origin::{Origin, Write};

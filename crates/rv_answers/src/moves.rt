@@ -34,6 +34,16 @@ pub struct Watch {
     pub value: Option<u32>,
 }
 
+/// What is watched, with its values before a step that changed it and after it, if it had some.
+#[derive(Clone, Copy)]
+pub struct Change {
+    pub target: Target,
+    /// Its value before the step.
+    pub before: Option<u32>,
+    /// Its value after it.
+    pub value: Option<u32>,
+}
+
 /// What a run went on for.
 #[derive(Clone, Copy)]
 pub enum Aim {
@@ -64,6 +74,8 @@ pub struct Run {
     pub steps: u64,
     /// The registers that it changed, with their values now.
     pub changed: Many<RegisterValue>,
+    /// What its last step changed of what is watched.
+    pub watched: Many<Change>,
     /// Where the board stands.
     pub standing: Standing,
 }
@@ -122,6 +134,8 @@ pub struct Breakpoints {
     pub places: Many<Place>,
     /// The conditions of those that have one, in the order in which they were given.
     pub conditions: Many<BreakCondition>,
+    /// What is watched, in the order in which it was asked for.
+    pub watches: Many<Watch>,
 }
 
 /// A place without a breakpoint.

@@ -163,6 +163,7 @@ impl Lines<'_> {
             Why::NoLevel => want(word, "a source from 1 to 31 and 0 or 1 are wanted", text),
             Why::NoCommand => text.refuse(word, operand, "is no command; `help` shows them all\n"),
             Why::NotWritten => say_of(word, "the files can't be written\n", text),
+            Why::TooMany => say_of(word, "at most 16 registers and words are watched\n", text),
         }
     }
 }

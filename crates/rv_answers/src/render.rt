@@ -13,7 +13,7 @@ use crate::lines::Lines;
 use crate::looks::{append_count, append_edges};
 use crate::memory::append_dump;
 use crate::registers::append_register;
-use crate::runs::append_display;
+use crate::runs::{append_all_watches, append_display, append_unwatched, append_watches};
 use crate::standing::{append_halt, append_stuck};
 use crate::values::RegisterValue;
 
@@ -84,6 +84,9 @@ impl Lines<'_> {
             Answer::Checked(checked) => self.append_checked(checked, text),
             Answer::Profiled(profile) => self.append_profile(profile, text),
             Answer::Display(watch) => append_display(*watch, text),
+            Answer::Watch(watch) => append_watches(&[*watch], text),
+            Answer::Watches(watches) => append_all_watches(watches.items(), text),
+            Answer::Unwatched(count) => append_unwatched(*count, text),
             Answer::Help(command) => append_help(*command, text),
             Answer::NoCommand(word) => append_unknown(word.items(), text),
             Answer::TooLong => text.say("a line has at most 1024 bytes\n"),

@@ -2,7 +2,7 @@
 use crate::Printer;
 use crate::lines::Lines;
 use crate::many::Many;
-use crate::moves::{Aim, Ending, Run, Step, Stepped, Target, Trace, Watch};
+use crate::moves::{Aim, Change, Ending, Run, Step, Stepped, Target, Trace, Watch};
 use crate::registers::{append_register, append_value, register_name};
 use crate::standing::{append_halt, append_stuck};
 use crate::traps::append_trap;
@@ -45,20 +45,73 @@ fn append_target(target: Target, text: &mut Printer) {
     }
 }
 
+/// Appends the value of what is watched, if it has one.
+fn append_watched_value(value: Option<u32>, text: &mut Printer) {
+    match value {
+        Some(word) => append_value(word, text),
+        None => text.say("--------"),
+    }
+}
+
 /// Appends what is watched, with its value.
 pub(crate) fn append_watched(watch: Watch, text: &mut Printer) {
     append_target(watch.target, text);
     text.say(" = ");
-    match watch.value {
-        Some(word) => append_value(word, text),
-        None => text.say("--------"),
+    append_watched_value(watch.value, text);
+}
+
+/// Appends what a step changed of what is watched, as the rest of a line.
+fn append_changes(changes: &[Change], text: &mut Printer) {
+    let mut before = ": ";
+    for change in changes {
+        text.say(before);
+        append_target(change.target, text);
+        text.say(" = ");
+        append_watched_value(change.value, text);
+        text.say(", before ");
+        append_watched_value(change.before, text);
+        before = "; ";
     }
+    text.end();
+}
+
+/// Appends that registers and words are watched, each as a line.
+pub(crate) fn append_watches(watches: &[Watch], text: &mut Printer) {
+    for watch in watches {
+        text.say("watching ");
+        append_display(*watch, text);
+    }
+}
+
+/// Appends what is watched, or that nothing is.
+pub(crate) fn append_all_watches(watches: &[Watch], text: &mut Printer) {
+    if watches.is_empty() {
+        text.say("nothing is watched; `help watch` shows how to watch\n");
+    }
+    append_watches(watches, text);
+}
+
+/// Appends how many registers and words are watched no more.
+pub(crate) fn append_unwatched(count: usize, text: &mut Printer) {
+    if count == 0 {
+        return text.say("unwatch: nothing of it is watched\n");
+    }
+    let count = count as u64;
+    text.fill("%d watch%{es||es} ended\n", &[count, count]);
 }
 
 /// Appends what is watched, with its value, as a line.
 pub(crate) fn append_display(watch: Watch, text: &mut Printer) {
     append_watched(watch, text);
     text.end();
+}
+
+/// Appends what the step with which the board halted changed of what is watched.
+fn append_halting(changes: &[Change], text: &mut Printer) {
+    if !changes.is_empty() {
+        text.say("watched");
+        append_changes(changes, text);
+    }
 }
 
 /// Returns how it is told that as many steps were taken as were asked for.
@@ -107,7 +160,8 @@ impl Lines<'_> {
     fn append_ending(self, run: &Run, text: &mut Printer) {
         let steps = run.steps;
         match run.ending {
-            Ending::Halted | Ending::Stuck => {}
+            Ending::Stuck => {}
+            Ending::Halted => append_halting(run.watched.items(), text),
             Ending::Breakpoint => {
                 let is_aim = matches!(run.aim, Aim::Breakpoint) as u64;
                 let form = "breakpoint after %d step%{s||s}%{, before the goal is reached|}\n";
@@ -115,7 +169,10 @@ impl Lines<'_> {
             }
             Ending::Reached => {
                 text.fill("stopped after %d step%{s||s}", &[steps, steps]);
-                self.append_reached(run.aim, text);
+                if run.watched.items().is_empty() {
+                    return self.append_reached(run.aim, text);
+                }
+                append_changes(run.watched.items(), text);
             }
             Ending::Limit => text.fill(limit_form(run.aim), &[steps, steps]),
         }

@@ -56,6 +56,7 @@ use Rattle.rv_answers.specs.declared.moves.Aim.TheVariants as aims
 use Rattle.rv_answers.specs.declared.moves.BreakCondition.{BreakCondition}
 use Rattle.rv_answers.specs.declared.moves.Breakpoint.{Breakpoint}
 use Rattle.rv_answers.specs.declared.moves.Breakpoints.{Breakpoints}
+use Rattle.rv_answers.specs.declared.moves.Change.{Change}
 use Rattle.rv_answers.specs.declared.moves.Cleared.{Cleared}
 use Rattle.rv_answers.specs.declared.moves.Ending.{Ending}
 use Rattle.rv_answers.specs.declared.moves.Ending.TheVariants as endings
@@ -254,11 +255,15 @@ target_data (targets.Word a) = object (members (("address", natural a) ∷ []))
 unfoldable pub watch_data : Watch → Data
 watch_data w = object (members (("target", target_data w.target) ∷ ("value", option_data natural w.value) ∷ []))
 
+unfoldable pub change_data : Change → Data
+change_data c = object (members (("target", target_data c.target) ∷ ("before", option_data natural c.before)
+    ∷ ("value", option_data natural c.value) ∷ []))
+
 unfoldable pub run_data : List (List ℕ × ℕ) → Run → Data
 run_data ls r = kind "ended" (("ending", ending_data r.ending) ∷ ("aim", aim_data r.aim)
     ∷ ("trap", option_data (trap_data ls) (met r.aim)) ∷ ("watch", option_data watch_data (watched r.aim))
     ∷ ("steps", natural r.steps) ∷ ("changed", list_data register_data r.changed)
-    ∷ ("standing", standing_data ls r.standing) ∷ [])
+    ∷ ("watched", list_data change_data r.watched) ∷ ("standing", standing_data ls r.standing) ∷ [])
 
 unfoldable pub step_data : List (List ℕ × ℕ) → Step → Data
 step_data ls s = object (members (("number", natural s.number) ∷ ("place", place_data ls s.place)
@@ -281,7 +286,8 @@ break_condition_data c = object (members (("address", natural c.address) ∷ ("t
 
 unfoldable pub breakpoints_data : List (List ℕ × ℕ) → Breakpoints → Data
 breakpoints_data ls b = kind "breakpoints" (("places", list_data (place_data ls) b.places)
-    ∷ ("conditions", list_data break_condition_data b.conditions) ∷ [])
+    ∷ ("conditions", list_data break_condition_data b.conditions)
+    ∷ ("watches", list_data watch_data b.watches) ∷ [])
 
 unfoldable pub cleared_data : List (List ℕ × ℕ) → Cleared → Data
 cleared_data ls c = kind "cleared" (("place", place_data ls c.place) ∷ ("was_there", boolean c.was_there) ∷ [])
@@ -452,6 +458,7 @@ why_data why.NoBytes = string (codes "no_bytes")
 why_data why.NoLevel = string (codes "no_level")
 why_data why.NoCommand = string (codes "no_command")
 why_data why.NotWritten = string (codes "not_written")
+why_data why.TooMany = string (codes "too_many")
 
 -- the address at which no line is
 unfoldable pub lineless : Why → Option ℕ
@@ -496,6 +503,9 @@ answer_data ls (answers.Backtrace backtrace) = backtrace_data backtrace
 answer_data ls (answers.Checked checked) = checked_data checked
 answer_data ls (answers.Profiled profile) = profiled_data profile
 answer_data ls (answers.Display watch) = kind "display" (("watch", watch_data watch) ∷ [])
+answer_data ls (answers.Watch watch) = kind "watch" (("watch", watch_data watch) ∷ [])
+answer_data ls (answers.Watches watches) = kind "watches" (("watches", list_data watch_data watches) ∷ [])
+answer_data ls (answers.Unwatched count) = kind "unwatched" (("ended", natural count) ∷ [])
 answer_data ls (answers.Help command) = kind "help" (("command", option_data command_data command) ∷ [])
 answer_data ls (answers.NoCommand word) = kind "no_command" (("word", text_data word) ∷ [])
 answer_data ls answers.TooLong = kind "too_long" []

@@ -41,6 +41,7 @@ fn word_of(why: Why) -> &'static str
         Why::NoLevel => "no_level",
         Why::NoCommand => "no_command",
         Why::NotWritten => "not_written",
+        Why::TooMany => "too_many",
     }
 }
 
@@ -118,6 +119,9 @@ impl ToJson for Answer {
             Answer::Checked(checked) => checked.send(names, out),
             Answer::Profiled(profile) => profile.send(names, out),
             Answer::Display(watch) => send_one("display", "watch", watch, names, out),
+            Answer::Watch(watch) => send_one("watch", "watch", watch, names, out),
+            Answer::Watches(watches) => send_one("watches", "watches", watches, names, out),
+            Answer::Unwatched(count) => send_one("unwatched", "ended", count, names, out),
             Answer::Help(command) => send_one("help", "command", command, names, out),
             Answer::NoCommand(word) => send_one("no_command", "word", &Text(word), names, out),
             Answer::TooLong => send_kind("too_long", names, out),

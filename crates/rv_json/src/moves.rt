@@ -1,5 +1,5 @@
 //! What the commands that move the board answer, and those that change breakpoints, give inputs or save.
-ghost use Rattle.rv_json.specs.Json.{aim_data, break_condition_data, breakpoint_data, breakpoints_data, cleared_data, ending_data, given_data, met, option_data, run_data, saved_data, step_data, stepped_data, target_data, text_data, trace_data, watch_data, watched};
+ghost use Rattle.rv_json.specs.Json.{aim_data, break_condition_data, breakpoint_data, breakpoints_data, change_data, cleared_data, ending_data, given_data, met, option_data, run_data, saved_data, step_data, stepped_data, target_data, text_data, trace_data, watch_data, watched};
 ghost use Rattle.serde_json.specs.Data.{string};
 ghost use Rattle.std.specs.Prelude.{◌≡◌};
 
@@ -7,8 +7,8 @@ use crate::names::Names;
 use crate::object::send_members;
 use crate::sent::{Text, ToJson, send_null, send_word};
 use rv_answers::{
-    Aim, BreakCondition, Breakpoint, Breakpoints, Cleared, Ending, Given, Many, Run, Saved, Step,
-    Stepped, Target, Trace, Trap, Watch,
+    Aim, BreakCondition, Breakpoint, Breakpoints, Change, Cleared, Ending, Given, Many, Run, Saved,
+    Step, Stepped, Target, Trace, Trap, Watch,
 };
 use serde::Serializer;
 
@@ -89,6 +89,15 @@ impl ToJson for Watch {
     }
 }
 
+impl ToJson for Change {
+    ghost json = { λ _ c. change_data c };
+
+    #[tactic(auto, unfolding(crate::specs::Json::change_data))]
+    fn send<S: Serializer>(&self, names: &Names<'_>, out: &mut S) -> Result<(), S::Error> {
+        send_members!(self, names, out, target, before, value)
+    }
+}
+
 impl ToJson for Run {
     ghost json = { λ ls r. run_data ls r };
 
@@ -105,6 +114,7 @@ impl ToJson for Run {
             watch = watched(self.aim),
             steps,
             changed,
+            watched,
             standing
         )
     }
@@ -183,7 +193,15 @@ impl ToJson for Breakpoints {
 
     #[tactic(auto, unfolding(crate::specs::Json::breakpoints_data))]
     fn send<S: Serializer>(&self, names: &Names<'_>, out: &mut S) -> Result<(), S::Error> {
-        send_members!(self, names, out, kind = "breakpoints", places, conditions)
+        send_members!(
+            self,
+            names,
+            out,
+            kind = "breakpoints",
+            places,
+            conditions,
+            watches
+        )
     }
 }
 
