@@ -11,7 +11,7 @@ use Rattle.rv_recording.specs.Recording.{RecordingState, with_timed}
 use Rattle.rv_monitor.specs.Stops.{may_step}
 use Rattle.rv_recording.proofs.Counting.{steps_within}
 use Rattle.rv_lab.specs.Runs.{Leaves}
-use Rattle.rv_lab.specs.Commands.{IsWithin, begun, monitored_run, piece_most, piece_steps, planned, run_ends, run_of, stepped, with_session}
+use Rattle.rv_lab.specs.Commands.{IsWithin, begun, monitored_run, piece_most, piece_steps, planned, run_ends, run_of, stepped, stops_of, with_session}
 use Rattle.rv_lab.specs.Support.Short.{GoesOnWith, Starts, Steps}
 use Rattle.rv_lab.specs.Refusals.{Leads, RunsOut, StopsShort, by_hand, due, nowhere, steps}
 use Rattle.rv_asm.specs.Lines.{Located}
@@ -55,7 +55,7 @@ unmoved n old new e = same_taken n old new (ap (λ (l : LabState). (timed l).tak
 goes : (p : Plan) (old new : LabState) → GoesOnWith p old new → IsWithin (max old.piece 1) old new
 goes p old new g =
     let most : piece_steps p old ≤ min p.left (max old.piece 1) =
-    steps_within (run_ends old.guards p.goal old.recording.session) (piece_most p old) in
+    steps_within (run_ends (stops_of old) p.goal old.recording.session) (piece_most p old) in
     let now = ap (λ (l : LabState). (timed l).taken) g ∙ taken_after (timed old) (piece_steps p old) in
     omega (arith, most, now)
 
@@ -125,6 +125,8 @@ within (orders.Origin t) old new w = same_taken _ old new (ap (λ (l : LabState)
 within (orders.Break a) old new w = same_taken _ old new (ap (λ (l : LabState). (timed l).taken) w)
 within (orders.BreakIf g) old new w = same_taken _ old new (ap (λ (l : LabState). (timed l).taken) w)
 within (orders.Clear a) old new w = same_taken _ old new (ap (λ (l : LabState). (timed l).taken) w)
+within (orders.Watch a) old new w = same_taken _ old new (ap (λ (l : LabState). (timed l).taken) w)
+within (orders.Unwatch a) old new w = same_taken _ old new (ap (λ (l : LabState). (timed l).taken) w)
 within (orders.Give inputs) old new w =
     same_taken _ old new (ap (λ (l : LabState). (timed l).taken) w ∙ taken_given inputs (timed old))
 within (orders.Monitor line) old new w =

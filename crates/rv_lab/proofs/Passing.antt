@@ -1,26 +1,26 @@
 -- Runs past breakpoints whose condition doesn't hold.
-use Rattle.std.proofs.Common.{◌≡◌, ◌∙◌, ℕ, zero, suc, ◌+◌, ◌-◌, ◌<◌, ◌≤◌, Bool, true, false, List, refl, sym, ap, subst, arith, ⊎_elim}
+use Rattle.std.proofs.Common.{◌≡◌, ◌∙◌, ℕ, zero, suc, ◌+◌, ◌-◌, ◌<◌, Bool, true, false, List, refl, sym, ap, subst, arith, ⊎_elim}
 use Rattle.std.proofs.lemmas.Bool.{cases_lt, false≢true}
 use Rattle.std.specs.FinSet as set
 use Rattle.std.specs.Prelude.{◌&&◌, nat_lt, is_some, if◌then◌else◌, option_and_then, unwrap_or, Option, Some, None}
 use Rattle.rv_board.specs.Support.State.{halted_of, pc_of}
-use Rattle.rv_monitor.specs.State.{IsInTime, SessionState, TimedState, after, with_due}
+use Rattle.rv_monitor.specs.State.{IsInTime, SessionState, after}
 use Rattle.rv_monitor.specs.Stops.{steps_between}
 use Rattle.rv_monitor.proofs.Sets.{no_member}
-use Rattle.rv_monitor.proofs.Steps.{after_more, in_time_after}
 use Rattle.rv_recording.specs.Recording.{RecordingState}
 use Rattle.rv_recording.specs.Refused.{IsRefusedIn, NoneEnds}
 use Rattle.rv_recording.specs.Until.{HasRun, steps_of}
 use Rattle.rv_recording.specs.declared.until.End.{End}
 use Rattle.rv_recording.specs.declared.until.End.TheVariants.{Halted, Reached, Breakpoint, Limit, Stuck}
-use Rattle.rv_recording.proofs.Counting.{all_steps, joins, over_at, over_or_all, same_steps, steps_within, takes_more}
-use Rattle.rv_lab.specs.Commands.{goal_after, run_ends}
+use Rattle.rv_recording.proofs.Counting.{all_steps, over_at, over_or_all, steps_within, takes_more}
+use Rattle.rv_lab.specs.Commands.{goal_after, guarded_ends}
 use Rattle.rv_lab.specs.Guards.{end_here, passing}
 use Rattle.rv_lab.specs.Support.Short.{plain_ends}
 use Rattle.rv_lab.specs.declared.guard.Guard.{Guard}
 use Rattle.rv_lab.specs.declared.plan.Goal.{Goal}
 use Rattle.rv_lab.specs.declared.plan.Goal.TheVariants as goal
-use Rattle.rv_lab.proofs.Pieces.{ends_later, goal_later, none_of}
+use Rattle.rv_lab.proofs.Parts.{Rests, aims_at, goes_at}
+use Rattle.rv_lab.proofs.Pieces.{guarded_later, none_of}
 use Rattle.rv_lab.proofs.Runs.{end_is, taken_after}
 
 -- ---- the ends of a run by those of one without conditions
@@ -41,7 +41,7 @@ past_any gs s n =
     no_break gs (record s { timed = after s.timed n }) (set.contains set.empty (pc_of b)) (halted_of b) (nat_lt 0 n)
     (nat_lt (after s.timed n).taken s.limit) (sym (no_member (pc_of b)))
 
-is_passing : (gs : List Guard) (g : Goal) (s : SessionState) (n : ℕ) → run_ends gs g s n ≡ passing gs s (plain_ends g s) n
+is_passing : (gs : List Guard) (g : Goal) (s : SessionState) (n : ℕ) → guarded_ends gs g s n ≡ passing gs s (plain_ends g s) n
 is_passing gs goal.Count s n = past_any gs s n
 is_passing gs goal.Trace s n = past_any gs s n
 is_passing gs goal.Break s n = refl
@@ -56,7 +56,7 @@ module _ (ends : ℕ → Option End) where
       ⊎_elim (λ less. before i less)
       (λ more. let same : i ≡ k = omega (arith, l, more) in ap ends same ∙ none_of (ends k) is) (cases_lt i k)
 
-  none_before : (m : ℕ) → NoneEnds ends (steps_of ends m)
+  pub none_before : (m : ℕ) → NoneEnds ends (steps_of ends m)
   unfolding steps_of
   none_before zero i l = absurd (omega (arith, l))
   none_before (suc m) i l = none_by (is_some (ends (steps_of ends m))) (steps_of ends m) refl (none_before m) i l
@@ -108,16 +108,12 @@ has_moved g s (suc n) e = omega arith
 
 -- ---- a part of a run, up to where it is over without conditions
 
-taken_due : (s : TimedState) → (with_due s).taken ≡ s.taken
-unfolding with_due
-taken_due s = refl
-
 module _ (gs : List Guard) (g : Goal) (s : SessionState) (m : ℕ) where
   abbrev plain : ℕ → Option End
   plain = plain_ends g s
 
   abbrev full : ℕ → Option End
-  full = run_ends gs g s
+  full = guarded_ends gs g s
 
   abbrev k : ℕ
   k = steps_of plain m
@@ -179,76 +175,13 @@ module _ (gs : List Guard) (g : Goal) (s : SessionState) (m : ℕ) where
         is_passing gs g s k ∙ (ap (option_and_then (end_here gs there)) came
         ∙ subst (λ (x : End). end_here gs there x ≡ None) at none)
 
-    abbrev rest : ℕ → Option End
-    rest = run_ends gs (goal_after g s.timed k) there
+    same_rest : (i : ℕ) → guarded_ends gs (goal_after g s.timed k) there i ≡ full (k + i)
+    same_rest i = guarded_later s k h gs g (ap is_some open_here) i
 
-    same_rest : (i : ℕ) → rest i ≡ full (k + i)
-    same_rest i = ends_later s k h gs g (ap is_some open_here) i
+-- ---- a part of the whole run
 
-    more : steps_of full m ≡ k + steps_of rest (m - k)
-    more =
-        let all : k + (m - k) ≡ m = omega (arith, steps_within plain m) in
-        let here : steps_of full k ≡ k = all_steps full k open_before in
-        let going : is_some (full (steps_of full k)) ≡ false =
-        ap (λ (n : ℕ). is_some (full n)) here ∙ ap is_some open_here in
-        sym (ap (steps_of full) all) ∙ (joins full k (m - k) going
-        ∙ (ap (λ (n : ℕ). n + steps_of (λ i. full (n + i)) (m - k)) here
-        ∙ ap (λ (n : ℕ). k + n) (sym (same_steps rest (λ i. full (k + i)) (λ i. ap is_some (same_rest i)) (m - k)))))
-
-    ran_on : (t : SessionState) (e : End) → HasRun rest (m - k) there t e → HasRun full m s t e
-    ran_on t e r =
-        let n = steps_of rest (m - k) in record {
-          state = r.state ∙ ap (λ (x : TimedState). record s { timed = x })
-              (after_more s.timed k n h.rising ∙ ap (after s.timed) (sym more));
-          ended = r.ended ∙ ap (λ (o : Option End). unwrap_or o Limit) (same_rest n ∙ ap full (sym more));
-        }
-
-    refused_on : (t : SessionState) → IsRefusedIn rest (m - k) there t → IsRefusedIn full m s t
-    refused_on t r =
-        let j = steps_between there.timed t.timed in
-        let now : t.timed.taken ≡ (with_due (after there.timed j)).taken = ap (λ (u : SessionState). u.timed.taken) r.state in
-        let between : steps_between s.timed t.timed ≡ k + j =
-        omega (arith, now, taken_due (after there.timed j), taken_after there.timed j, taken_after s.timed k) in
-        record {
-          within = omega (arith, between, r.within, more);
-          state = r.state ∙ ap (λ (x : TimedState). record s { timed = with_due x })
-              (after_more s.timed k j h.rising ∙ ap (after s.timed) (sym between));
-          next_writes = r.next_writes;
-        }
-
--- ---- the whole run
-
--- what is left of a run makes it whole
-pub record Rests (gs : List Guard) (g0 : Goal) (r0 : RecordingState) (most : ℕ) (g : Goal) (r : RecordingState) (left : ℕ) : Type 0 where
-  pub in_time : IsInTime r.session.timed
-  pub others : r ≡ record r0 { session = r.session }
-  pub rises : r0.session.timed.taken ≤ r.session.timed.taken
-  pub ran : (t : SessionState) (e : End) → HasRun (run_ends gs g r.session) left r.session t e
-      → HasRun (run_ends gs g0 r0.session) most r0.session t e
-  pub refused : (t : SessionState) → IsRefusedIn (run_ends gs g r.session) left r.session t
-      → IsRefusedIn (run_ends gs g0 r0.session) most r0.session t
-  pub aims : (n : ℕ) → goal_after g r.session.timed n
-      ≡ goal_after g0 r0.session.timed (steps_between r0.session.timed r.session.timed + n)
-
-pub begins : (gs : List Guard) (g : Goal) (r : RecordingState) (most : ℕ) (s : SessionState) → s ≡ r.session
-    → IsInTime s.timed → Rests gs g r most g r most
-begins gs g r most s e h = record {
-  in_time = subst (λ (x : SessionState). IsInTime x.timed) e h;
-  others = refl;
-  rises = omega arith;
-  ran = λ t end x. x;
-  refused = λ t x. x;
-  aims = λ n. none_more n;
-}
-  where
-    none_more : (n : ℕ) → goal_after g r.session.timed n
-        ≡ goal_after g r.session.timed (steps_between r.session.timed r.session.timed + n)
-    none_more n =
-        let same : n ≡ steps_between r.session.timed r.session.timed + n = omega arith in ap (goal_after g r.session.timed) same
-
--- a part of it
 module _ (gs : List Guard) (g0 : Goal) (r0 : RecordingState) (most : ℕ) (g : Goal) (r : RecordingState) (left : ℕ)
-    (before : Rests gs g0 r0 most g r left) where
+    (before : Rests (guarded_ends gs) g0 r0 most g r left) where
   abbrev n : ℕ
   n = steps_of (plain_ends g r.session) left
 
@@ -258,25 +191,19 @@ module _ (gs : List Guard) (g0 : Goal) (r0 : RecordingState) (most : ℕ) (g : G
 
   pub is_over : (t s : SessionState) (end said : End) (o : Option End)
       → HasRun (plain_ends g r.session) left r.session t end → s ≡ t → o ≡ end_here gs s end → o ≡ Some said
-      → HasRun (run_ends gs g0 r0.session) most r0.session t said
+      → HasRun (guarded_ends gs g0 r0.session) most r0.session t said
   is_over t s end said o run at here is =
       before.ran t said (finishes gs g r.session left t end said run
       (subst (λ (u : SessionState). end_here gs u end ≡ Some said) at (sym here ∙ is)))
 
   pub is_refused : (t : SessionState) → IsRefusedIn (plain_ends g r.session) left r.session t
-      → IsRefusedIn (run_ends gs g0 r0.session) most r0.session t
+      → IsRefusedIn (guarded_ends gs g0 r0.session) most r0.session t
   is_refused t out = before.refused t (refuses gs g r.session left t out)
-
-  pub others_still : (q : RecordingState) → q ≡ record r { session = q.session } → q ≡ record r0 { session = q.session }
-  others_still q e = e ∙ ap (λ (x : RecordingState). record x { session = q.session }) before.others
 
   pub aims_still : (h : Goal) (t : SessionState) (end : End) → HasRun (plain_ends g r.session) left r.session t end
       → h ≡ goal_after g r.session.timed (steps_between r.session.timed t.timed)
       → h ≡ goal_after g0 r0.session.timed (steps_between r0.session.timed t.timed)
-  aims_still h t end run e =
-      let all : steps_between r0.session.timed r.session.timed + steps_between r.session.timed t.timed
-      ≡ steps_between r0.session.timed t.timed = omega (arith, before.rises, took t run.state) in
-      e ∙ (before.aims (steps_between r.session.timed t.timed) ∙ ap (goal_after g0 r0.session.timed) all)
+  aims_still h t end run e = aims_at (guarded_ends gs) g0 r0 most g r left before n h t run.state e
 
   -- it goes on
   module _ (q : RecordingState) (s : SessionState) (end : End) (o : Option End)
@@ -303,34 +230,11 @@ module _ (gs : List Guard) (g0 : Goal) (r0 : RecordingState) (most : ℕ) (g : G
             steps_within (plain_ends g r.session) left,
           )
 
-      abbrev further : RecordingState
-      further = record r { session = landing }
-
-      goes : Rests gs g0 r0 most (goal_after g r.session.timed n) further (left - n)
-      goes = record {
-        in_time = in_time_after r.session.timed n before.in_time;
-        others = ap (λ (x : RecordingState). record x { session = landing }) before.others;
-        rises = omega (arith, before.rises, taken_after r.session.timed n);
-        ran = λ t e x. before.ran t e (ran_on gs g r.session left end before.in_time run.ended none_there t e x);
-        refused = λ t x. before.refused t (refused_on gs g r.session left end before.in_time run.ended none_there t x);
-        aims = λ i. aims_on i;
-      }
-        where
-          aims_on : (i : ℕ) → goal_after (goal_after g r.session.timed n) landing.timed i
-              ≡ goal_after g0 r0.session.timed (steps_between r0.session.timed landing.timed + i)
-          aims_on i =
-              let all : steps_between r0.session.timed r.session.timed + (n + i)
-              ≡ steps_between r0.session.timed landing.timed + i =
-              omega (arith, before.rises, taken_after r.session.timed n) in
-              goal_later r.session n before.in_time g i ∙ (before.aims (n + i) ∙ ap (goal_after g0 r0.session.timed) all)
-
       pub goes_on : (h : Goal) → h ≡ goal_after g r.session.timed (steps_between r.session.timed q.session.timed)
-          → q ≡ record r { session = q.session } → Rests gs g0 r0 most h q less
+          → q ≡ record r { session = q.session } → Rests (guarded_ends gs) g0 r0 most h q less
       goes_on h aim others =
-          let between : steps_between r.session.timed q.session.timed ≡ n = omega (arith, took q.session run.state) in
-          let aim_is : h ≡ goal_after g r.session.timed n = aim ∙ ap (goal_after g r.session.timed) between in
-          let q_is : q ≡ further = others ∙ ap (λ (u : SessionState). record r { session = u }) run.state in
           let less_is : less ≡ left - n = rest ∙ ap (λ (i : ℕ). left - i) x_is in
-          subst (λ (a : Goal). Rests gs g0 r0 most a q less) (sym aim_is)
-          (subst (λ (a : RecordingState). Rests gs g0 r0 most (goal_after g r.session.timed n) a less) (sym q_is)
-          (subst (λ (i : ℕ). Rests gs g0 r0 most (goal_after g r.session.timed n) further i) (sym less_is) goes))
+          goes_at (guarded_ends gs) g0 r0 most g r left before n (steps_within (plain_ends g r.session) left)
+          (open_before gs g r.session left)
+          (open_here gs g r.session left end before.in_time run.ended none_there)
+          (same_rest gs g r.session left end before.in_time run.ended none_there) q h less run.state aim others less_is

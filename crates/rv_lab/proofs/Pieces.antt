@@ -1,24 +1,30 @@
 -- A run in pieces of any sizes.
-use Rattle.std.proofs.Common.{◌≡◌, ◌∙◌, ℕ, zero, suc, ◌+◌, ◌-◌, ◌≤◌, Bool, true, false, List, refl, sym, ap, subst, arith, ⊎_elim}
+use Rattle.std.proofs.Common.{◌≡◌, ◌∙◌, ℕ, zero, suc, ◌+◌, ◌-◌, ◌≤◌, Bool, true, false, List, [], ◌∷◌, refl, sym, ap, subst, arith, ⊎_elim}
 use Rattle.std.proofs.lemmas.Bool.{cases_lt, false≢true}
 use Rattle.std.proofs.lemmas.Bool.Decides.{nat_tests}
 use native.Mathlib.Numerals.{unary_clauses}
 use Rattle.std.specs.FinSet as set
-use Rattle.std.specs.Prelude.{◌&&◌, nat_lt, is_none, is_some, length, max, min, pred, if◌then◌else◌, option_and_then, Option, Some, None}
+use Rattle.std.specs.Prelude.{◌&&◌, nat_eq, nat_lt, not, is_none, is_some, length, max, min, pred, if◌then◌else◌, option_and_then, Option, Some, None}
+use Rattle.std.specs.List.{list_any}
+use Rattle.std.specs.Option.{option_eq}
+use Rattle.rv_board.specs.BoardState.{BoardState}
 use Rattle.rv_board.specs.Support.State.{halted_of, pc_of}
 use Rattle.rv_hart.specs.Step.{step}
 use Rattle.rv_monitor.specs.State.{Addresses, IsInTime, SessionState, TimedState, after, with_due}
 use Rattle.rv_monitor.proofs.Steps.{after_more, after_none, in_time_after}
 use Rattle.rv_recording.specs.Out.{is_out, open_at}
-use Rattle.rv_recording.specs.Until.{comes, end_at, holds, steps_of}
+use Rattle.rv_recording.specs.Until.{comes, end_at, holds, steps_of, watched_value}
 use Rattle.rv_recording.specs.declared.until.Condition.{Condition}
 use Rattle.rv_recording.specs.declared.until.End.{End}
-use Rattle.rv_recording.specs.declared.until.End.TheVariants.{Breakpoint, Stuck}
+use Rattle.rv_recording.specs.declared.until.Watched.{Watched}
+use Rattle.rv_recording.specs.declared.until.End.TheVariants.{Breakpoint, Halted, Stuck}
 use Rattle.rv_recording.proofs.Counting.{joins, joins_over, over_or_all, same_steps, steps_within}
 use Rattle.rv_lab.specs.Guards.{end_here, passing, stops}
 use Rattle.rv_lab.specs.declared.guard.Guard.{Guard}
 use Rattle.rv_lab.specs.State.{LabState, sent, timed}
-use Rattle.rv_lab.specs.Commands.{InPieces, cut, ended, goal_after, gone_on, piece_steps, plan_after, resumed_by, resumes_after, run_ends, tells_last, with_console, with_steps}
+use Rattle.rv_lab.specs.Support.Short.{watched_ends}
+use Rattle.rv_lab.specs.Watches.{changes_at, differs, watching}
+use Rattle.rv_lab.specs.Commands.{InPieces, Stops, cut, ended, goal_after, gone_on, guarded_ends, piece_steps, plan_after, resumed_by, resumes_after, run_ends, stops_of, tells_last, with_console, with_steps}
 use Rattle.rv_lab.specs.declared.plan.Plan.{Plan}
 use Rattle.rv_lab.specs.declared.plan.Goal.{Goal}
 use Rattle.rv_lab.specs.declared.plan.Goal.TheVariants as goal
@@ -60,6 +66,30 @@ none_of (Some x) e = absurd (false≢true (sym e))
 
 above : (n : ℕ) → nat_lt 0 (suc n) ≡ true
 above n = grind (arith, nat_tests)
+
+-- a board differs from itself in nothing
+same_number : (n : ℕ) → nat_eq n n ≡ true
+same_number n = grind (arith, nat_tests)
+
+same_option : (o : Option ℕ) → option_eq nat_eq o o ≡ true
+same_option None = refl
+same_option (Some n) = same_number n
+
+no_difference : (b : BoardState) (w : Watched) → differs b b w ≡ false
+unfolding differs
+no_difference b w = ap not (same_option (watched_value b w))
+
+pub no_change : (b : BoardState) (ws : List Watched) → list_any (differs b b) ws ≡ false
+no_change b [] = refl
+no_change b (w ∷ ws) = rw (no_difference b w) (no_change b ws)
+
+-- where a run isn't over, its last step changed nothing
+pub open_part : (changes : Bool) (o : Option End) → is_some (watching changes o) ≡ false
+    → (changes ≡ false) × (is_some o ≡ false)
+open_part false o e = (refl, e)
+open_part true None e = absurd (false≢true (sym e))
+open_part true (Some Halted) e = absurd (false≢true (sym e))
+open_part true (Some _) e = absurd (false≢true (sym e))
 
 module _ (s : SessionState) (k : ℕ) (h : IsInTime s.timed) where
   abbrev mid : SessionState
@@ -135,19 +165,47 @@ module _ (s : SessionState) (k : ℕ) (h : IsInTime s.timed) where
       ∙ (ap (λ (t : TimedState). holds c (step (with_due (after s.timed (k + j))).board.machine).1 t.board) (later (suc j))
       ∙ ap (λ (n : ℕ). holds c (step (with_due (after s.timed n)).board.machine).1 (after s.timed (k + suc j)).board) (sym one))
 
-  -- why the rest of a run is over
-  pub ends_later : (gs : List Guard) (g : Goal) → is_some (run_ends gs g s k) ≡ false → (i : ℕ)
-      → run_ends gs (goal_after g s.timed k) mid i ≡ run_ends gs g s (k + i)
-  ends_later gs goal.Count e i = rest_is (λ n. false) (λ n. false) set.empty (λ j. refl) e i
-  ends_later gs goal.Trace e i = rest_is (λ n. false) (λ n. false) set.empty (λ j. refl) e i
-  ends_later gs goal.Break e i = rest_past gs (λ n. false) (λ n. false) s.breakpoints.addresses (λ j. refl) e i
-  ends_later gs (goal.Out calls line) e i =
+  -- why the rest of a run is over where nothing is watched
+  pub guarded_later : (gs : List Guard) (g : Goal) → is_some (guarded_ends gs g s k) ≡ false → (i : ℕ)
+      → guarded_ends gs (goal_after g s.timed k) mid i ≡ guarded_ends gs g s (k + i)
+  guarded_later gs goal.Count e i = rest_is (λ n. false) (λ n. false) set.empty (λ j. refl) e i
+  guarded_later gs goal.Trace e i = rest_is (λ n. false) (λ n. false) set.empty (λ j. refl) e i
+  guarded_later gs goal.Break e i = rest_past gs (λ n. false) (λ n. false) s.breakpoints.addresses (λ j. refl) e i
+  guarded_later gs (goal.Out calls line) e i =
       rest_past gs (λ n. is_out line (open_at calls s.timed n) (after s.timed n).board)
       (λ n. is_out line (open_at (open_at calls s.timed k) mid.timed n) (after mid.timed n).board)
       s.breakpoints.addresses (λ j. ap (λ n. is_out line n (after mid.timed (suc j)).board) (open_later calls (suc j))
       ∙ ap (λ (t : TimedState). is_out line (open_at calls s.timed (k + suc j)) t.board) (later (suc j))) e i
-  ends_later gs (goal.Until c) e i =
+  guarded_later gs (goal.Until c) e i =
       rest_past gs (comes c s.timed) (comes c mid.timed) s.breakpoints.addresses (comes_later c) e i
+
+  -- its steps change what those of the whole run do
+  changes_later : (ws : List Watched) → changes_at ws s.timed k ≡ false → (i : ℕ)
+      → changes_at ws mid.timed i ≡ changes_at ws s.timed (k + i)
+  changes_later ws e zero =
+      let none : k + 0 ≡ k = omega arith in
+      no_change (after mid.timed 0).board ws ∙ sym (ap (changes_at ws s.timed) none ∙ e)
+  changes_later ws e (suc j) =
+      let one : pred (k + suc j) ≡ k + j = omega arith in
+      ap (λ (t : TimedState). list_any (differs t.board (after mid.timed (suc j)).board) ws) (later j)
+      ∙ (ap (λ (t : TimedState). list_any (differs (after s.timed (k + j)).board t.board) ws) (later (suc j))
+      ∙ ap (λ (n : ℕ). list_any (differs (after s.timed n).board (after s.timed (k + suc j)).board) ws) (sym one))
+
+  pub watched_later : (st : Stops) (g : Goal) → is_some (watched_ends st g s k) ≡ false → (i : ℕ)
+      → watched_ends st (goal_after g s.timed k) mid i ≡ watched_ends st g s (k + i)
+  watched_later st g e i =
+      let o = open_part (changes_at st.watches s.timed k) (guarded_ends st.guards g s k) e in
+      ap (λ (b : Bool). watching b (guarded_ends st.guards (goal_after g s.timed k) mid i)) (changes_later st.watches o.0 i)
+      ∙ ap (watching (changes_at st.watches s.timed (k + i))) (guarded_later st.guards g o.1 i)
+
+  -- why it is over
+  ends_later : (st : Stops) (g : Goal) → is_some (run_ends st g s k) ≡ false → (i : ℕ)
+      → run_ends st (goal_after g s.timed k) mid i ≡ run_ends st g s (k + i)
+  ends_later st goal.Count e i = guarded_later st.guards goal.Count e i
+  ends_later st goal.Trace e i = guarded_later st.guards goal.Trace e i
+  ends_later st goal.Break e i = watched_later st goal.Break e i
+  ends_later st (goal.Out calls line) e i = watched_later st (goal.Out calls line) e i
+  ends_later st (goal.Until c) e i = watched_later st (goal.Until c) e i
 
   pub goal_later : (g : Goal) (i : ℕ) → goal_after (goal_after g s.timed k) mid.timed i ≡ goal_after g s.timed (k + i)
   goal_later goal.Count i = refl
@@ -157,12 +215,12 @@ module _ (s : SessionState) (k : ℕ) (h : IsInTime s.timed) where
   goal_later (goal.Until c) i = refl
 
   -- what `c` goes on for after the rest
-  resumes_later : (gs : List Guard) (g : Goal) → is_some (run_ends gs g s k) ≡ false → (i : ℕ)
-      → resumes_after gs (goal_after g s.timed k) mid i ≡ resumes_after gs g s (k + i)
-  resumes_later gs g e i =
+  resumes_later : (st : Stops) (g : Goal) → is_some (run_ends st g s k) ≡ false → (i : ℕ)
+      → resumes_after st (goal_after g s.timed k) mid i ≡ resumes_after st g s (k + i)
+  resumes_later st g e i =
       ap (λ (o : Option End). if is_none o then resumed_by (goal_after (goal_after g s.timed k) mid.timed i) else goal.Break)
-      (ends_later gs g e i)
-      ∙ ap (λ (h : Goal). if is_none (run_ends gs g s (k + i)) then resumed_by h else goal.Break) (goal_later g i)
+      (ends_later st g e i)
+      ∙ ap (λ (h : Goal). if is_none (run_ends st g s (k + i)) then resumed_by h else goal.Break) (goal_later g i)
 
 -- ---- the whole run
 
@@ -170,12 +228,12 @@ module _ (s : SessionState) (k : ℕ) (h : IsInTime s.timed) where
 abbrev whole_of : Plan → LabState → ℕ → LabState
 whole_of p l n = record (with_console (with_steps n l)) {
   plan = None;
-  resumes = resumes_after l.guards p.goal l.recording.session n;
+  resumes = resumes_after (stops_of l) p.goal l.recording.session n;
   piece = 0;
 }
 
 abbrev whole : Plan → LabState → LabState
-whole p l = whole_of p l (steps_of (run_ends l.guards p.goal l.recording.session) p.left)
+whole p l = whole_of p l (steps_of (run_ends (stops_of l) p.goal l.recording.session) p.left)
 
 none_some : {A : Type 0} (o : Option A) (x : A) → o ≡ None → o ≡ Some x → ⊥
 none_some o x a b = cc
@@ -196,24 +254,24 @@ lost_by None true q e h = absurd cc
 lost_by None false q e h = refl
 lost_by (Some end) b q e h = absurd (false≢true (sym h))
 
-module _ (gs : List Guard) (p : Plan) (s : SessionState) (m : ℕ) where
+module _ (st : Stops) (p : Plan) (s : SessionState) (m : ℕ) where
   abbrev ends : ℕ → Option End
-  ends = run_ends gs p.goal s
+  ends = run_ends st p.goal s
 
   abbrev k : ℕ
   k = steps_of ends (min p.left m)
 
-  kept : (r : Plan) → plan_after gs p s k ≡ Some r
+  kept : (r : Plan) → plan_after st p s k ≡ Some r
       → (is_some (ends k) ≡ false) × (nat_lt k p.left ≡ true) × (record p { goal = goal_after p.goal s.timed k; left = p.left - k } ≡ r)
   unfolding plan_after
   kept r e = kept_by (ends k) (nat_lt k p.left) _ r e
 
-  lost : plan_after gs p s k ≡ None → is_some (ends k) ≡ false → nat_lt k p.left ≡ false
+  lost : plan_after st p s k ≡ None → is_some (ends k) ≡ false → nat_lt k p.left ≡ false
   unfolding plan_after
   lost e = lost_by (ends k) (nat_lt k p.left) _ e
 
   -- where no plan is left, the steps are all of the run
-  all_steps : plan_after gs p s k ≡ None → steps_of ends p.left ≡ k
+  all_steps : plan_after st p s k ≡ None → steps_of ends p.left ≡ k
   all_steps e = by_end (is_some (ends k)) refl
     where
       by_end : (b : Bool) → is_some (ends k) ≡ b → steps_of ends p.left ≡ k
@@ -228,8 +286,8 @@ module _ (gs : List Guard) (p : Plan) (s : SessionState) (m : ℕ) where
           ap (steps_of ends) (sym same)
 
   -- where one is, the rest of the run makes it whole
-  rest_steps : IsInTime s.timed → (r : Plan) → plan_after gs p s k ≡ Some r
-      → k + steps_of (run_ends gs r.goal (record s { timed = after s.timed k })) r.left ≡ steps_of ends p.left
+  rest_steps : IsInTime s.timed → (r : Plan) → plan_after st p s k ≡ Some r
+      → k + steps_of (run_ends st r.goal (record s { timed = after s.timed k })) r.left ≡ steps_of ends p.left
   rest_steps h r e =
       let now = kept r e in
       let full : k ≡ min p.left m = ⊎_elim
@@ -237,9 +295,9 @@ module _ (gs : List Guard) (p : Plan) (s : SessionState) (m : ℕ) where
       (λ enough. omega (arith, enough, steps_within ends (min p.left m)))
       (cases_lt k (min p.left m)) in
       let all : min p.left m + (p.left - k) ≡ p.left = omega (arith, full) in
-      subst (λ (q : Plan). k + steps_of (run_ends gs q.goal (record s { timed = after s.timed k })) q.left ≡ steps_of ends p.left) now.2
-      (ap (λ n. k + n) (same_steps (run_ends gs (goal_after p.goal s.timed k) (record s { timed = after s.timed k }))
-      (λ i. ends (k + i)) (λ i. ap is_some (ends_later s k h gs p.goal now.0 i)) (p.left - k))
+      subst (λ (q : Plan). k + steps_of (run_ends st q.goal (record s { timed = after s.timed k })) q.left ≡ steps_of ends p.left) now.2
+      (ap (λ n. k + n) (same_steps (run_ends st (goal_after p.goal s.timed k) (record s { timed = after s.timed k }))
+      (λ i. ends (k + i)) (λ i. ap is_some (ends_later s k h st p.goal now.0 i)) (p.left - k))
       ∙ (sym (joins ends (min p.left m) (p.left - k) now.0) ∙ ap (steps_of ends) all))
 
 -- ---- its pieces
@@ -249,25 +307,25 @@ no_pieces end _ (ended is) none = refl
 no_pieces end _ (cut l p n is rest) none = absurd (none_some l.plan p none is)
 
 whole_again : (p r : Plan) (l : LabState) (n : ℕ) → IsInTime (timed l)
-    → plan_after l.guards p l.recording.session (piece_steps p (record l { piece = n })) ≡ Some r
+    → plan_after (stops_of l) p l.recording.session (piece_steps p (record l { piece = n })) ≡ Some r
     → whole r (gone_on p (record l { piece = n })) ≡ whole p l
 whole_again p r l n h e =
     let s = l.recording.session in
     let k = piece_steps p (record l { piece = n }) in
-    let joined : after (after s.timed k) (steps_of (run_ends l.guards r.goal (record s { timed = after s.timed k })) r.left)
-    ≡ after s.timed (steps_of (run_ends l.guards p.goal s) p.left) =
-    after_more s.timed k _ h.rising ∙ ap (after s.timed) (rest_steps l.guards p s (max n 1) h r e) in
-    let now = kept l.guards p s (max n 1) r e in
-    let rest = steps_of (run_ends l.guards r.goal (record s { timed = after s.timed k })) r.left in
-    let same : resumes_after l.guards r.goal (record s { timed = after s.timed k }) rest
-    ≡ resumes_after l.guards p.goal s (steps_of (run_ends l.guards p.goal s) p.left) =
-    subst (λ (q : Plan). resumes_after l.guards q.goal (record s { timed = after s.timed k }) rest ≡ resumes_after l.guards p.goal s (k + rest)) now.2
-    (resumes_later s k h l.guards p.goal now.0 rest)
-    ∙ ap (resumes_after l.guards p.goal s) (rest_steps l.guards p s (max n 1) h r e) in
+    let joined : after (after s.timed k) (steps_of (run_ends (stops_of l) r.goal (record s { timed = after s.timed k })) r.left)
+    ≡ after s.timed (steps_of (run_ends (stops_of l) p.goal s) p.left) =
+    after_more s.timed k _ h.rising ∙ ap (after s.timed) (rest_steps (stops_of l) p s (max n 1) h r e) in
+    let now = kept (stops_of l) p s (max n 1) r e in
+    let rest = steps_of (run_ends (stops_of l) r.goal (record s { timed = after s.timed k })) r.left in
+    let same : resumes_after (stops_of l) r.goal (record s { timed = after s.timed k }) rest
+    ≡ resumes_after (stops_of l) p.goal s (steps_of (run_ends (stops_of l) p.goal s) p.left) =
+    subst (λ (q : Plan). resumes_after (stops_of l) q.goal (record s { timed = after s.timed k }) rest ≡ resumes_after (stops_of l) p.goal s (k + rest)) now.2
+    (resumes_later s k h (stops_of l) p.goal now.0 rest)
+    ∙ ap (resumes_after (stops_of l) p.goal s) (rest_steps (stops_of l) p s (max n 1) h r e) in
     ap (λ (t : TimedState). record l {
       recording = record l.recording { session = record s { timed = t } };
       plan = None;
-      resumes = resumes_after l.guards r.goal (record s { timed = after s.timed k }) rest;
+      resumes = resumes_after (stops_of l) r.goal (record s { timed = after s.timed k }) rest;
       piece = 0;
       told = length t.board.machine.bus.serial.sent;
     }) joined
@@ -278,23 +336,23 @@ told_all true o x y e = rw e refl
 told_all false o x y e = refl
 
 at_last : (p : Plan) (l : LabState) (n : ℕ)
-    → plan_after l.guards p l.recording.session (piece_steps p (record l { piece = n })) ≡ None
+    → plan_after (stops_of l) p l.recording.session (piece_steps p (record l { piece = n })) ≡ None
     → record (gone_on p (record l { piece = n })) { piece = 0 } ≡ whole p l
 at_last p l n none =
     let s = l.recording.session in
     let k = piece_steps p (record l { piece = n }) in
-    let done = record (with_steps k l) { resumes = resumes_after l.guards p.goal s k } in
-    ap (λ (x : ℕ). record done { plan = plan_after l.guards p s k; piece = 0; told = x })
-    (told_all (tells_last p) (plan_after l.guards p s k) l.told (sent done) none)
+    let done = record (with_steps k l) { resumes = resumes_after (stops_of l) p.goal s k } in
+    ap (λ (x : ℕ). record done { plan = plan_after (stops_of l) p s k; piece = 0; told = x })
+    (told_all (tells_last p) (plan_after (stops_of l) p s k) l.told (sent done) none)
     ∙ (ap (λ (o : Option Plan). record done { plan = o; piece = 0; told = sent done }) none
     ∙ ap (whole_of p l)
-    (sym (all_steps l.guards p s (max n 1) none)))
+    (sym (all_steps (stops_of l) p s (max n 1) none)))
 
 whole_by : (end l : LabState) (q : Plan) (n : ℕ) → IsInTime (timed l)
     → InPieces end (gone_on q (record l { piece = n }))
-    → ((r : Plan) → plan_after l.guards q l.recording.session (piece_steps q (record l { piece = n })) ≡ Some r
+    → ((r : Plan) → plan_after (stops_of l) q l.recording.session (piece_steps q (record l { piece = n })) ≡ Some r
     → record end { piece = 0 } ≡ whole r (gone_on q (record l { piece = n })))
-    → (o : Option Plan) → plan_after l.guards q l.recording.session (piece_steps q (record l { piece = n })) ≡ o
+    → (o : Option Plan) → plan_after (stops_of l) q l.recording.session (piece_steps q (record l { piece = n })) ≡ o
     → record end { piece = 0 } ≡ whole q l
 whole_by end l q n h rest again None none =
     let last : end ≡ gone_on q (record l { piece = n }) = no_pieces end _ rest none in
@@ -307,7 +365,7 @@ made_whole end _ p h (ended is) e = absurd (none_some end.plan p is e)
 made_whole end _ p h (cut l q n is rest) e =
     subst (λ (o : Plan). record end { piece = 0 } ≡ whole o l) (same_plan l.plan q p is e)
     (whole_by end l q n h rest (λ r some. made_whole end _ r (in_time_after (timed l) _ h) rest some)
-    (plan_after l.guards q l.recording.session (piece_steps q (record l { piece = n }))) refl)
+    (plan_after (stops_of l) q l.recording.session (piece_steps q (record l { piece = n }))) refl)
 
 pub join : (l a b : LabState) → IsInTime (timed l) → InPieces a l → InPieces b l
     → record a { piece = 0 } ≡ record b { piece = 0 }

@@ -17,8 +17,9 @@ use Rattle.rv_timeline.specs.declared.input.Input.{Input}
 use Rattle.rv_lab.specs.Guards.{end_here, stops}
 use Rattle.rv_lab.specs.declared.guard.Guard.{Guard}
 use Rattle.rv_lab.specs.State.{LabState, sent, timed}
-use Rattle.rv_lab.specs.Commands.{goal_after, gone_on, plan_after, resumed_by, resumes_after, run_ends, stepped, tells_last, with_inputs, with_piece, with_session, with_steps}
-use Rattle.rv_lab.specs.Support.Short.{Traced, end_now, rest_of, resumes_of, stepped_by}
+use Rattle.rv_lab.specs.Commands.{Stops, goal_after, gone_on, guarded_ends, plan_after, resumed_by, resumes_after, run_ends, stepped, stops_of, tells_last, with_inputs, with_piece, with_session, with_steps}
+use Rattle.rv_lab.specs.Support.Short.{Traced, end_now, rest_of, resumes_of, stepped_by, watched_ends}
+use Rattle.rv_lab.specs.Watches.{changes_at, watching}
 use Rattle.rv_lab.specs.declared.plan.Plan.{Plan}
 use Rattle.rv_lab.specs.declared.plan.Goal.{Goal}
 use Rattle.rv_lab.specs.declared.plan.Goal.TheVariants as goal
@@ -58,23 +59,52 @@ rest_past gs t p g n None false true l =
 rest_past gs t p g n None false false true = refl
 rest_past gs t p g n None false false false = refl
 
-rest_is : (gs : List Guard) (p : Plan) (g : Goal) (s : SessionState) (n : ℕ)
-    → rest_of p (goal_after p.goal s.timed n) (unwrap_or (run_ends gs g s n) Limit) n
-    ≡ (if is_none (run_ends gs g s n) && nat_lt n p.left
+guarded_rest : (gs : List Guard) (p : Plan) (g : Goal) (s : SessionState) (n : ℕ)
+    → rest_of p (goal_after p.goal s.timed n) (unwrap_or (guarded_ends gs g s n) Limit) n
+    ≡ (if is_none (guarded_ends gs g s n) && nat_lt n p.left
     then Some (record p { goal = goal_after p.goal s.timed n; left = p.left - n }) else None)
-rest_is gs p goal.Count s n = rest_by p (goal_after p.goal s.timed n) n (halted_of (after s.timed n).board) _ _ _
-rest_is gs p goal.Trace s n = rest_by p (goal_after p.goal s.timed n) n (halted_of (after s.timed n).board) _ _ _
-rest_is gs p goal.Break s n =
+guarded_rest gs p goal.Count s n = rest_by p (goal_after p.goal s.timed n) n (halted_of (after s.timed n).board) _ _ _
+guarded_rest gs p goal.Trace s n = rest_by p (goal_after p.goal s.timed n) n (halted_of (after s.timed n).board) _ _ _
+guarded_rest gs p goal.Break s n =
     rest_past gs (record s { timed = after s.timed n }) p (goal_after p.goal s.timed n) n (halted_of (after s.timed n).board) _ _ _
-rest_is gs p (goal.Out calls line) s n =
+guarded_rest gs p (goal.Out calls line) s n =
     rest_past gs (record s { timed = after s.timed n }) p (goal_after p.goal s.timed n) n (halted_of (after s.timed n).board) _ _ _
-rest_is gs p (goal.Until condition) s n =
+guarded_rest gs p (goal.Until condition) s n =
     rest_past gs (record s { timed = after s.timed n }) p (goal_after p.goal s.timed n) n (halted_of (after s.timed n).board) _ _ _
 
-plan_is : (gs : List Guard) (p : Plan) (s : SessionState) (n : ℕ)
-    → rest_of p (goal_after p.goal s.timed n) (unwrap_or (run_ends gs p.goal s n) Limit) n ≡ plan_after gs p s n
+-- or at a change of what is watched
+rest_watching : (p : Plan) (g : Goal) (n : ℕ) (changes : Bool) (o : Option End)
+    → rest_of p g (unwrap_or o Limit) n
+    ≡ (if is_none o && nat_lt n p.left then Some (record p { goal = g; left = p.left - n }) else None)
+    → rest_of p g (unwrap_or (watching changes o) Limit) n
+    ≡ (if is_none (watching changes o) && nat_lt n p.left then Some (record p { goal = g; left = p.left - n }) else None)
+rest_watching p g n false o e = e
+rest_watching p g n true None e = refl
+rest_watching p g n true (Some Halted) e = refl
+rest_watching p g n true (Some _) e = refl
+
+rest_heeding : (st : Stops) (p : Plan) (g : Goal) (s : SessionState) (n : ℕ)
+    → rest_of p (goal_after p.goal s.timed n) (unwrap_or (watched_ends st g s n) Limit) n
+    ≡ (if is_none (watched_ends st g s n) && nat_lt n p.left
+    then Some (record p { goal = goal_after p.goal s.timed n; left = p.left - n }) else None)
+rest_heeding st p g s n =
+    rest_watching p (goal_after p.goal s.timed n) n (changes_at st.watches s.timed n) (guarded_ends st.guards g s n)
+    (guarded_rest st.guards p g s n)
+
+rest_is : (st : Stops) (p : Plan) (g : Goal) (s : SessionState) (n : ℕ)
+    → rest_of p (goal_after p.goal s.timed n) (unwrap_or (run_ends st g s n) Limit) n
+    ≡ (if is_none (run_ends st g s n) && nat_lt n p.left
+    then Some (record p { goal = goal_after p.goal s.timed n; left = p.left - n }) else None)
+rest_is st p goal.Count s n = guarded_rest st.guards p goal.Count s n
+rest_is st p goal.Trace s n = guarded_rest st.guards p goal.Trace s n
+rest_is st p goal.Break s n = rest_heeding st p goal.Break s n
+rest_is st p (goal.Out calls line) s n = rest_heeding st p (goal.Out calls line) s n
+rest_is st p (goal.Until condition) s n = rest_heeding st p (goal.Until condition) s n
+
+plan_is : (st : Stops) (p : Plan) (s : SessionState) (n : ℕ)
+    → rest_of p (goal_after p.goal s.timed n) (unwrap_or (run_ends st p.goal s n) Limit) n ≡ plan_after st p s n
 unfolding plan_after
-plan_is gs p s n = rest_is gs p p.goal s n
+plan_is st p s n = rest_is st p p.goal s n
 
 resumes_by : (g : Goal) (h : Option ℕ) (r b l : Bool)
     → resumes_of g (unwrap_or (end_is h r b l) Limit) ≡ (if is_none (end_is h r b l) then resumed_by g else goal.Break)
@@ -100,16 +130,40 @@ resumes_past gs t g None false true l = resumes_there g (stops gs t.timed.board)
 resumes_past gs t g None false false true = refl
 resumes_past gs t g None false false false = refl
 
-resumes_is : (gs : List Guard) (g : Goal) (s : SessionState) (n : ℕ)
-    → resumes_of (goal_after g s.timed n) (unwrap_or (run_ends gs g s n) Limit) ≡ resumes_after gs g s n
-resumes_is gs goal.Count s n = resumes_by goal.Count (halted_of (after s.timed n).board) _ _ _
-resumes_is gs goal.Trace s n = resumes_by goal.Trace (halted_of (after s.timed n).board) _ _ _
-resumes_is gs goal.Break s n =
+guarded_resumes : (gs : List Guard) (g : Goal) (s : SessionState) (n : ℕ)
+    → resumes_of (goal_after g s.timed n) (unwrap_or (guarded_ends gs g s n) Limit) ≡ (if is_none (guarded_ends gs g s n) then resumed_by (goal_after g s.timed n) else goal.Break)
+guarded_resumes gs goal.Count s n = resumes_by goal.Count (halted_of (after s.timed n).board) _ _ _
+guarded_resumes gs goal.Trace s n = resumes_by goal.Trace (halted_of (after s.timed n).board) _ _ _
+guarded_resumes gs goal.Break s n =
     resumes_past gs (record s { timed = after s.timed n }) goal.Break (halted_of (after s.timed n).board) _ _ _
-resumes_is gs (goal.Out calls line) s n =
+guarded_resumes gs (goal.Out calls line) s n =
     resumes_past gs (record s { timed = after s.timed n }) (goal_after (goal.Out calls line) s.timed n) (halted_of (after s.timed n).board) _ _ _
-resumes_is gs (goal.Until condition) s n =
+guarded_resumes gs (goal.Until condition) s n =
     resumes_past gs (record s { timed = after s.timed n }) (goal.Until condition) (halted_of (after s.timed n).board) _ _ _
+
+resumes_watching : (g : Goal) (changes : Bool) (o : Option End)
+    → resumes_of g (unwrap_or o Limit) ≡ (if is_none o then resumed_by g else goal.Break)
+    → resumes_of g (unwrap_or (watching changes o) Limit)
+    ≡ (if is_none (watching changes o) then resumed_by g else goal.Break)
+resumes_watching g false o e = e
+resumes_watching g true None e = refl
+resumes_watching g true (Some Halted) e = refl
+resumes_watching g true (Some _) e = refl
+
+resumes_heeding : (st : Stops) (g : Goal) (s : SessionState) (n : ℕ)
+    → resumes_of (goal_after g s.timed n) (unwrap_or (watched_ends st g s n) Limit)
+    ≡ (if is_none (watched_ends st g s n) then resumed_by (goal_after g s.timed n) else goal.Break)
+resumes_heeding st g s n =
+    resumes_watching (goal_after g s.timed n) (changes_at st.watches s.timed n) (guarded_ends st.guards g s n)
+    (guarded_resumes st.guards g s n)
+
+resumes_is : (st : Stops) (g : Goal) (s : SessionState) (n : ℕ)
+    → resumes_of (goal_after g s.timed n) (unwrap_or (run_ends st g s n) Limit) ≡ resumes_after st g s n
+resumes_is st goal.Count s n = guarded_resumes st.guards goal.Count s n
+resumes_is st goal.Trace s n = guarded_resumes st.guards goal.Trace s n
+resumes_is st goal.Break s n = resumes_heeding st goal.Break s n
+resumes_is st (goal.Out calls line) s n = resumes_heeding st (goal.Out calls line) s n
+resumes_is st (goal.Until condition) s n = resumes_heeding st (goal.Until condition) s n
 
 pub taken_after : (s : TimedState) (n : ℕ) → (after s n).taken ≡ s.taken + n
 unfolding after
@@ -121,10 +175,10 @@ module _ (p : Plan) (old : LabState) where
   s = old.recording.session
 
   has_taken : (n : ℕ) (t : SessionState) (end : End) (g : Goal) (done : ℕ)
-      → t ≡ record s { timed = after s.timed n } → end ≡ unwrap_or (run_ends old.guards p.goal s n) Limit
+      → t ≡ record s { timed = after s.timed n } → end ≡ unwrap_or (run_ends (stops_of old) p.goal s n) Limit
       → g ≡ goal_after p.goal s.timed (steps_between s.timed t.timed) → done ≡ t.timed.taken - s.timed.taken
       → record (with_session old t) { plan = rest_of p g end done; resumes = resumes_of g end }
-      ≡ record (with_steps n old) { plan = plan_after old.guards p s n; resumes = resumes_after old.guards p.goal s n }
+      ≡ record (with_steps n old) { plan = plan_after (stops_of old) p s n; resumes = resumes_after (stops_of old) p.goal s n }
   has_taken n t end g done state ended goal_is done_is =
       let now = ap (λ (u : SessionState). u.timed.taken) state in
       let between : steps_between s.timed t.timed ≡ n = omega (arith, now, taken_after s.timed n) in
@@ -138,34 +192,34 @@ module _ (p : Plan) (old : LabState) where
       ∙ (ap (λ (e : End). left (goal_after p.goal s.timed n) e n) ended
       ∙ (ap (λ (q : Option Plan). record (with_steps n old) {
         plan = q;
-        resumes = resumes_of (goal_after p.goal s.timed n) (unwrap_or (run_ends old.guards p.goal s n) Limit);
-      }) (plan_is old.guards p s n)
-      ∙ ap (λ (h : Goal). record (with_steps n old) { plan = plan_after old.guards p s n; resumes = h })
-      (resumes_is old.guards p.goal s n))))))
+        resumes = resumes_of (goal_after p.goal s.timed n) (unwrap_or (run_ends (stops_of old) p.goal s n) Limit);
+      }) (plan_is (stops_of old) p s n)
+      ∙ ap (λ (h : Goal). record (with_steps n old) { plan = plan_after (stops_of old) p s n; resumes = h })
+      (resumes_is (stops_of old) p.goal s n))))))
 
 pub took_piece : (p : Plan) (g : Goal) (end : End) (old at_first mid new : LabState) (most done : ℕ)
     → at_first ≡ record old { plan = None; resumes = goal.Break }
-    → HasRun (run_ends at_first.guards p.goal at_first.recording.session) most at_first.recording.session mid.recording.session end
+    → HasRun (run_ends (stops_of at_first) p.goal at_first.recording.session) most at_first.recording.session mid.recording.session end
     → g ≡ goal_after p.goal (timed at_first) (steps_between (timed at_first) (timed mid))
     → mid ≡ with_session at_first mid.recording.session → most ≡ min p.left (max old.piece 1)
     → done ≡ (timed mid).taken - (timed old).taken → new ≡ record mid { plan = rest_of p g end done; resumes = resumes_of g end }
     → new ≡ with_piece p old
 took_piece p g end old at_first mid new most done is run goal_is others most_is done_is e =
     let same : at_first.recording ≡ old.recording = ap (λ (l : LabState). l.recording) is in
-    let ran : HasRun (run_ends old.guards p.goal old.recording.session) most old.recording.session mid.recording.session end =
-    subst (λ (l : LabState). HasRun (run_ends l.guards p.goal l.recording.session) most l.recording.session mid.recording.session end)
+    let ran : HasRun (run_ends (stops_of old) p.goal old.recording.session) most old.recording.session mid.recording.session end =
+    subst (λ (l : LabState). HasRun (run_ends (stops_of l) p.goal l.recording.session) most l.recording.session mid.recording.session end)
     is run in
     let goal_now = goal_is
     ∙ ap (λ (r : RecordingState). goal_after p.goal r.session.timed (steps_between r.session.timed (timed mid))) same in
     let from_old : mid ≡ with_session (record old { plan = None; resumes = goal.Break }) mid.recording.session =
     others ∙ ap (λ (l : LabState). with_session l mid.recording.session) is in
     e ∙ (ap (λ (l : LabState). record l { plan = rest_of p g end done; resumes = resumes_of g end }) from_old
-    ∙ (has_taken p old (steps_of (run_ends old.guards p.goal old.recording.session) most) mid.recording.session end g done ran.state
+    ∙ (has_taken p old (steps_of (run_ends (stops_of old) p.goal old.recording.session) most) mid.recording.session end g done ran.state
     ran.ended goal_now done_is
-    ∙ ap (λ (m : ℕ). record (with_steps (steps_of (run_ends old.guards p.goal old.recording.session) m) old) {
-      plan = plan_after old.guards p old.recording.session (steps_of (run_ends old.guards p.goal old.recording.session) m);
-      resumes = resumes_after old.guards p.goal old.recording.session
-          (steps_of (run_ends old.guards p.goal old.recording.session) m);
+    ∙ ap (λ (m : ℕ). record (with_steps (steps_of (run_ends (stops_of old) p.goal old.recording.session) m) old) {
+      plan = plan_after (stops_of old) p old.recording.session (steps_of (run_ends (stops_of old) p.goal old.recording.session) m);
+      resumes = resumes_after (stops_of old) p.goal old.recording.session
+          (steps_of (run_ends (stops_of old) p.goal old.recording.session) m);
     }) most_is))
 
 -- ---- the console

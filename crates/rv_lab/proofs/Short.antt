@@ -14,7 +14,7 @@ use Rattle.rv_recording.specs.Until.{step_ends, steps_of}
 use Rattle.rv_recording.specs.declared.until.End.{End}
 use Rattle.rv_lab.specs.Commands as lab
 use Rattle.rv_lab.specs.Runs.{Leaves}
-use Rattle.rv_lab.specs.Commands.{begun, monitored_run, piece_most, planned, run_ends, stepped, with_console, with_inputs, with_session}
+use Rattle.rv_lab.specs.Commands.{begun, monitored_run, piece_most, planned, run_ends, stepped, stops_of, with_console, with_inputs, with_session}
 use Rattle.rv_lab.specs.Refusals.{Leads, RunsOut, StopsShort, by_hand, due, nowhere, steps}
 use Rattle.rv_lab.specs.Support.Short.{Gives, GoesOnWith, IsOnWay, Looks, Monitors, Starts, Steps, StopsIn, Traced, stepped_by}
 use Rattle.rv_lab.specs.State.{LabState, timed}
@@ -81,12 +81,12 @@ module _ (ends : ℕ → Option End) (most : ℕ) (old new : LabState) (rising :
 
 pub piece_err : {A : Type 0} (r : Result A NoMemory) (p : Plan) (most : ℕ) (old at_first new : LabState)
     → most ≡ piece_most p old → at_first ≡ record old { plan = None; resumes = goal.Break }
-    → StopsIn (run_ends at_first.guards p.goal at_first.recording.session) most at_first new
+    → StopsIn (run_ends (stops_of at_first) p.goal at_first.recording.session) most at_first new
     → OnErr r (StopsShort (GoesOnWith p) old new)
 piece_err r p most old at_first new most_is is short =
-    let s : StopsIn (run_ends old.guards p.goal old.recording.session) (piece_most p old) (record old { plan = None; resumes = goal.Break }) new =
-    subst (λ (n : ℕ). StopsIn (run_ends old.guards p.goal old.recording.session) n (record old { plan = None; resumes = goal.Break }) new) most_is
-    (subst (λ (l : LabState). StopsIn (run_ends l.guards p.goal l.recording.session) most l new) is short) in
+    let s : StopsIn (run_ends (stops_of old) p.goal old.recording.session) (piece_most p old) (record old { plan = None; resumes = goal.Break }) new =
+    subst (λ (n : ℕ). StopsIn (run_ends (stops_of old) p.goal old.recording.session) n (record old { plan = None; resumes = goal.Break }) new) most_is
+    (subst (λ (l : LabState). StopsIn (run_ends (stops_of l) p.goal l.recording.session) most l new) is short) in
     on_err r (StopsShort (GoesOnWith p) old new) (
       lab.gone_on p old,
       refl,

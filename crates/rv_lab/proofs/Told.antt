@@ -12,6 +12,7 @@ use Rattle.rv_recording.specs.declared.until.End.{End}
 use Rattle.rv_answers.specs.declared.answer.Answer.{Answer}
 use Rattle.rv_answers.specs.declared.answer.Answer.TheVariants as answers
 use Rattle.rv_answers.specs.declared.moves.Aim.{Aim}
+use Rattle.rv_answers.specs.declared.moves.Change.{Change}
 use Rattle.rv_answers.specs.declared.moves.Ending.{Ending}
 use Rattle.rv_answers.specs.declared.moves.Step.{Step}
 use Rattle.rv_answers.specs.declared.values.Place.{Place}
@@ -23,7 +24,7 @@ use Rattle.rv_monitor.specs.Commands.{command_in}
 use Rattle.rv_lab.specs.Answers.{place_of, standing}
 use Rattle.rv_lab.specs.Commands.{begun, gone_on, is_traced, monitored_run, piece_most, planned, stepped, tells_last, with_piece, with_steps}
 use Rattle.rv_lab.specs.Refusals.{StopsShort, nowhere}
-use Rattle.rv_lab.specs.Runs.{aim_of, changes, end_of, ending_of, monitor_answer, next_step, next_steps, over_answer, run_answer, step_answer, step_value, trap_in}
+use Rattle.rv_lab.specs.Runs.{aim_of, changes, end_of, ending_of, monitor_answer, next_step, next_steps, over_answer, run_answer, step_answer, step_value, trap_in, watch_changes}
 use Rattle.rv_lab.specs.State.{LabState, board, registers_of, sent, timed}
 use Rattle.rv_lab.specs.Support.Short.{GoesOnWith, IsOnWay, Traced, call_answer, told_steps}
 use Rattle.rv_lab.specs.declared.lab.Done.{Done}
@@ -321,18 +322,31 @@ monitor_looked (Ok d) line old new e h = h ∙ sym (rw (sym e) refl)
 
 -- ---- a run that is over
 
+abbrev ended : Ending → Aim → ℕ → List RegisterValue → List Change → Standing → Answer
+ended en a n changed ws st = answers.Ended (record {
+  ending = en;
+  aim = a;
+  steps = n;
+  changed = changed;
+  watched = ws;
+  standing = st;
+})
+
 pub over_said : (is_monitored : Bool) (g : Goal) (end : End) (l : LabState) (en : Ending) (a : Aim) (n : ℕ)
-    (before now : List ℕ) (changed : List RegisterValue) (st : Standing) → is_monitored ≡ false → en ≡ ending_of end
-    → a ≡ aim_of l g → n ≡ (timed l).taken - l.before → before ≡ l.registers → now ≡ registers_of (board l)
-    → changed ≡ changes before now → st ≡ standing l
-    → answers.Ended (record { ending = en; aim = a; steps = n; changed = changed; standing = st })
+    (before now : List ℕ) (changed : List RegisterValue) (ws : List Change) (st : Standing) → is_monitored ≡ false
+    → en ≡ ending_of end → a ≡ aim_of l g → n ≡ (timed l).taken - l.before → before ≡ l.registers → now ≡ registers_of (board l)
+    → changed ≡ changes before now → ws ≡ watch_changes g l → st ≡ standing l
+    → ended en a n changed ws st
     ≡ over_answer is_monitored g end l
 unfolding over_answer
-over_said is_monitored g end l en a n before now changed st m ends aims took was is c stands =
-    ap (λ (x : Ending). answers.Ended (record { ending = x; aim = a; steps = n; changed = changed; standing = st })) ends
-    ∙ (ap (λ (x : Aim). answers.Ended (record { ending = ending_of end; aim = x; steps = n; changed = changed; standing = st })) aims
-    ∙ (ap (λ (x : ℕ). answers.Ended (record { ending = ending_of end; aim = aim_of l g; steps = x; changed = changed; standing = st })) took
-    ∙ (ap (λ (x : List RegisterValue). answers.Ended (record { ending = ending_of end; aim = aim_of l g; steps = (timed l).taken - l.before; changed = x; standing = st }))
+over_said is_monitored g end l en a n before now changed ws st m ends aims took was is c watched stands =
+    ap (λ (x : Ending). ended x a n changed ws st) ends
+    ∙ (ap (λ (x : Aim). ended (ending_of end) x n changed ws st) aims
+    ∙ (ap (λ (x : ℕ). ended (ending_of end) (aim_of l g) x changed ws st) took
+    ∙ (ap (λ (x : List RegisterValue). ended (ending_of end) (aim_of l g) ((timed l).taken - l.before) x ws st)
     (c ∙ (ap (λ (xs : List ℕ). changes xs now) was ∙ ap (changes l.registers) is))
-    ∙ (ap (λ (x : Standing). answers.Ended (record { ending = ending_of end; aim = aim_of l g; steps = (timed l).taken - l.before; changed = changes l.registers (registers_of (board l)); standing = x })) stands
-    ∙ sym (rw m refl)))))
+    ∙ (ap (λ (x : List Change). ended (ending_of end) (aim_of l g) ((timed l).taken - l.before)
+    (changes l.registers (registers_of (board l))) x st) watched
+    ∙ (ap (λ (x : Standing). ended (ending_of end) (aim_of l g) ((timed l).taken - l.before)
+    (changes l.registers (registers_of (board l))) (watch_changes g l) x) stands
+    ∙ sym (rw m refl))))))

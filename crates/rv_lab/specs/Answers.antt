@@ -75,6 +75,16 @@ place_of l a = record {
   word = word_at (board l) a;
 }
 
+-- what is watched, with its value on a board
+abbrev pub watch_on : BoardState → Watched → Watch
+watch_on b w = record { target = target_of w; value = watched_value b w }
+
+abbrev pub watch_of : LabState → Watched → Watch
+watch_of l w = watch_on (board l) w
+
+abbrev pub watches_of : LabState → List Watch
+watches_of l = map (watch_on (board l)) l.watches
+
 -- ---- `w`, `i` and `b` alone
 
 abbrev pub standing : LabState → Standing
@@ -96,7 +106,7 @@ breakpoints l =
 
 abbrev pub breakpoints_answer : LabState → Answer
 breakpoints_answer l =
-    answers.Breakpoints (record { places = breakpoints l; conditions = map condition_of l.guards })
+    answers.Breakpoints (record { places = breakpoints l; conditions = map condition_of l.guards; watches = watches_of l })
 
 -- ---- `r` and `p`
 
@@ -194,10 +204,6 @@ devices_of b = let m = b.machine in record {
 }
 
 -- ---- `display`
-
--- what is watched, with its value
-abbrev pub watch_of : LabState → Watched → Watch
-watch_of l w = record { target = target_of w; value = watched_value (board l) w }
 
 unfoldable pub display_answer : LabState → List (List ℕ) → Answer
 display_answer l ws = option_map_or (λ word. option_map_or (λ w. answers.Display (watch_of l w))

@@ -11,6 +11,7 @@ use Rattle.rv_recording.specs.Recording.{RecordingState, with_timed}
 use Rattle.rv_recording.specs.Until.{break_ends, step_ends, steps_of, until_ends}
 use Rattle.rv_recording.specs.Out.{open_at, out_ends}
 use Rattle.rv_recording.specs.declared.until.End.{End}
+use Rattle.rv_recording.specs.declared.until.Watched.{Watched}
 use Rattle.rv_lab.specs.Guards.{passing, with_guard, without_guard}
 use Rattle.rv_lab.specs.State.{LabState, board, registers_of, sent, timed}
 use Rattle.rv_lab.specs.declared.guard.Guard.{Guard}
@@ -22,6 +23,7 @@ use Rattle.rv_lab.specs.declared.plan.Goal.{Goal}
 use Rattle.rv_lab.specs.declared.plan.Goal.TheVariants as goal
 use Rattle.rv_answers.specs.declared.command.Command.{Command}
 use Rattle.rv_answers.specs.declared.command.Command.TheVariants.{Why}
+use Rattle.rv_lab.specs.Watches.{changes_at, watching}
 use Rattle.rv_lab.specs.Words.{repeated}
 
 -- ---- changes of a session
@@ -43,14 +45,34 @@ guarded g l = record l { guards = with_guard g l.guards }
 abbrev pub planned : Goal → ℕ → Plan
 planned goal most = record { goal = goal; left = most; is_monitored = false }
 
--- why a run from a session on is over after some of its steps, if it is, by what it goes on for and by the conditions of
--- breakpoints: only a number of steps goes past any breakpoint
-abbrev pub run_ends : List Guard → Goal → SessionState → ℕ → Option End
-run_ends gs goal.Count s = step_ends s
-run_ends gs goal.Trace s = step_ends s
-run_ends gs goal.Break s = passing gs s (break_ends s)
-run_ends gs (goal.Out calls line) s = passing gs s (out_ends calls line s)
-run_ends gs (goal.Until condition) s = passing gs s (until_ends condition s)
+-- what stops a run beside what it goes on for: breakpoints with these conditions, and a change of what is watched
+pub record Stops : Type 0 where
+  pub guards : List Guard
+  pub watches : List Watched
+
+abbrev pub stops_of : LabState → Stops
+stops_of l = record { guards = l.guards; watches = l.watches }
+
+-- whether they stop a run: only a number of steps goes past any breakpoint, and any change
+abbrev pub heeds : Goal → Bool
+heeds goal.Count = false
+heeds goal.Trace = false
+heeds other = true
+
+-- why a run from a session on is over after some of its steps, if it is and nothing is watched, by what it goes on for
+-- and by the conditions of breakpoints
+abbrev pub guarded_ends : List Guard → Goal → SessionState → ℕ → Option End
+guarded_ends gs goal.Count s = step_ends s
+guarded_ends gs goal.Trace s = step_ends s
+guarded_ends gs goal.Break s = passing gs s (break_ends s)
+guarded_ends gs (goal.Out calls line) s = passing gs s (out_ends calls line s)
+guarded_ends gs (goal.Until condition) s = passing gs s (until_ends condition s)
+
+-- and by what is watched
+abbrev pub run_ends : Stops → Goal → SessionState → ℕ → Option End
+run_ends st g s n =
+    if heeds g then watching (changes_at st.watches s.timed n) (guarded_ends st.guards g s n)
+    else guarded_ends st.guards g s n
 
 -- what the run goes on for after n steps
 abbrev pub goal_after : Goal → TimedState → ℕ → Goal
@@ -58,9 +80,9 @@ goal_after (goal.Out calls line) s n = goal.Out (open_at calls s n) line
 goal_after other s n = other
 
 -- the plan of a run after n steps: there is one exactly while the run isn't over and steps are left
-unfoldable pub plan_after : List Guard → Plan → SessionState → ℕ → Option Plan
-plan_after gs p s n =
-    if is_none (run_ends gs p.goal s n) && nat_lt n p.left
+unfoldable pub plan_after : Stops → Plan → SessionState → ℕ → Option Plan
+plan_after st p s n =
+    if is_none (run_ends st p.goal s n) && nat_lt n p.left
     then Some (record p { goal = goal_after p.goal s.timed n; left = p.left - n }) else None
 
 -- what `c` goes on for after a run that went on for this: the same, but breakpoints alone after one that counted steps
@@ -70,8 +92,8 @@ resumed_by goal.Trace = goal.Break
 resumed_by other = other
 
 -- and after n steps of a run, which may be over: then breakpoints alone
-abbrev pub resumes_after : List Guard → Goal → SessionState → ℕ → Goal
-resumes_after gs g s n = if is_none (run_ends gs g s n) then resumed_by (goal_after g s.timed n) else goal.Break
+abbrev pub resumes_after : Stops → Goal → SessionState → ℕ → Goal
+resumes_after st g s n = if is_none (run_ends st g s n) then resumed_by (goal_after g s.timed n) else goal.Break
 
 -- the lab with n steps taken
 abbrev pub with_steps : ℕ → LabState → LabState
@@ -86,13 +108,13 @@ abbrev pub piece_most : Plan → LabState → ℕ
 piece_most p l = min p.left (max l.piece 1)
 
 abbrev pub piece_steps : Plan → LabState → ℕ
-piece_steps p l = steps_of (run_ends l.guards p.goal l.recording.session) (piece_most p l)
+piece_steps p l = steps_of (run_ends (stops_of l) p.goal l.recording.session) (piece_most p l)
 
 -- the lab after that call, before its console is told
 abbrev pub with_piece : Plan → LabState → LabState
 with_piece p l =
     let s = l.recording.session in let n = piece_steps p l in
-    record (with_steps n l) { plan = plan_after l.guards p s n; resumes = resumes_after l.guards p.goal s n }
+    record (with_steps n l) { plan = plan_after (stops_of l) p s n; resumes = resumes_after (stops_of l) p.goal s n }
 
 -- whether each step of a run is told
 abbrev pub is_traced : Goal → Bool

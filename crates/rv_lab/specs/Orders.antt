@@ -1,6 +1,7 @@
 -- To audit: public contracts cite this.
 -- What a command line asks for, by its words and the lab as it stands (this project's own: docs/LAB.md).
-use Rattle.std.specs.Prelude.{ℕ, ◌+◌, ◌-◌, ◌/◌, ◌==◌, Bool, false, true, List, [], ◌∷◌, if◌then◌else◌, length, slice_get, codes, Option, Some, None, option_and_then, unwrap_or}
+use Rattle.std.specs.Prelude.{ℕ, ◌+◌, ◌-◌, ◌/◌, ◌==◌, ◌&&◌, Bool, false, true, List, [], ◌∷◌, if◌then◌else◌, is_none, length, nat_le, slice_get, codes, Option, Some, None, option_and_then, unwrap_or}
+use Rattle.std.specs.List.{position}
 use Rattle.std.specs.Option.{option_map, option_map_or}
 use Rattle.std.specs.Str.{bytes_eq}
 use Rattle.rv_base.specs.Words.{words}
@@ -11,6 +12,7 @@ use Rattle.rv_asm.specs.Lines.{Listed, address_of, bytes_of}
 use Rattle.rv_recording.specs.declared.out.Span.{Span}
 use Rattle.rv_recording.specs.declared.until.Condition.{Condition}
 use Rattle.rv_recording.specs.declared.until.Condition.TheVariants as condition
+use Rattle.rv_recording.specs.declared.until.Watched.{Watched}
 use Rattle.rv_why.specs.Origins.{last_sought}
 use Rattle.rv_why.specs.Taken.{first_state}
 use Rattle.rv_why.specs.declared.writes.Sought.TheVariants as sought
@@ -20,13 +22,14 @@ use Rattle.rv_answers.specs.declared.answer.Answer.{Answer}
 use Rattle.rv_answers.specs.declared.answer.Answer.TheVariants as answers
 use Rattle.rv_answers.specs.declared.answer.Why.TheVariants as why
 use Rattle.rv_answers.specs.declared.command.Command.{Command}
-use Rattle.rv_answers.specs.declared.command.Command.TheVariants.{Step, Over, Moves, Break, Clear, Receive, Line, Save, Monitor, Why, Help, Quit, StepOnce, Again, Unknown, TooLong}
+use Rattle.rv_answers.specs.declared.command.Command.TheVariants.{Step, Over, Moves, Break, Clear, Watch, Unwatch, Receive, Line, Save, Monitor, Why, Help, Quit, StepOnce, Again, Unknown, TooLong}
 use Rattle.rv_answers.specs.declared.command.Command.TheVariants as command
 use Rattle.rv_answers.specs.declared.command.Move.TheVariants.{Go, Finish, Until, Trace, Back}
-use Rattle.rv_lab.specs.Answers.{breakpoints_answer, look_answer, only, refused}
+use Rattle.rv_lab.specs.Answers.{breakpoints_answer, look_answer, only, refused, watches_of}
 use Rattle.rv_lab.specs.Commands.{planned, ready}
 use Rattle.rv_lab.specs.Lines.{line_at}
 use Rattle.rv_lab.specs.State.{LabState, board, listing, timed}
+use Rattle.rv_lab.specs.Watches.{is_same}
 use Rattle.rv_lab.specs.Words.{count_of, line_command, most_steps, usual_steps}
 use Rattle.rv_lab.specs.declared.order.Order.{Order}
 use Rattle.rv_lab.specs.declared.order.Order.TheVariants as orders
@@ -74,6 +77,24 @@ break_order text (word ∷ []) l =
 break_order text (word ∷ second ∷ more) l =
     if bytes_eq second (codes "if") then guard_order text word l (leading (listing l) (board l) more)
     else orders.Answered (no_break Break (word ∷ second ∷ more))
+
+-- `watch`: all that is watched; or one register or word more, of 16 at most
+abbrev pub watch_one : Watched → LabState → Order
+watch_one w l = if is_none (position (is_same w) l.watches) && nat_le 16 (length l.watches)
+    then orders.Answered (refused Watch [] why.TooMany) else orders.Watch w
+
+unfoldable pub watch_order : List (List ℕ) → LabState → Order
+watch_order [] l = orders.Answered (answers.Watches (watches_of l))
+watch_order (word ∷ []) l = or_refused (followed (listing l) (board l) word)
+    (λ w. watch_one w l) (refused Watch word why.NoAddress)
+watch_order _ l = orders.Answered (refused Watch [] why.NotOne)
+
+-- `unwatch`: all, or one
+unfoldable pub unwatch_order : List (List ℕ) → LabState → Order
+unwatch_order [] l = orders.Unwatch None
+unwatch_order (word ∷ []) l = or_refused (followed (listing l) (board l) word)
+    (λ w. orders.Unwatch (Some w)) (refused Unwatch word why.NoAddress)
+unwatch_order _ l = orders.Answered (refused Unwatch [] why.NotOne)
 
 -- inputs before the next step, if there are some
 abbrev pub give_order : List Input → Answer → Order
@@ -160,6 +181,8 @@ command_order command.List word text l = list_order (words text) l
 command_order Break word text l = break_order text (words text) l
 command_order Clear word text l = or_refused (break_address (listing l) (board l) (words text))
     (λ a. orders.Clear a) (no_break Clear (words text))
+command_order Watch word text l = watch_order (words text) l
+command_order Unwatch word text l = unwatch_order (words text) l
 command_order Receive word text l = give_order (unwrap_or (bytes_inputs text) []) (refused Receive text why.NoBytes)
 command_order Line word text l = give_order (unwrap_or (driven (words text)) []) (refused Line text why.NoLevel)
 command_order Save word text l = save_order text (words text)

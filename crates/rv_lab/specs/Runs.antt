@@ -1,7 +1,7 @@
 -- To audit: public contracts cite this.
 -- What the commands that move the board, change breakpoints, give inputs or save answer, as values of the lab before
 -- and after (this project's own: docs/LAB.md).
-use Rattle.std.specs.Prelude.{◌≡◌, ℕ, zero, suc, ◌+◌, ◌-◌, ◌==◌, Bool, List, [], ◌∷◌, filter, if◌then◌else◌, is_some, length, map, max, min, not, codes, slice_get, slice_index, Option, Some, None, MatchOption, unwrap_or}
+use Rattle.std.specs.Prelude.{◌≡◌, ℕ, zero, suc, ◌+◌, ◌-◌, ◌==◌, ◌&&◌, Bool, List, [], ◌∷◌, filter, if◌then◌else◌, is_some, length, map, max, min, nat_lt, not, codes, slice_get, slice_index, Option, Some, None, MatchOption, unwrap_or}
 use Rattle.std.specs.FinSet as set
 use Rattle.std.specs.List.{range_with_len}
 use Rattle.std.specs.Option.{option_map, option_map_or}
@@ -15,15 +15,19 @@ use Rattle.rv_monitor.specs.Commands.{command_in}
 use Rattle.rv_monitor.specs.State.{with_break, with_due, without_break}
 use Rattle.rv_monitor.specs.Stops.{may_step}
 use Rattle.rv_monitor.specs.Views.{stop_text}
+use Rattle.rv_board.specs.BoardState.{BoardState}
 use Rattle.rv_recording.specs.Recording.{gone_back}
+use Rattle.rv_recording.specs.Until.{watched_value}
 use Rattle.rv_recording.specs.declared.until.Condition.{Condition}
 use Rattle.rv_recording.specs.declared.until.Condition.TheVariants as condition
+use Rattle.rv_recording.specs.declared.until.Watched.{Watched}
 use Rattle.rv_recording.specs.declared.until.End.{End}
 use Rattle.rv_recording.specs.declared.until.End.TheVariants as ends
 use Rattle.rv_answers.specs.declared.answer.Answer.{Answer}
 use Rattle.rv_answers.specs.declared.answer.Answer.TheVariants as answers
 use Rattle.rv_answers.specs.declared.moves.Aim.{Aim}
 use Rattle.rv_answers.specs.declared.moves.Aim.TheVariants as aim
+use Rattle.rv_answers.specs.declared.moves.Change.{Change}
 use Rattle.rv_answers.specs.declared.moves.Ending.{Ending}
 use Rattle.rv_answers.specs.declared.moves.Ending.TheVariants as ending
 use Rattle.rv_answers.specs.declared.moves.Step.{Step}
@@ -31,15 +35,16 @@ use Rattle.rv_answers.specs.declared.origin.Origin.{Origin}
 use Rattle.rv_answers.specs.declared.values.RegisterValue.{RegisterValue}
 use Rattle.rv_answers.specs.declared.values.Trap.{Trap}
 use Rattle.rv_why.specs.Why.{explanation}
-use Rattle.rv_why.specs.Origins.{origin}
+use Rattle.rv_why.specs.Origins.{origin, target_of}
 use Rattle.rv_lab.specs.Answers.{place_of, rows_answer, standing, watch_of}
-use Rattle.rv_lab.specs.Commands.{begun, gone_on, guarded, monitor_next, monitored_run, is_traced, next_of, piece_most, piece_steps, planned, ready, run_ends, stepped, unguarded, with_console, with_inputs, with_session, with_steps}
+use Rattle.rv_lab.specs.Commands.{begun, gone_on, guarded, heeds, monitor_next, monitored_run, is_traced, next_of, piece_most, piece_steps, planned, ready, run_ends, stepped, stops_of, unguarded, with_console, with_inputs, with_session, with_steps}
 use Rattle.rv_lab.specs.Orders.{ordered}
 use Rattle.rv_lab.specs.Saved.{steps_text}
 use Rattle.rv_lab.specs.State.{LabState, board, listing, registers_of, sent, timed}
 use Rattle.rv_lab.specs.Lines.{line_count}
 use Rattle.rv_lab.specs.declared.lab.Next.{Next}
 use Rattle.rv_lab.specs.declared.lab.Next.TheVariants as next
+use Rattle.rv_lab.specs.Watches.{differs, with_watch, without_watch}
 use Rattle.rv_lab.specs.Words.{line_command, most_steps}
 use Rattle.rv_lab.specs.declared.lab.Reply.{Reply}
 use Rattle.rv_lab.specs.declared.order.Order.{Order}
@@ -88,7 +93,7 @@ next_steps (suc n) l =
 
 -- why a call of a run ends
 abbrev pub end_of : Plan → LabState → End
-end_of p l = unwrap_or (run_ends l.guards p.goal l.recording.session (piece_steps p l)) ends.Limit
+end_of p l = unwrap_or (run_ends (stops_of l) p.goal l.recording.session (piece_steps p l)) ends.Limit
 
 abbrev pub ending_of : End → Ending
 ending_of ends.Halted = ending.Halted
@@ -120,7 +125,21 @@ aim_of l (goal.Until c) = until_aim l c
 abbrev pub stop_word : End → List ℕ
 stop_word ends.Halted = codes "halted"
 stop_word ends.Breakpoint = codes "break"
+stop_word ends.Reached = codes "break"
 stop_word _ = codes "limit"
+
+-- what the last step changed of what is watched, with its values before and after
+abbrev pub change_of : (before now : BoardState) → Watched → Change
+change_of before now w = record { target = target_of w; before = watched_value before w; value = watched_value now w }
+
+abbrev pub last_changes : LabState → List Change
+last_changes l =
+    let before = (gone_back l.recording ((timed l).taken - 1)).session.timed.board in
+    map (change_of before (board l)) (filter (differs before (board l)) l.watches)
+
+-- what that of a run did, if it took one and stops there
+unfoldable pub watch_changes : Goal → LabState → List Change
+watch_changes g l = if heeds g && nat_lt l.before (timed l).taken then last_changes l else []
 
 -- what is answered of a run that is over, as the monitor does or as the lab does
 unfoldable pub over_answer : (is_monitored : Bool) → Goal → End → LabState → Answer
@@ -130,6 +149,7 @@ over_answer is_monitored g end l =
       aim = aim_of l g;
       steps = (timed l).taken - l.before;
       changed = changes l.registers (registers_of (board l));
+      watched = watch_changes g l;
       standing = standing l;
     })
 
@@ -210,6 +230,11 @@ abbrev pub runs : Plan → (old new : LabState) → Deed
 runs p old new =
     record { leaves = new ≡ gone_on p (begun old); next = next_of new; answer = run_answer p (begun old) new }
 
+-- what stays watched where one is to be no more, or none
+abbrev pub unwatched : Option Watched → List Watched → List Watched
+unwatched None ws = []
+unwatched (Some w) ws = without_watch w ws
+
 -- a row an order
 abbrev pub does : Order → (old new : LabState) → Deed
 does orders.Once old new =
@@ -231,6 +256,10 @@ does (orders.BreakIf g) old new =
 does (orders.Clear a) old new = let s = old.recording.session in
     more (new ≡ unguarded a (with_session old (without_break s a)))
     (answers.Cleared (record { place = place_of new a; was_there = set.contains s.breakpoints.addresses a }))
+does (orders.Watch w) old new =
+    more (new ≡ record old { watches = with_watch w old.watches }) (answers.Watch (watch_of new w))
+does (orders.Unwatch w) old new = more (new ≡ record old { watches = unwatched w old.watches })
+    (answers.Unwatched (length old.watches - length new.watches))
 does (orders.Give inputs) old new = more (new ≡ with_inputs old inputs) (given_answer (length inputs) new)
 does (orders.Monitor line) old new = let c = command_in line old.recording.session in
     record { leaves = MonitorLeaves line old new; next = monitor_next c new; answer = monitor_answer line old new }

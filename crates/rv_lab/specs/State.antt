@@ -6,6 +6,7 @@ use Rattle.rv_board.specs.BoardState.{BoardState}
 use Rattle.rv_asm.specs.Lines.{Listed, Located, listing_of}
 use Rattle.rv_monitor.specs.State.{TimedState}
 use Rattle.rv_recording.specs.Recording.{RecordingState}
+use Rattle.rv_recording.specs.declared.until.Watched.{Watched}
 use Rattle.rv_answers.specs.declared.command.Command.{Command}
 pub use Rattle.rv_convention.specs.Convention.{registers_of}
 use Rattle.rv_frames.specs.declared.row.FrameRow.{FrameRow}
@@ -15,15 +16,17 @@ use Rattle.rv_lab.specs.declared.plan.Plan.{Plan}
 use Rattle.rv_lab.specs.declared.plan.Trail.{Trail}
 
 -- a source with the places of its lines, the rows of its frames and the recording of its program; the conditions of
--- breakpoints; the registers and the number of steps before the last command that moved the board, and the bytes of the
--- console that were told; what an empty line repeats, the steps of the last `s`, and the last line of the last `l`; the
--- run that isn't over; what `c` goes on for; what `why` alone goes on with; and the most steps of a call
+-- breakpoints, and what is watched; the registers and the number of steps before the last command that moved the board,
+-- and the bytes of the console that were told; what an empty line repeats, the steps of the last `s`, and the last line
+-- of the last `l`; the run that isn't over; what `c` goes on for; what `why` alone goes on with; and the most steps of a
+-- call
 pub record LabState : Type 0 where
   pub source : List ℕ
   pub places : Located
   pub frames : List FrameRow
   pub recording : RecordingState
   pub guards : List Guard
+  pub watches : List Watched
   pub registers : List ℕ
   pub before : ℕ
   pub told : ℕ

@@ -19,7 +19,12 @@ impl Lab {
     {
         let places = self.breakpoints()?;
         let conditions = conditions_of(self.alloc, &self.guards)?;
-        Ok(Answer::Breakpoints(Breakpoints { places, conditions }))
+        let watches = self.watches_of()?;
+        Ok(Answer::Breakpoints(Breakpoints {
+            places,
+            conditions,
+            watches,
+        }))
     }
 
     /// Makes an address a breakpoint at which a run stops only if a condition holds.

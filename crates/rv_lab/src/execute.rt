@@ -52,6 +52,8 @@ impl Lab {
             Order::Break(address) => self.set_break(address),
             Order::BreakIf(guard) => self.set_guarded(guard),
             Order::Clear(address) => self.clear_break(address),
+            Order::Watch(watched) => self.set_watch(watched),
+            Order::Unwatch(watched) => self.unwatch(watched),
             Order::Give(inputs) => self.give_inputs(inputs.items()),
             Order::Monitor(line) => self.monitor_command(line.items()),
             Order::Save(name) => self.save(name),

@@ -26,7 +26,7 @@ use rv_base::NoMemory;
 use rv_board::BootedBoard;
 use rv_convention::registers_of;
 use rv_frames::{FrameRow, frame_rows};
-use rv_recording::Recording;
+use rv_recording::{Recording, Watched};
 use std::alloc::Global;
 use std::marker::Model;
 
@@ -105,6 +105,8 @@ pub struct Lab {
     pub(crate) recording: Recording,
     /// The conditions of breakpoints.
     pub(crate) guards: Vec<Guard>,
+    /// What is watched.
+    pub(crate) watches: Vec<Watched>,
     pub(crate) last: Last,
     /// The most steps of one call: a longer run goes on by `go_on`.
     pub(crate) piece: u64,
@@ -123,6 +125,7 @@ impl Drop for Lab {
             frames: _,
             recording: _,
             guards: _,
+            watches: _,
             last: _,
             piece: _,
         } = self;
@@ -140,7 +143,7 @@ impl Model for Lab {
 
     ghost coded = { Prim.hlevel (codes, plic_code, set.code {R = nat_cmp} coded_ℕ) };
 
-    ghost view = { λ l. record { source = l.source.items; places = l.places; frames = l.frames.items; recording = l.recording; guards = l.guards.items; registers = l.last.registers; before = l.last.steps; told = l.last.told; again = l.last.command; count = l.last.count; listed = l.last.listed; plan = l.last.plan; resumes = l.last.resumes; trail = l.last.trail; piece = l.piece } };
+    ghost view = { λ l. record { source = l.source.items; places = l.places; frames = l.frames.items; recording = l.recording; guards = l.guards.items; watches = l.watches.items; registers = l.last.registers; before = l.last.steps; told = l.last.told; again = l.last.command; count = l.last.count; listed = l.last.listed; plan = l.last.plan; resumes = l.last.resumes; trail = l.last.trail; piece = l.piece } };
 }
 
 impl Lab {
@@ -157,7 +160,7 @@ impl Lab {
         ensures sizes { IfOk result (λ l.
             (l.recording.pages ≡ sizes.pages) × (l.recording.slots ≡ sizes.slots)) }
         ensures listing { IfOk result (λ l. listed source.now ≡ Ok (listing l)) }
-        ensures begins { IfOk result (λ l. (l.source ≡ source.now) × (l.guards ≡ []) × (l.before ≡ 0) × (l.told ≡ 0)
+        ensures begins { IfOk result (λ l. (l.source ≡ source.now) × (l.guards ≡ []) × (l.watches ≡ []) × (l.before ≡ 0) × (l.told ≡ 0)
             × (l.registers ≡ registers_of l.recording.session.timed.board) × (l.again ≡ StepOnce) × (l.count ≡ 1)
             × (l.listed ≡ 0) × (l.plan ≡ None) × (l.resumes ≡ goal.Break) × (l.trail ≡ None) × (l.piece ≡ 1000000)) }
     {
@@ -192,6 +195,7 @@ impl Lab {
             frames,
             recording,
             guards: Vec::new(alloc),
+            watches: Vec::new(alloc),
             last,
             piece: PIECE,
         })

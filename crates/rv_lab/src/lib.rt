@@ -25,6 +25,7 @@ mod run;
 mod source;
 mod steps;
 mod tell;
+mod watch;
 mod why;
 
 pub use diagnosis::append_diagnosis;

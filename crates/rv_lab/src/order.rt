@@ -4,7 +4,7 @@ ghost use Rattle.rv_base.specs.Words.{words};
 ghost use Rattle.rv_answers.specs.declared.command.Command.TheVariants as command;
 ghost use Rattle.rv_answers.specs.declared.command.Move.TheVariants as moves;
 ghost use Rattle.rv_lab.specs.Answers.{refused};
-ghost use Rattle.rv_lab.specs.Orders.{again_order, back_by, back_order, back_until, break_order, command_order, guard_order, help_order, here, is_of_board, list_order, list_round, next_order, no_break, save_order, steps_order, until_order, why_order};
+ghost use Rattle.rv_lab.specs.Orders.{again_order, back_by, back_order, back_until, break_order, command_order, guard_order, help_order, here, is_of_board, list_order, list_round, next_order, no_break, save_order, steps_order, until_order, unwatch_order, watch_one, watch_order, why_order};
 ghost use Rattle.rv_operands.specs.Operands.{leading};
 ghost use Rattle.rv_lab.specs.Commands.{planned};
 ghost use Rattle.rv_lab.specs.State.{board, listing};
@@ -18,10 +18,11 @@ use crate::places::line_at;
 use crate::plan::{Goal, Plan, Trail};
 use crate::run::{MOST_STEPS, MOST_TRACED, USUAL_STEPS, USUAL_TRACED};
 use crate::source::{Excerpt, MOST_LINES, USUAL_LINES};
+use crate::watch::{MOST_WATCHED, place_of};
 use rv_answers::{Answer, Command, Many, Move, Why, command_named, push};
 use rv_base::{NoMemory, first_word, has_word};
 use rv_operands::{Leading, line_number, only_word, operands_of, read_bytes_inputs, trimmed};
-use rv_recording::{Condition, LAST_STEP, Span};
+use rv_recording::{Condition, LAST_STEP, Span, Watched};
 use rv_timeline::{Input, line_input};
 use rv_why::last_met;
 
@@ -44,6 +45,10 @@ pub(crate) enum Order {
     BreakIf(Guard),
     /// To remove a breakpoint.
     Clear(u32),
+    /// To watch a register or a word.
+    Watch(Watched),
+    /// To watch one no more, or none.
+    Unwatch(Option<Watched>),
     /// To give the board inputs before its next step.
     Give(Many<Input>),
     /// To do what a line asks the monitor for.
@@ -316,6 +321,52 @@ impl Lab {
         }
     }
 
+    /// Returns the order to watch a register or a word, of 16 at most.
+    fn watch_one(&self, watched: Watched) -> Result<Order, NoMemory>
+        ensures { IfOk result (λ o. o ≡ watch_one watched self.now) }
+    {
+        // A copy: for the borrow checker the call moves its argument.
+        let asked = watched;
+        if place_of(&self.watches, asked).is_none() && self.watches.len() >= MOST_WATCHED {
+            return self.refuse(Command::Watch, b"", Why::TooMany);
+        }
+        Ok(Order::Watch(watched))
+    }
+
+    /// Reads the operands of `watch`.
+    #[tactic(auto, unfolding(crate::specs::Orders::watch_order))]
+    fn watch_order(&self, operands: &[u8]) -> Result<Order, NoMemory>
+        ensures { IfOk result (λ o. o ≡ watch_order (words operands.now) self.now) }
+    {
+        if !has_word(operands) {
+            return Ok(Order::Answered(Answer::Watches(self.watches_of()?)));
+        }
+        let Some(word) = only_word(operands) else {
+            return self.refuse(Command::Watch, b"", Why::NotOne);
+        };
+        match self.scope().followed(word) {
+            Some(watched) => self.watch_one(watched),
+            None => self.refuse(Command::Watch, word, Why::NoAddress),
+        }
+    }
+
+    /// Reads the operands of `unwatch`.
+    #[tactic(auto, unfolding(crate::specs::Orders::unwatch_order))]
+    fn unwatch_order(&self, operands: &[u8]) -> Result<Order, NoMemory>
+        ensures { IfOk result (λ o. o ≡ unwatch_order (words operands.now) self.now) }
+    {
+        if !has_word(operands) {
+            return Ok(Order::Unwatch(None));
+        }
+        let Some(word) = only_word(operands) else {
+            return self.refuse(Command::Unwatch, b"", Why::NotOne);
+        };
+        match self.scope().followed(word) {
+            Some(watched) => Ok(Order::Unwatch(Some(watched))),
+            None => self.refuse(Command::Unwatch, word, Why::NoAddress),
+        }
+    }
+
     /// Reads the operands of `rx`.
     #[tactic(auto, unfolding(crate::specs::Orders::command_order))]
     fn receive_order(&self, operands: &[u8]) -> Result<Order, NoMemory>
@@ -454,6 +505,8 @@ impl Lab {
             Command::List => self.list_order(line.operands),
             Command::Break => self.break_order(line.operands),
             Command::Clear => self.clear_order(line.operands),
+            Command::Watch => self.watch_order(line.operands),
+            Command::Unwatch => self.unwatch_order(line.operands),
             Command::Receive => self.receive_order(line.operands),
             Command::Line => self.line_order(line.operands),
             Command::Save => self.save_order(line.operands),

@@ -38,6 +38,13 @@ impl Goal {
         matches!(self, Goal::Trace)
     }
 
+    /// Returns whether breakpoints and changes of what is watched stop a run.
+    pub(crate) fn heeds(&self) -> bool
+        ensures { result ≡ spec.heeds self.now }
+    {
+        !matches!(self, Goal::Count | Goal::Trace)
+    }
+
     /// Returns what `c` goes on for after a run.
     pub(crate) fn resumed(&self) -> Goal
         ensures { result ≡ spec.resumed_by self.now }

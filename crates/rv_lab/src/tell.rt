@@ -10,13 +10,13 @@ ghost use Rattle.rv_lab.specs.State.{board, sent};
 use crate::lab::Lab;
 use crate::plan::Goal;
 use crate::steps::changes;
+use crate::watch::watch_on;
 use rv_answers::{Aim, Answer, Ending, Many, Run, Trap, Watch};
 use rv_base::NoMemory;
 use rv_board::TrapRecord;
 use rv_convention::registers_of;
 use rv_monitor::write_stop;
 use rv_recording::{Condition, End, Watched};
-use rv_why::target_of;
 
 /// Returns the monitor's word for why a run is over.
 fn stop_word(end: End) -> &'static str
@@ -24,7 +24,7 @@ fn stop_word(end: End) -> &'static str
 {
     match end {
         End::Halted => "halted",
-        End::Breakpoint => "break",
+        End::Breakpoint | End::Reached => "break",
         _ => "limit",
     }
 }
@@ -84,12 +84,7 @@ impl Lab {
     pub(crate) fn watch_of(&self, watched: Watched) -> Watch
         ensures { result ≡ watch_of self.now watched }
     {
-        // A copy: for the borrow checker the call moves its argument.
-        let asked = watched;
-        Watch {
-            target: target_of(asked),
-            value: watched.value(self.board()),
-        }
+        watch_on(self.board(), watched)
     }
 
     /// Returns what a run went on for that went on until a condition holds.
@@ -144,11 +139,13 @@ impl Lab {
             &self.last.registers,
             &registers_of(self.board()),
         )?;
+        let watched = self.watch_changes(goal)?;
         Ok(Answer::Ended(Run {
             ending: ending_of(end),
             aim: self.aim_of(goal),
             steps: self.steps().saturating_sub(self.last.steps),
             changed,
+            watched,
             standing: self.standing(),
         }))
     }

@@ -1,6 +1,6 @@
 -- Not to audit: private contracts alone cite this.
 -- Calls of parts of a lab, and those that stopped short.
-use Rattle.std.specs.Prelude.{◌≡◌, ℕ, zero, suc, ◌-◌, List, [], Option, Some, None, is_some, if◌then◌else◌, nat_lt, Result, IfOk, OnErr, OnOk}
+use Rattle.std.specs.Prelude.{◌≡◌, ℕ, zero, suc, ◌-◌, ◌&&◌, Bool, true, false, List, [], Option, Some, None, is_some, if◌then◌else◌, nat_lt, Result, IfOk, OnErr, OnOk}
 use Rattle.rv_base.specs.declared.memory.NoMemory.{NoMemory}
 use Rattle.rv_timeline.specs.declared.input.Input.{Input}
 use Rattle.rv_recording.specs.Recording.{RecordingState, gone_back, with_timed}
@@ -13,7 +13,7 @@ use Rattle.rv_answers.specs.declared.answer.Answer.{Answer}
 use Rattle.rv_answers.specs.declared.answer.Answer.TheVariants as answers
 use Rattle.rv_answers.specs.declared.moves.Step.{Step}
 use Rattle.rv_lab.specs.Answers.{standing}
-use Rattle.rv_lab.specs.Commands.{begun, gone_on, is_traced, resumed_by, stepped, with_console, with_inputs, with_session}
+use Rattle.rv_lab.specs.Commands.{Stops, begun, gone_on, guarded_ends, is_traced, resumed_by, stepped, with_console, with_inputs, with_session}
 use Rattle.rv_lab.specs.declared.order.Order.TheVariants as orders
 use Rattle.rv_lab.specs.Refusals.{Leads, RunsOut}
 use Rattle.rv_lab.specs.Runs.{Leaves, does, ending_of, next_steps, over_answer}
@@ -21,7 +21,8 @@ use Rattle.rv_lab.specs.declared.lab.Done.{Done}
 use Rattle.rv_lab.specs.declared.order.Order.{Order}
 use Rattle.rv_lab.specs.State.{LabState, timed}
 use Rattle.rv_recording.specs.declared.until.End.{End}
-use Rattle.rv_recording.specs.declared.until.End.TheVariants.{Halted, Limit, Stuck}
+use Rattle.rv_recording.specs.declared.until.End.TheVariants.{Halted, Limit, Reached, Stuck}
+use Rattle.rv_lab.specs.Watches.{changes_at, watching}
 use Rattle.rv_lab.specs.declared.plan.Goal.{Goal}
 use Rattle.rv_lab.specs.declared.plan.Goal.TheVariants as goal
 use Rattle.rv_lab.specs.declared.plan.Plan.{Plan}
@@ -80,6 +81,24 @@ abbrev pub Gives : List Input → LabState → LabState → Type 0
 Gives inputs old new = new ≡ with_inputs old inputs
 
 -- ---- calls of a run
+
+-- why a run from a session on would be over after some of its steps if it stopped at each change of what is watched
+abbrev pub watched_ends : Stops → Goal → SessionState → ℕ → Option End
+watched_ends st g s n = watching (changes_at st.watches s.timed n) (guarded_ends st.guards g s n)
+
+-- why it is over after a step that ended so, of `left` at most, by whether that changed something, if it is
+abbrev pub goes_with : Bool → End → Bool
+goes_with false Limit = true
+goes_with changes end = false
+
+abbrev pub ends_with : Bool → End → End
+ends_with true Halted = Halted
+ends_with true end = Reached
+ends_with false end = end
+
+abbrev pub stop_here : Bool → End → ℕ → Option End
+stop_here changes end left =
+    if goes_with changes end && nat_lt 1 left then None else Some (ends_with changes end)
 
 -- why a run from a session on would be over after some of its steps if no breakpoint had a condition
 abbrev pub plain_ends : Goal → SessionState → ℕ → Option End

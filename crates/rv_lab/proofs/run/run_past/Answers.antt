@@ -1,12 +1,12 @@
 use Rattle.rv_recording.specs.Refused.{IsRefusedIn}
-use Rattle.rv_lab.specs.Commands.{run_ends}
+use Rattle.rv_lab.specs.Commands.{guarded_ends}
 use Rattle.rv_lab.proofs.Passing.{aims_still, fewer, goes_on, is_over, is_refused}
 use Rattle.rv_lab.proofs.Short.{on_err}
 use Rattle.rv_lab.proofs.run.run_past.Goals as goal
 
 pub returns-in_err-end-clause-err : goal.returns-in_err-end-clause-err
 returns-in_err-end-clause-err c =
-    on_err c.from_residual.result (IsRefusedIn (run_ends c.args.guards.now c.args.goal.now c.args.recording.now.session)
+    on_err c.from_residual.result (IsRefusedIn (guarded_ends c.args.guards.now c.args.goal.now c.args.recording.now.session)
     c.args.most c.args.recording.now.session c.run_for.new.recording.session)
     (is_refused c.args.guards.now c.args.goal.now c.args.recording.now c.args.most c.loop-end.goal c.loop-end.recording
     c.loop-end.left c.loop-end.invariant c.run_for.new.recording.session c.in_err-end.ensures.err)
