@@ -1,6 +1,6 @@
 //! The source read again.
 use crate::words::Words;
-use rv_answers::{Answer, BreakCondition, Place};
+use rv_answers::{Answer, BreakCondition, Place, Target};
 use rv_base::{NoMemory, TEXT_LIMIT};
 use rv_lab::{Lab, LabFault, Printer, append_diagnosis};
 use rv_options::read_file;
@@ -64,6 +64,48 @@ fn copy_breaks(rt: &HostRuntime, old: &Lab, new: &mut Lab) -> Result<(), NoMemor
     Ok(())
 }
 
+/// Returns the command to watch a register, or the word at an address: by the name before it, if the address lies in the
+/// image.
+fn watch_line(rt: &HostRuntime, target: Target, lab: &Lab) -> Printer {
+    let mut line = Printer::new(rt.alloc());
+    line.say("watch ");
+    match target {
+        Target::Register(register) => {
+            line.say("x");
+            line.number(u64::from(register.number()));
+        }
+        Target::Word(address) => append_word(lab, address, &mut line),
+    }
+    line
+}
+
+/// Appends the word at an address as it is watched.
+fn append_word(lab: &Lab, address: u32, line: &mut Printer) {
+    line.say("[");
+    match lab.listing().label_before(address) {
+        Some(label) if lab.listing().line_at(address).is_some() => {
+            line.put(label.name.bytes());
+            line.say("+");
+            line.number(u64::from(label.distance));
+        }
+        _ => {
+            line.say("0x");
+            line.word(address);
+        }
+    }
+    line.say("]");
+}
+
+/// Has a lab watch what another one watches. What means nothing in the new source is left out.
+fn copy_watches(rt: &HostRuntime, old: &Lab, new: &mut Lab) -> Result<(), NoMemory> {
+    if let Some(Answer::Watches(watches)) = old.look(b"watch")? {
+        for watch in watches.items() {
+            new.answer(watch_line(rt, watch.target, old).bytes())?;
+        }
+    }
+    Ok(())
+}
+
 impl<'a> SourceFile<'a> {
     /// Returns the file that words name, which is to be read now.
     pub fn new(rt: &HostRuntime, words: Words<'a>) -> SourceFile<'a> {
@@ -79,19 +121,23 @@ impl<'a> SourceFile<'a> {
         is_newer
     }
 
-    /// Opens a lab of a source, with the inputs and the breakpoints of another one.
+    /// Opens a lab of a source, with the inputs, the breakpoints and the watches of another one.
     fn open(&self, rt: &HostRuntime, source: &[u8], old: &Lab) -> Result<Lab, LabFault> {
         let Ok(inputs) = old.recording().inputs_text(rt.alloc()) else {
             return Err(LabFault::OutOfMemory);
         };
         let mut new = Lab::open(rt.alloc(), source, inputs.as_slice(), self.words.sizes)?;
         match copy_breaks(rt, old, &mut new) {
+            Ok(()) => {}
+            Err(NoMemory) => return Err(LabFault::OutOfMemory),
+        }
+        match copy_watches(rt, old, &mut new) {
             Ok(()) => Ok(new),
             Err(NoMemory) => Err(LabFault::OutOfMemory),
         }
     }
 
-    /// Reads the file again, and puts a lab of it in the place of another one, with its inputs and breakpoints. Where that
+    /// Reads the file again, and puts a lab of it in the place of another one, with its inputs, breakpoints and watches. Where that
     /// can't be done the lab stays, and the text tells why.
     pub fn reload(&mut self, rt: &HostRuntime, lab: &mut Lab, text: &mut Printer) {
         self.known = written(rt, self.words.source);
