@@ -39,29 +39,13 @@ record Reads (contents : List ℕ) (s b : ℕ) (bytes : List ℕ) : Type 0 where
   silent : items (at contents s) bytes ≡ []
   state : after (at contents s) bytes ≡ at (contents ++ b ∷ []) ((s + sum bytes) % 256)
 
-hash_reads : (contents : List ℕ) (s : ℕ) → Reads contents s 0x23 (sent 0x23)
-unfolding step
-hash_reads contents s =
-    let e : ((s + 0x7d) % 256 + 3) % 256 ≡ (s + 128) % 256 = omega arith in
-    record { silent = refl; state = ap (λ (n : ℕ). at (contents ++ 0x23 ∷ []) n) e }
-
-dollar_reads : (contents : List ℕ) (s : ℕ) → Reads contents s 0x24 (sent 0x24)
-unfolding step
-dollar_reads contents s =
-    let e : ((s + 0x7d) % 256 + 4) % 256 ≡ (s + 129) % 256 = omega arith in
-    record { silent = refl; state = ap (λ (n : ℕ). at (contents ++ 0x24 ∷ []) n) e }
-
-brace_reads : (contents : List ℕ) (s : ℕ) → Reads contents s 0x7d (sent 0x7d)
-unfolding step
-brace_reads contents s =
-    let e : ((s + 0x7d) % 256 + 93) % 256 ≡ (s + 218) % 256 = omega arith in
-    record { silent = refl; state = ap (λ (n : ℕ). at (contents ++ 0x7d ∷ []) n) e }
-
-star_reads : (contents : List ℕ) (s : ℕ) → Reads contents s 0x2a (sent 0x2a)
-unfolding step
-star_reads contents s =
-    let e : ((s + 0x7d) % 256 + 10) % 256 ≡ (s + 135) % 256 = omega arith in
-    record { silent = refl; state = ap (λ (n : ℕ). at (contents ++ 0x2a ∷ []) n) e }
+-- a byte that is sent as two, if they are read as it
+special_reads : (contents : List ℕ) (s b c : ℕ) → items (at contents s) (0x7d ∷ c ∷ []) ≡ [] →
+    after (at contents s) (0x7d ∷ c ∷ []) ≡ at (contents ++ b ∷ []) (((s + 0x7d) % 256 + c) % 256) →
+    Reads contents s b (0x7d ∷ c ∷ [])
+special_reads contents s b c silent state =
+    let e : ((s + 0x7d) % 256 + c) % 256 ≡ (s + sum (0x7d ∷ c ∷ [])) % 256 = omega arith in
+    record { silent = silent; state = state ∙ ap (λ (n : ℕ). at (contents ++ b ∷ []) n) e }
 
 plain_step : (contents : List ℕ) (s b : ℕ) → (b ≡ 0x23 → ⊥) → (b ≡ 0x24 → ⊥) → (b ≡ 0x7d → ⊥) →
     step Inside (at contents s) b ≡ record { state = at (contents ++ b ∷ []) ((s + b) % 256); item = None }
@@ -83,14 +67,15 @@ plain_reads contents s b hash dollar brace star =
     })
 
 byte_reads : (contents : List ℕ) (s b : ℕ) → Reads contents s b (sent b)
+unfolding step
 byte_reads contents s b = ⊎_elim
-    (λ e. subst (λ (x : ℕ). Reads contents s x (sent x)) (sym e) (hash_reads contents s))
+    (λ e. subst (λ (x : ℕ). Reads contents s x (sent x)) (sym e) (special_reads contents s 0x23 3 refl refl))
     (λ hash. ⊎_elim
-    (λ e. subst (λ (x : ℕ). Reads contents s x (sent x)) (sym e) (dollar_reads contents s))
+    (λ e. subst (λ (x : ℕ). Reads contents s x (sent x)) (sym e) (special_reads contents s 0x24 4 refl refl))
     (λ dollar. ⊎_elim
-    (λ e. subst (λ (x : ℕ). Reads contents s x (sent x)) (sym e) (brace_reads contents s))
+    (λ e. subst (λ (x : ℕ). Reads contents s x (sent x)) (sym e) (special_reads contents s 0x7d 0x5d refl refl))
     (λ brace. ⊎_elim
-    (λ e. subst (λ (x : ℕ). Reads contents s x (sent x)) (sym e) (star_reads contents s))
+    (λ e. subst (λ (x : ℕ). Reads contents s x (sent x)) (sym e) (special_reads contents s 0x2a 10 refl refl))
     (λ star. plain_reads contents s b hash dollar brace star)
     (cases_eq b 0x2a))
     (cases_eq b 0x7d))

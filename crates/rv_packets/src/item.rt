@@ -1,7 +1,7 @@
 //! What a stream says.
 use std::marker::Model;
 
-/// The contents of a packet; its view is the list of their bytes.
+/// The contents of a packet, or a line that it has as digits; its view is the list of their bytes.
 #[derive(Drop)]
 pub struct Contents {
     bytes: Vec<u8>,
