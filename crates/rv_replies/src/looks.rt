@@ -9,13 +9,13 @@ use crate::registers::{append_register, append_registers};
 use crate::stops::append_last_stop;
 use rv_base::NoMemory;
 use rv_board::BootedBoard;
-use rv_requests::{Request, Text};
+use rv_requests::Request;
 
 /// Appends whether the file of a path can be opened: the program's can.
-fn append_opened(out: &mut Vec<u8>, path: &Text, files: &Files) -> Result<(), NoMemory>
+fn append_opened(out: &mut Vec<u8>, path: &[u8], files: &Files) -> Result<(), NoMemory>
     ensures { OnOk result (out.new.items ≡ out.old.items ++ opened path.now files.now) }
 {
-    if path.bytes() == files.path() {
+    if path == files.path() {
         Ok(out.extend_from_slice(b"F5")?)
     } else {
         Ok(out.extend_from_slice(b"F-1,2")?)
@@ -56,7 +56,7 @@ fn append_shown(
             Ok(true)
         }
         Request::Open(path) => {
-            append_opened(out, path, files)?;
+            append_opened(out, path.bytes(), files)?;
             Ok(true)
         }
         Request::ReadFile(extent) => {

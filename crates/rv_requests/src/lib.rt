@@ -8,4 +8,4 @@ mod request;
 mod text;
 
 pub use reader::read_request;
-pub use request::{Extent, Part, Point, Request, Text};
+pub use request::{Extent, Part, Point, Request};

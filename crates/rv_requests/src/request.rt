@@ -1,5 +1,5 @@
 //! What a packet asks for.
-use std::marker::Model;
+use rv_packets::Contents;
 
 /// A part of a text or of a file.
 #[derive(Clone, Copy)]
@@ -32,38 +32,6 @@ pub enum Point {
     Load,
     /// Either of the two.
     Access,
-}
-
-/// A line of a packet, decoded; its view is the list of its bytes.
-#[derive(Drop)]
-pub struct Text {
-    bytes: Vec<u8>,
-}
-
-impl Model for Text {
-    ghost use Rattle.std.specs.Prelude.{List, ℕ};
-
-    ghost Value = { List ℕ };
-
-    ghost view = { λ t. t.bytes.items };
-}
-
-impl Text {
-    ghost use Rattle.std.specs.Prelude.{◌≡◌};
-
-    /// Makes a text of bytes.
-    pub fn of(bytes: Vec<u8>) -> Text
-        ensures { result ≡ bytes.items }
-    {
-        Text { bytes }
-    }
-
-    /// Returns the bytes.
-    pub fn bytes(&self) -> &[u8]
-        ensures { result.now ≡ self.now }
-    {
-        self.bytes.as_slice()
-    }
 }
 
 /// What a packet asks for.
@@ -104,7 +72,7 @@ pub enum Request {
     /// `vFile:setfs`: to name files as the target does.
     SetFiles,
     /// `vFile:open`: to open the file of this path.
-    Open(Text),
+    Open(Contents),
     /// `vFile:pread`: a part of the open file.
     ReadFile(Extent),
     /// `vFile:fstat`: the open file's size.
@@ -112,7 +80,7 @@ pub enum Request {
     /// `vFile:close`: to close it.
     Close,
     /// `qRcmd`: to answer this line.
-    Command(Text),
+    Command(Contents),
     /// `qfThreadInfo`: the threads.
     Threads,
     /// `qsThreadInfo`: the threads that follow them.

@@ -3,13 +3,13 @@ ghost use Rattle.std.specs.Prelude.{◌≡◌, IfOk};
 ghost use Rattle.std.specs.Option.{option_map};
 ghost use Rattle.rv_requests.specs.Numbers.{bytes_of};
 
-use crate::request::Text;
 use rv_base::{NoMemory, hex_byte};
+use rv_packets::Contents;
 use std::alloc::Global;
 
 /// Reads bytes of two hexadecimal digits each. None where there are other bytes or an odd number of them.
 #[tactic(auto, using(crate::proofs::Decoding::decoding_steps))]
-pub(crate) fn read_text(alloc: Global, digits: &[u8]) -> Result<Option<Text>, NoMemory>
+pub(crate) fn read_text(alloc: Global, digits: &[u8]) -> Result<Option<Contents>, NoMemory>
     ensures { IfOk result (λ t. t ≡ bytes_of digits.now) }
 {
     let mut bytes = Vec::new(alloc);
@@ -23,7 +23,7 @@ pub(crate) fn read_text(alloc: Global, digits: &[u8]) -> Result<Option<Text>, No
         left = rest;
     }
     if left.is_empty() {
-        Ok(Some(Text::of(bytes)))
+        Ok(Some(Contents::of(bytes)))
     } else {
         Ok(None)
     }
