@@ -12,6 +12,7 @@ ghost use Rattle.rv_options.specs.Read.{IsReadFrom};
 
 mod args;
 mod laws;
+mod opening;
 mod origin;
 mod program;
 mod status;
@@ -21,8 +22,9 @@ pub use args::{flag_arg, input_arg, option_arg, pages_arg, slots_arg, source_arg
 use clap::error::ErrorKind;
 use clap::{Arg, ArgMatches, Command, Error, value_parser};
 pub use laws::{help_is_answered, words_have_a_meaning};
+pub use opening::{Opening, opening_of};
 pub use origin::Origin;
-pub use program::{print_refusal, read_file, run_with_words};
+pub use program::{current_folder, print_refusal, read_file, run_with_words};
 pub use status::{REFUSED, refusal_status};
 use std::alloc::{AllocError, Global};
 

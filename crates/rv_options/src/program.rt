@@ -43,6 +43,18 @@ pub fn print_refusal<R: Print + Eprint>(rt: &R, error: &Error) -> u8 {
     refusal_status(error)
 }
 
+/// Returns the folder that relative paths begin at, or an empty one where it isn't known.
+pub fn current_folder<R: Env + AllocGlobal>(rt: &R) -> Vec<u8> {
+    let Ok(path) = env::current_dir(rt) else {
+        return Vec::new(rt.alloc());
+    };
+    let folder = match path.to_str() {
+        Some(text) => text.as_bytes().to_vec(rt.alloc()),
+        None => Err(AllocError),
+    };
+    folder.unwrap_or(Vec::new(rt.alloc()))
+}
+
 /// Reads a file of at most `most` bytes.
 pub fn read_file<R: Files + AllocGlobal>(rt: &R, path: &str, most: usize) -> Option<Vec<u8>> {
     let text = fs::read(rt, path).ok()?;
