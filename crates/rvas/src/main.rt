@@ -15,11 +15,10 @@ use rv_base::{NoMemory, TEXT_LIMIT};
 use rv_diagnosis::{append_report, diagnose};
 use rv_ihex::hex_file;
 use rv_object::{ElfFault, elf_file, listing_text};
-use rv_options::{print_refusal, read_file, run_with_words};
-use std::alloc::AllocError;
+use rv_options::{current_folder, print_refusal, read_file, run_with_words};
+use std::fs;
 use std::io::Write;
 use std::process::ExitCode;
-use std::{env, fs};
 
 /// The exit status where the source or the words are refused.
 const REFUSED: u8 = 3;
@@ -54,18 +53,6 @@ fn refuse_source(rt: &HostRuntime, path: &str, source: &[u8]) -> u8 {
     }
 }
 
-/// Returns the folder that relative paths begin at, or an empty one where it isn't known.
-fn folder(rt: &HostRuntime) -> Vec<u8> {
-    let Ok(path) = env::current_dir(rt) else {
-        return Vec::new(rt.alloc());
-    };
-    let folder = match path.to_str() {
-        Some(text) => text.as_bytes().to_vec(rt.alloc()),
-        None => Err(AllocError),
-    };
-    folder.unwrap_or(Vec::new(rt.alloc()))
-}
-
 /// Returns the file of a form.
 fn file_of(
     rt: &HostRuntime,
@@ -74,7 +61,7 @@ fn file_of(
     form: Form,
 ) -> Result<Vec<u8>, ElfFault> {
     match form {
-        Form::Elf => elf_file(rt.alloc(), listing, path.as_bytes(), &folder(rt)),
+        Form::Elf => elf_file(rt.alloc(), listing, path.as_bytes(), &current_folder(rt)),
         Form::Binary => Ok(listing.program.bytes().to_vec(rt.alloc())?),
         Form::Hex => Ok(hex_file(rt.alloc(), listing.program.bytes())?),
     }
