@@ -55,7 +55,7 @@ fn refuse(rt: &HostRuntime, words: &Words<'_>, source: &[u8], fault: LabFault) -
         return refuse_by_line(rt, source);
     }
     let mut text = Printer::new(rt.alloc());
-    append_diagnosis(words.source, source, fault, &mut text);
+    append_diagnosis(words.opening.source, source, fault, &mut text);
     report(rt, text.bytes());
     match fault {
         LabFault::OutOfMemory => FAILED,
@@ -76,7 +76,7 @@ fn greet_and_talk(
     lab: &mut Lab,
     answer: &mut Printer,
 ) -> Result<(), TalkFault> {
-    lab.greet(words.source, answer);
+    lab.greet(words.opening.source, answer);
     print_answer(rt, answer)?;
     talk(rt, lab, SourceFile::new(rt, *words), answer)
 }
@@ -101,7 +101,7 @@ fn run_lab(rt: &HostRuntime, words: &Words<'_>, lab: &mut Lab) -> u8 {
 
 /// Opens a lab of a source with a timed list, and talks. Returns the exit status.
 fn open(rt: &HostRuntime, words: &Words<'_>, source: &[u8], inputs: &[u8]) -> u8 {
-    match Lab::open(rt.alloc(), source, inputs, words.sizes) {
+    match Lab::open(rt.alloc(), source, inputs, words.sizes()) {
         Ok(mut lab) => run_lab(rt, words, &mut lab),
         Err(fault) => refuse(rt, words, source, fault),
     }
@@ -109,7 +109,7 @@ fn open(rt: &HostRuntime, words: &Words<'_>, source: &[u8], inputs: &[u8]) -> u8
 
 /// Reads the timed list, if the words name one, and talks. Returns the exit status.
 fn run_source(rt: &HostRuntime, words: &Words<'_>, source: &[u8]) -> u8 {
-    let Some(path) = words.input else {
+    let Some(path) = words.opening.input else {
         return open(rt, words, source, b"");
     };
     match read_file(rt, path, TEXT_LIMIT) {
@@ -120,7 +120,7 @@ fn run_source(rt: &HostRuntime, words: &Words<'_>, source: &[u8]) -> u8 {
 
 /// Reads the files that the words name, and talks. Returns the exit status.
 fn run(rt: &HostRuntime, words: &Words<'_>) -> u8 {
-    match read_file(rt, words.source, TEXT_LIMIT) {
+    match read_file(rt, words.opening.source, TEXT_LIMIT) {
         Some(source) => run_source(rt, words, source.as_slice()),
         None => fail(rt, b"cannot read source\n"),
     }

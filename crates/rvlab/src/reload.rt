@@ -1,6 +1,6 @@
 //! The source read again.
 use crate::words::Words;
-use rv_answers::{Answer, BreakCondition, Place, Target};
+use rv_answers::{Answer, BreakCondition, Breakpoints, Place, Target, Watch};
 use rv_base::{NoMemory, TEXT_LIMIT};
 use rv_lab::{Lab, LabFault, Printer, append_diagnosis};
 use rv_options::read_file;
@@ -52,16 +52,25 @@ fn set_condition(
     Ok(())
 }
 
-/// Makes the breakpoints of a lab those of another one, too.
-fn copy_breaks(rt: &HostRuntime, old: &Lab, new: &mut Lab) -> Result<(), NoMemory> {
-    if let Some(Answer::Breakpoints(breaks)) = old.look(b"b")? {
-        for place in breaks.places.items() {
-            let place = *place;
-            new.answer(break_line(rt, place).bytes())?;
-            set_condition(rt, place, breaks.conditions.items(), new)?;
-        }
+/// Sets breakpoints in a lab, with their conditions.
+fn set_breaks(rt: &HostRuntime, breaks: &Breakpoints, lab: &mut Lab) -> Result<(), NoMemory> {
+    for place in breaks.places.items() {
+        let place = *place;
+        lab.answer(break_line(rt, place).bytes())?;
+        set_condition(rt, place, breaks.conditions.items(), lab)?;
     }
     Ok(())
+}
+
+/// Makes the breakpoints of a lab those of another one, too.
+fn copy_breaks(rt: &HostRuntime, old: &Lab, new: &mut Lab) -> Result<(), NoMemory> {
+    let Some(answer) = old.look(b"b")? else {
+        return Ok(());
+    };
+    match &answer {
+        Answer::Breakpoints(breaks) => set_breaks(rt, breaks, new),
+        _ => Ok(()),
+    }
 }
 
 /// Returns the command to watch a register, or the word at an address: by the name before it, if the address lies in the
@@ -97,25 +106,39 @@ fn append_word(lab: &Lab, address: u32, line: &mut Printer) {
 }
 
 /// Has a lab watch what another one watches. What means nothing in the new source is left out.
-fn copy_watches(rt: &HostRuntime, old: &Lab, new: &mut Lab) -> Result<(), NoMemory> {
-    if let Some(Answer::Watches(watches)) = old.look(b"watch")? {
-        for watch in watches.items() {
-            new.answer(watch_line(rt, watch.target, old).bytes())?;
-        }
+fn set_watches(
+    rt: &HostRuntime,
+    watches: &[Watch],
+    old: &Lab,
+    new: &mut Lab,
+) -> Result<(), NoMemory> {
+    for watch in watches {
+        new.answer(watch_line(rt, watch.target, old).bytes())?;
     }
     Ok(())
+}
+
+/// Makes what a lab watches what another one watches, too.
+fn copy_watches(rt: &HostRuntime, old: &Lab, new: &mut Lab) -> Result<(), NoMemory> {
+    let Some(answer) = old.look(b"watch")? else {
+        return Ok(());
+    };
+    match &answer {
+        Answer::Watches(watches) => set_watches(rt, watches.items(), old, new),
+        _ => Ok(()),
+    }
 }
 
 impl<'a> SourceFile<'a> {
     /// Returns the file that words name, which is to be read now.
     pub fn new(rt: &HostRuntime, words: Words<'a>) -> SourceFile<'a> {
-        let known = written(rt, words.source);
+        let known = written(rt, words.opening.source);
         SourceFile { words, known }
     }
 
     /// Returns whether the file was written since it was read or since that was told.
     pub fn is_newer(&mut self, rt: &HostRuntime) -> bool {
-        let now = written(rt, self.words.source);
+        let now = written(rt, self.words.opening.source);
         let is_newer = now.is_some() && now != self.known;
         self.known = now;
         is_newer
@@ -126,7 +149,7 @@ impl<'a> SourceFile<'a> {
         let Ok(inputs) = old.recording().inputs_text(rt.alloc()) else {
             return Err(LabFault::OutOfMemory);
         };
-        let mut new = Lab::open(rt.alloc(), source, inputs.as_slice(), self.words.sizes)?;
+        let mut new = Lab::open(rt.alloc(), source, inputs.as_slice(), self.words.sizes())?;
         match copy_breaks(rt, old, &mut new) {
             Ok(()) => {}
             Err(NoMemory) => return Err(LabFault::OutOfMemory),
@@ -140,16 +163,16 @@ impl<'a> SourceFile<'a> {
     /// Reads the file again, and puts a lab of it in the place of another one, with its inputs, breakpoints and watches. Where that
     /// can't be done the lab stays, and the text tells why.
     pub fn reload(&mut self, rt: &HostRuntime, lab: &mut Lab, text: &mut Printer) {
-        self.known = written(rt, self.words.source);
-        let Some(source) = read_file(rt, self.words.source, TEXT_LIMIT) else {
+        self.known = written(rt, self.words.opening.source);
+        let Some(source) = read_file(rt, self.words.opening.source, TEXT_LIMIT) else {
             return text.say("cannot read source\n");
         };
         match self.open(rt, &source, lab) {
             Ok(new) => {
                 *lab = new;
-                lab.greet(self.words.source, text);
+                lab.greet(self.words.opening.source, text);
             }
-            Err(fault) => append_diagnosis(self.words.source, &source, fault, text),
+            Err(fault) => append_diagnosis(self.words.opening.source, &source, fault, text),
         }
     }
 }
