@@ -11,21 +11,11 @@ use std::alloc::Global;
 use std::marker::Model;
 
 /// A server of gdb's remote protocol; its view is a talk, and where the stream of gdb's bytes stands.
+#[derive(Drop)]
 pub struct Server {
     alloc: Global,
     talk: Talk,
     receiver: Receiver,
-}
-
-// Hand-written: a derived `Drop` would be proved anew at each exit (docs/PROVING.md).
-impl Drop for Server {
-    fn drop(self) {
-        let Server {
-            alloc: _,
-            talk: _,
-            receiver: _,
-        } = self;
-    }
 }
 
 impl Model for Server {

@@ -27,6 +27,7 @@ pub enum Next {
 }
 
 /// A talk with gdb.
+#[derive(Drop)]
 pub(crate) struct Talk {
     alloc: Global,
     target: Target,
@@ -44,23 +45,6 @@ pub(crate) struct Talk {
     is_interrupted: bool,
     /// Whether the talk is over.
     is_over: bool,
-}
-
-// Hand-written: a derived `Drop` would be proved anew at each exit (docs/PROVING.md).
-impl Drop for Talk {
-    fn drop(self) {
-        let Talk {
-            alloc: _,
-            target: _,
-            last: _,
-            acks: _,
-            asks: _,
-            is_running: _,
-            is_asked: _,
-            is_interrupted: _,
-            is_over: _,
-        } = self;
-    }
 }
 
 impl Model for Talk {
