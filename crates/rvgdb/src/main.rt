@@ -11,12 +11,10 @@ use crate::words::{Words, read_words};
 use clap::error::ErrorKind;
 use rv_base::{NoMemory, TEXT_LIMIT};
 use rv_gdb::{Server, Target, features, memory_map};
-use rv_lab::{Lab, LabFault, Printer, append_diagnosis};
+use rv_lab::{Lab, LabFault, Printer, Sizes, append_diagnosis};
 use rv_object::{ElfFault, elf_file};
-use rv_options::{print_refusal, read_file, run_with_words};
+use rv_options::{Opening, current_folder, print_refusal, read_file, run_with_words};
 use rv_replies::Files;
-use std::alloc::AllocError;
-use std::env;
 use std::io::Write;
 use std::process::ExitCode;
 
@@ -38,21 +36,14 @@ fn fail(rt: &HostRuntime, line: &[u8]) -> u8 {
     FAILED
 }
 
-/// Returns the folder that relative paths begin at, or an empty one where it isn't known.
-fn folder(rt: &HostRuntime) -> Vec<u8> {
-    let Ok(path) = env::current_dir(rt) else {
-        return Vec::new(rt.alloc());
-    };
-    let folder = match path.to_str() {
-        Some(text) => text.as_bytes().to_vec(rt.alloc()),
-        None => Err(AllocError),
-    };
-    folder.unwrap_or(Vec::new(rt.alloc()))
-}
-
 /// Returns the program's ELF file. Where that may be too large, this is told, and it is an empty one.
 fn program_file(rt: &HostRuntime, name: &str, lab: &Lab) -> Result<Vec<u8>, NoMemory> {
-    match elf_file(rt.alloc(), lab.listing(), name.as_bytes(), &folder(rt)) {
+    match elf_file(
+        rt.alloc(),
+        lab.listing(),
+        name.as_bytes(),
+        &current_folder(rt),
+    ) {
         Ok(file) => Ok(file),
         Err(ElfFault::TooLarge) => {
             let _told = rt.stderr().write_all(TOO_LARGE);
@@ -64,10 +55,10 @@ fn program_file(rt: &HostRuntime, name: &str, lab: &Lab) -> Result<Vec<u8>, NoMe
 
 /// Returns a server of a lab.
 fn server(rt: &HostRuntime, words: &Words<'_>, lab: Lab) -> Result<Server, NoMemory> {
-    let file = program_file(rt, words.source, &lab)?;
+    let file = program_file(rt, words.opening.source, &lab)?;
     let mut path = Vec::new(rt.alloc());
     path.extend_from_slice(PATH)?;
-    let map = memory_map(rt.alloc(), words.sizes.pages)?;
+    let map = memory_map(rt.alloc(), words.opening.pages)?;
     let files = Files::new(features(rt.alloc())?, map, path, file);
     let target = Target::new(rt.alloc(), lab, files)?;
     Ok(Server::new(rt.alloc(), target, words.asks))
@@ -88,7 +79,7 @@ fn serve(rt: &HostRuntime, words: &Words<'_>, lab: Lab) -> u8 {
 /// Reports why there is no lab, and returns the exit status.
 fn refuse(rt: &HostRuntime, words: &Words<'_>, source: &[u8], fault: LabFault) -> u8 {
     let mut text = Printer::new(rt.alloc());
-    append_diagnosis(words.source, source, fault, &mut text);
+    append_diagnosis(words.opening.source, source, fault, &mut text);
     let failed = fail(rt, text.bytes());
     match fault {
         LabFault::OutOfMemory => failed,
@@ -98,7 +89,7 @@ fn refuse(rt: &HostRuntime, words: &Words<'_>, source: &[u8], fault: LabFault) -
 
 /// Returns the timed list, which is empty if the words name none.
 fn inputs_of(rt: &HostRuntime, words: &Words<'_>) -> Option<Vec<u8>> {
-    match words.input {
+    match words.opening.input {
         Some(path) => read_file(rt, path, TEXT_LIMIT),
         None => Some(Vec::new(rt.alloc())),
     }
@@ -106,13 +97,14 @@ fn inputs_of(rt: &HostRuntime, words: &Words<'_>) -> Option<Vec<u8>> {
 
 /// Reads the files that the words name, and talks. Returns the exit status.
 fn run(rt: &HostRuntime, words: &Words<'_>) -> u8 {
-    let Some(source) = read_file(rt, words.source, TEXT_LIMIT) else {
+    let Some(source) = read_file(rt, words.opening.source, TEXT_LIMIT) else {
         return fail(rt, b"cannot read source\n");
     };
     let Some(inputs) = inputs_of(rt, words) else {
         return fail(rt, b"cannot read input\n");
     };
-    match Lab::open(rt.alloc(), &source, &inputs, words.sizes) {
+    let Opening { pages, slots, .. } = words.opening;
+    match Lab::open(rt.alloc(), &source, &inputs, Sizes { pages, slots }) {
         Ok(lab) => serve(rt, words, lab),
         Err(fault) => refuse(rt, words, &source, fault),
     }
