@@ -175,9 +175,13 @@ impl Drop for Answer {
             Answer::Saved(_) => {}
             Answer::Explained(_) => {}
             Answer::Origin(_) => {}
+            Answer::Backtrace(_) => {}
             Answer::Checked(_) => {}
             Answer::Profiled(_) => {}
             Answer::Display(_) => {}
+            Answer::Watch(_) => {}
+            Answer::Watches(_) => {}
+            Answer::Unwatched(_) => {}
             Answer::Help(_) => {}
             Answer::NoCommand(_) => {}
             Answer::TooLong => {}
