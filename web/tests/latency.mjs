@@ -1,14 +1,21 @@
 // node web/tests/latency.mjs PROGRAM: how long one waits: for a key in a long source and in a long line, for a step in
-// 3,000 lines, and for Pause in a run of 10^9 steps.
+// 3,000 lines, and for Pause in a run of 10^9 steps. A key and a step are compared with those in 30 lines on the same
+// machine: on a slow one both take longer.
 import { check, contains, same } from "./checks.mjs";
 import { clickLine, editor, put } from "./source.mjs";
 import { answer, answers, idle, learn, open, page, where } from "./user.mjs";
 
-const STEP = 20, KEY = 50, LONG_LINE = 1000, PAUSE = 500; // milliseconds at most
+const STEP = 20, KEY = 50, LONG_LINE = 1000, PAUSE = 500; // milliseconds at most, on a machine that isn't slow
+const LONGER = 2; // how much longer a key or a step in a long source may take than in a short one, on any machine
 const wait = (milliseconds) => new Promise((done) => setTimeout(done, milliseconds));
 
 // The time that a quarter of them stay below: what the page takes, and not what other programs on the machine take.
 const quarter = (times) => times.sort((a, b) => a - b)[times.length >> 2];
+
+// Checks a time in a long source: at most a limit, or not much longer than in a short one.
+function within(what, time, limit, short) {
+    check(`${what} takes ${Math.round(time)} ms, in 30 lines ${Math.round(short)}`, time < Math.max(limit, LONGER * short));
+}
 
 // The milliseconds from some keys to what is drawn after each.
 async function keyTimes(count) {
@@ -35,12 +42,12 @@ async function putLong(expression) {
 
 async function keys() {
     const line = "        addi t0,t0,1            # a line as others are\n";
+    await putLong(`${JSON.stringify(line)}.repeat(30)`);
+    const short = quarter(await keyTimes(15));
     await putLong(`${JSON.stringify(line)}.repeat(100000)`);
-    const some = quarter(await keyTimes(15));
-    check(`a key in 100,000 lines takes ${Math.round(some)} ms`, some < KEY);
+    within("a key in 100,000 lines", quarter(await keyTimes(15)), KEY, short);
     await page.run(`${editor}.setCursor(60000, 4)`);
-    const far = quarter(await keyTimes(15));
-    check(`and in the midst of them ${Math.round(far)}`, far < KEY);
+    within("a key in the midst of them", quarter(await keyTimes(15)), KEY, short);
     await putLong(`"nop\\n" + "x y ".repeat(250000) + "\\nnop\\n"`);
     const long = quarter(await keyTimes(7));
     check(`a key in a line of 1 MB takes ${Math.round(long)} ms`, long < LONG_LINE);
@@ -66,14 +73,23 @@ async function stepTimes(count) {
     return times;
 }
 
-async function steps() {
-    const lines = Array.from({ length: 3000 }, (_, i) => `l${i}:     addi t0,t0,${i % 100}          # line ${i}`);
-    await open(`${lines.join("\n")}\n`);
+// Opens a source of that many lines, and returns the time of a step with each tab beside.
+async function stepsIn(count) {
+    const lines = Array.from({ length: count }, (_, i) => `l${i}:     addi t0,t0,${i % 100}          # line ${i}`);
+    await open(`${lines.join("\n")}\n        j l0\n`);
     await stepTimes(5);
+    const times = {};
     for (const tab of ["control", "memory"]) {
         await page.run(`document.getElementById("tab-${tab}").click()`);
-        const time = quarter(await stepTimes(21));
-        check(`a step in 3,000 lines takes ${Math.round(time)} ms, with ${tab} beside`, time < STEP);
+        times[tab] = quarter(await stepTimes(21));
+    }
+    return times;
+}
+
+async function steps() {
+    const short = await stepsIn(30), long = await stepsIn(3000);
+    for (const tab of ["control", "memory"]) {
+        within(`a step in 3,000 lines, with ${tab} beside,`, long[tab], STEP, short[tab]);
     }
     for (let line = 60; line <= 3000; line += 60) {
         await page.run(`document.getElementById("answer").textContent = ""`);
@@ -83,8 +99,7 @@ async function steps() {
     }
     const count = `document.querySelectorAll(".CodeMirror .stop").length`;
     check("50 breakpoints are set by clicks", (await page.run(count)) > 0);
-    const time = quarter(await stepTimes(21));
-    check(`a step with 50 breakpoints takes ${Math.round(time)} ms`, time < STEP);
+    within("a step with 50 breakpoints", quarter(await stepTimes(21)), STEP, short.memory);
     await page.run(`document.getElementById("answer").textContent = ""`);
     await page.alt("R");
     await answers("breakpoint after");
