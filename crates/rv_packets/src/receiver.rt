@@ -50,8 +50,8 @@ fn is_sum(high: u8, low: u8, sum: u8) -> bool
 
 impl Receiver {
     ghost use Rattle.std.specs.Prelude.{◌≡◌, IfOk, OnErr, OnOk, Some};
-    ghost use Rattle.rv_packets.specs.Items.{begun, more, outside, step};
-    ghost use Rattle.rv_packets.specs.declared.receiver.Phase.TheVariants.{Outside, Inside, Escape, Last};
+    ghost use Rattle.rv_packets.specs.Items.{begun, inner, more, outside, step};
+    ghost use Rattle.rv_packets.specs.declared.receiver.Phase.TheVariants.{Outside, Inside, Last};
 
     /// Makes a receiver of a stream from its beginning on.
     pub fn new(alloc: Global) -> Receiver
@@ -102,35 +102,30 @@ impl Receiver {
         }
     }
 
-    /// Takes a byte of the contents.
+    /// Takes a byte of the contents, which stands for one of them unless it is `#` or `$`.
+    fn take_content(&mut self, byte: u8, content: u8) -> Result<(), NoMemory>
+        ensures ok { OnOk result (self.new ≡ (inner self.old byte (more self.old byte content)).state) }
+        ensures err { OnErr result (self.new ≡ self.old) }
+    {
+        match byte {
+            b'#' => self.phase = Phase::First,
+            b'$' => self.begin(),
+            _ => return self.add(byte, content),
+        }
+        Ok(())
+    }
+
+    /// Takes a byte of the contents that follows no `}`.
     #[tactic(auto, unfolding(crate::specs::Items::step))]
     fn take_inner(&mut self, byte: u8) -> Result<(), NoMemory>
         ensures ok { OnOk result (self.new ≡ (step Inside self.old byte).state) }
         ensures err { OnErr result (self.new ≡ self.old) }
     {
-        match byte {
-            b'#' => self.phase = Phase::First,
-            b'$' => self.begin(),
-            b'}' => {
-                self.phase = Phase::Escape;
-                self.sum = self.sum.wrapping_add(byte);
-            }
-            _ => return self.add(byte, byte),
+        if byte != b'}' {
+            return self.take_content(byte, byte);
         }
-        Ok(())
-    }
-
-    /// Takes a byte of the contents that follows a `}`.
-    #[tactic(auto, unfolding(crate::specs::Items::step))]
-    fn take_escaped(&mut self, byte: u8) -> Result<(), NoMemory>
-        ensures ok { OnOk result (self.new ≡ (step Escape self.old byte).state) }
-        ensures err { OnErr result (self.new ≡ self.old) }
-    {
-        match byte {
-            b'#' => self.phase = Phase::First,
-            b'$' => self.begin(),
-            _ => return self.add(byte, byte ^ 0x20),
-        }
+        self.phase = Phase::Escape;
+        self.sum = self.sum.wrapping_add(byte);
         Ok(())
     }
 
@@ -169,7 +164,7 @@ impl Receiver {
                 Ok(None)
             }
             Phase::Escape => {
-                self.take_escaped(byte)?;
+                self.take_content(byte, byte ^ 0x20)?;
                 Ok(None)
             }
             Phase::First => {

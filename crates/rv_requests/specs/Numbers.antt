@@ -1,6 +1,6 @@
 -- To audit: public contracts cite this.
 -- The numbers of a packet (Debugging with GDB, appendix "GDB Remote Serial Protocol", "Overview": hexadecimal digits).
-use Rattle.std.specs.Prelude.{ℕ, ◌+◌, ◌==◌, List, [], ◌∷◌, length, take, drop, Option, Some, None, option_and_then}
+use Rattle.std.specs.Prelude.{ℕ, ◌+◌, ◌==◌, List, [], ◌∷◌, take, drop, Option, Some, None, option_and_then}
 use Rattle.std.specs.List.{position}
 use Rattle.std.specs.Option.{option_map, option_map_or}
 use Rattle.rv_base.specs.Numbers.{number_in, hex_byte}

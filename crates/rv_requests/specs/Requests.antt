@@ -1,7 +1,7 @@
 -- To audit: public contracts cite this.
 -- What the contents of a packet ask for, one row a packet (Debugging with GDB, appendix "GDB Remote Serial Protocol":
 -- "Packets", "General Query Packets", "Stop Reply Packets", "Host I/O Packets", "The F Reply Packet").
-use Rattle.std.specs.Prelude.{ℕ, ◌+◌, ◌-◌, ◌==◌, ◌||◌, Bool, List, [], ◌∷◌, length, take, drop, if◌then◌else◌, nat_le, Option, Some, None, option_and_then, unwrap_or, codes, slice_index}
+use Rattle.std.specs.Prelude.{ℕ, ◌+◌, ◌-◌, ◌==◌, ◌||◌, Bool, List, [], ◌∷◌, length, take, drop, if◌then◌else◌, nat_le, Option, Some, None, unwrap_or, codes, slice_index}
 use Rattle.std.specs.List.{position}
 use Rattle.std.specs.Option.{option_map_or}
 use Rattle.std.specs.Str.{bytes_eq}
@@ -52,12 +52,6 @@ point n =
 abbrev pub at_point : List ℕ → (Point → ℕ → ℕ → Request) → Request
 at_point text request =
     or_malformed (triple text) (λ t. option_map_or (λ p. request p t.1 t.2) (point t.0) Unknown)
-
-abbrev pub insert : List ℕ → Request
-insert text = at_point text (λ p address size. Insert p address size)
-
-abbrev pub remove : List ℕ → Request
-remove text = at_point text (λ p address size. Remove p address size)
 
 -- addresses from one on, below another that isn't lower
 abbrev pub range : List ℕ → Request
@@ -144,8 +138,8 @@ by_letter letter more = unwrap_or (lookup letter (
     ∷ (codes "P", Write)
     ∷ (codes "M", Write)
     ∷ (codes "X", Write)
-    ∷ (codes "Z", insert more)
-    ∷ (codes "z", remove more)
+    ∷ (codes "Z", at_point more Insert)
+    ∷ (codes "z", at_point more Remove)
     ∷ (codes "H", Agree)
     ∷ (codes "T", Agree)
     ∷ (codes "!", alone more Extend)

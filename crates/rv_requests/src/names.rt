@@ -1,8 +1,9 @@
-//! The names of packets, and of the calls of `vFile`.
+//! The names of packets, of the calls of `vFile`, and of the texts of `qXfer`.
 ghost use Rattle.std.specs.Prelude.{◌≡◌};
 ghost use Rattle.rv_base.specs.Tables.{lookup};
 ghost use Rattle.rv_requests.specs.Requests as spec;
 
+use crate::request::Part;
 use rv_base::look_up;
 
 /// A packet whose name is a word.
@@ -67,6 +68,13 @@ static FILE_CALLS: [(&str, FileCall); 5] = [
     ("close", FileCall::Closing),
 ];
 
+/// The texts of `qXfer` by their names.
+static PARTS: [(&str, Part); 3] = [
+    ("features", Part::Features),
+    ("memory-map", Part::MemoryMap),
+    ("exec-file", Part::ProgramPath),
+];
+
 /// Returns the packet of this name.
 pub(crate) fn packet_named(name: &[u8]) -> Option<Packet>
     ensures { result ≡ lookup name.now spec.packets }
@@ -79,4 +87,11 @@ pub(crate) fn file_call_named(name: &[u8]) -> Option<FileCall>
     ensures { result ≡ lookup name.now spec.file_calls }
 {
     look_up(&FILE_CALLS, name)
+}
+
+/// Returns the text of this name.
+pub(crate) fn part_named(name: &[u8]) -> Option<Part>
+    ensures { result ≡ spec.part name.now }
+{
+    look_up(&PARTS, name)
 }

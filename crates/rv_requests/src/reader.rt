@@ -1,11 +1,12 @@
 //! Reads packets.
-ghost use Rattle.std.specs.Prelude.{◌≡◌, ◌<◌, IfOk, IfSome, length, slice_index};
+ghost use Rattle.std.specs.Prelude.{◌≡◌, ◌<◌, IfOk, IfSome, if◌then◌else◌, length, slice_index};
 ghost use Rattle.std.specs.List.{position};
 ghost use Rattle.rv_requests.specs.Requests as spec;
+ghost use Rattle.rv_requests.specs.declared.request.Request.TheVariants.{Insert, Remove};
 
-use crate::names::{FileCall, Packet, file_call_named, packet_named};
+use crate::names::{FileCall, Packet, file_call_named, packet_named, part_named};
 use crate::numbers::{before, behind, number, pair, triple};
-use crate::request::{Extent, Part, Point, Request};
+use crate::request::{Extent, Point, Request};
 use crate::text::read_text;
 use rv_base::{NoMemory, hex_byte};
 use std::alloc::Global;
@@ -75,27 +76,15 @@ fn read_memory(more: &[u8]) -> Request
     }
 }
 
-/// Reads the operands of `Z`.
-fn read_insert(more: &[u8]) -> Request
-    ensures { result ≡ spec.insert more.now }
+/// Reads the operands of `Z`, or those of `z`.
+fn read_point(more: &[u8], is_new: bool) -> Request
+    ensures { result ≡ spec.at_point more.now (if is_new then Insert else Remove) }
 {
     let Some((kind, address, size)) = triple(more) else {
         return Request::Malformed;
     };
     match point(kind) {
-        Some(point) => Request::Insert(point, address, size),
-        None => Request::Unknown,
-    }
-}
-
-/// Reads the operands of `z`.
-fn read_remove(more: &[u8]) -> Request
-    ensures { result ≡ spec.remove more.now }
-{
-    let Some((kind, address, size)) = triple(more) else {
-        return Request::Malformed;
-    };
-    match point(kind) {
+        Some(point) if is_new => Request::Insert(point, address, size),
         Some(point) => Request::Remove(point, address, size),
         None => Request::Unknown,
     }
@@ -137,8 +126,8 @@ fn read_letter(letter: &[u8], more: &[u8]) -> Request
         b"P" => Request::Write,
         b"M" => Request::Write,
         b"X" => Request::Write,
-        b"Z" => read_insert(more),
-        b"z" => read_remove(more),
+        b"Z" => read_point(more, true),
+        b"z" => read_point(more, false),
         b"H" => Request::Agree,
         b"T" => Request::Agree,
         b"!" => alone(more, Request::Extend),
@@ -146,18 +135,6 @@ fn read_letter(letter: &[u8], more: &[u8]) -> Request
         b"k" => Request::End,
         b"F" => read_answered(more),
         _ => read_action(letter, more),
-    }
-}
-
-/// Returns the text of this name.
-fn part(name: &[u8]) -> Option<Part>
-    ensures { result ≡ spec.part name.now }
-{
-    match name {
-        b"features" => Some(Part::Features),
-        b"memory-map" => Some(Part::MemoryMap),
-        b"exec-file" => Some(Part::ProgramPath),
-        _ => None,
     }
 }
 
@@ -170,7 +147,7 @@ fn read_transfer(text: &[u8]) -> Request
     if before(rest, b':') != b"read".as_slice() {
         return Request::Unknown;
     }
-    let Some(part) = part(before(text, b':')) else {
+    let Some(part) = part_named(before(text, b':')) else {
         return Request::Unknown;
     };
     match pair(behind(behind(rest, b':'), b':')) {
