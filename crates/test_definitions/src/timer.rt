@@ -45,31 +45,3 @@ pub const TIMES: [([(u32, u32); 3], u8, u32, u32, bool); 15] = [
 pub fn times_are_defined()
     ensures { list_all is_time TIMES ≡ true }
 {}
-
-#[cfg(test)]
-mod tests {
-    use super::TIMES;
-    use rv_mmio::Timer;
-
-    /// Returns what a load gives after these stores and ticks, and whether the line is high.
-    fn found(stores: [(u32, u32); 3], ticks: u8, off: u32) -> Option<(u32, bool)> {
-        let mut timer = Timer::new();
-        for (off, word) in stores {
-            timer.store(off, word)?;
-        }
-        for _ in 0..ticks {
-            timer.tick();
-        }
-        Some((timer.load(off)?, timer.due()))
-    }
-
-    #[test]
-    fn times(rt: HostRuntime) {
-        for &(stores, ticks, off, word, due) in TIMES.iter() {
-            assert!(rt;
-                found(stores, ticks, off) == Some((word, due)),
-                "{ticks} {off:x}"
-            );
-        }
-    }
-}

@@ -97,23 +97,3 @@ pub const BRANCHES: [(Cond, u32, u32, bool); 14] = [
 pub fn branches_are_defined()
     ensures { list_all is_condition BRANCHES ≡ true }
 {}
-
-#[cfg(test)]
-mod tests {
-    use super::{BRANCHES, VALUES};
-    use rv_isa::{alu, branch_taken};
-
-    #[test]
-    fn values(rt: HostRuntime) {
-        for &(op, a, b, value) in VALUES.iter() {
-            assert!(rt; alu(op, a, b) == value, "{op:?} {a:x} {b:x}");
-        }
-    }
-
-    #[test]
-    fn branches(rt: HostRuntime) {
-        for &(cond, a, b, holds) in BRANCHES.iter() {
-            assert!(rt; branch_taken(cond, a, b) == holds, "{a:x} {b:x}");
-        }
-    }
-}

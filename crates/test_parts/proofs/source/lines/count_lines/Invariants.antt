@@ -1,5 +1,5 @@
 use Rattle.std.proofs.Common.{◌≡◌, ◌+◌, length}
-use Rattle.test_source.proofs.lines.count_lines.Given as goal
+use Rattle.test_parts.proofs.source.lines.count_lines.Given as goal
 use Rattle.rv_base.specs.Lines.{lines}
 
 abbrev pub invariant-loop-line : goal.invariant-loop-line
