@@ -1,7 +1,5 @@
 //! What a web page calls: a lab that the page keeps between calls by a handle, the command lines that it
-//! executes, and the texts that it answers.
-//!
-//! A handle lends its state to each call, so what is only read takes no memory.
+//! executes, and the texts that it answers. What each call does is in `rv_handle`.
 #![tactic(auto)]
 
 ghost use Rattle.std.specs.Prelude.{◌≡◌, ◌≤◌, ◌==◌, ◌⊎◌, ◌++◌, true, false, not, drop, length, max, [], Some, None, IfSome, is_some};
@@ -9,17 +7,9 @@ ghost use Rattle.rv_lab.specs.State.{setup};
 ghost use Rattle.rv_lab.specs.Commands.{GoesOn, IsWithin};
 ghost use Rattle.rv_lab.specs.Runs.{Obeys, reply_on, reply_to};
 ghost use Rattle.rv_base.specs.Lines.{lines};
-ghost use Rattle.rv_page.specs.Pages.{IsOpened, IsRefused, OfLabs, copied, empty, in_pieces, looks, reply_text, sent, taken, told_as};
+ghost use Rattle.rv_handle.specs.Pages.{IsOpened, IsRefused, OfLabs, copied, empty, in_pieces, looks, reply_text, sent, taken, told_as};
 
-mod copying;
-mod handle;
-mod looks;
-mod replies;
-mod state;
-
-use crate::copying::copy_from;
-pub use crate::handle::{Handle, NewHandle};
-pub use crate::state::State;
+use rv_handle::{Handle, NewHandle, State, copy_from};
 use rv_lab::Sizes;
 use std::alloc::Global;
 
