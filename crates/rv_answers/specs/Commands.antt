@@ -6,7 +6,7 @@ use Rattle.std.specs.Option.{option_map}
 use Rattle.std.specs.Str.{bytes_eq}
 use Rattle.rv_base.specs.Words.{words}
 use Rattle.rv_answers.specs.declared.command.Command.{Command}
-use Rattle.rv_answers.specs.declared.command.Command.TheVariants.{Step, Over, Moves, Where, Backtrace, Break, Clear, Registers, ControlRegister, Memory, Instruction, Traps, Edges, Why, Check, Profile, Display, Undisplay, Watch, Unwatch, Devices, Receive, Line, Save, Reload, Monitor, Help, Quit}
+use Rattle.rv_answers.specs.declared.command.Command.TheVariants.{Step, Over, NextC, Moves, Where, Backtrace, Break, Clear, Registers, ControlRegister, Memory, Instruction, Traps, Edges, Why, Check, Profile, Display, Undisplay, Watch, Unwatch, Devices, Receive, Line, Save, Reload, Monitor, Help, Quit}
 use Rattle.rv_answers.specs.declared.command.Command.TheVariants as command
 use Rattle.rv_answers.specs.declared.command.Move.TheVariants.{Go, Finish, Until, Trace, Back}
 
@@ -14,7 +14,7 @@ use Rattle.rv_answers.specs.declared.command.Move.TheVariants.{Go, Finish, Until
 unfoldable pub commands : List (List ℕ × Command)
 commands =
     (codes "s step si", Step) ∷ (codes "c continue run go", Moves Go) ∷ (codes "next n ni", Over) ∷
-    (codes "finish fin", Moves Finish) ∷ (codes "until", Moves Until) ∷ (codes "trace", Moves Trace) ∷
+    (codes "nextc", NextC) ∷ (codes "finish fin", Moves Finish) ∷ (codes "until", Moves Until) ∷ (codes "trace", Moves Trace) ∷
     (codes "u undo back", Moves Back) ∷ (codes "w where", Where) ∷ (codes "bt backtrace", Backtrace) ∷
     (codes "l list", command.List) ∷
     (codes "b break", Break) ∷ (codes "d delete clear", Clear) ∷ (codes "r reg regs registers", Registers) ∷
@@ -34,6 +34,7 @@ unfoldable pub help_word : Command → List ℕ
 help_word Step = codes "s"
 help_word (Moves Go) = codes "c"
 help_word Over = codes "next"
+help_word NextC = codes "nextc"
 help_word (Moves Finish) = codes "finish"
 help_word (Moves Until) = codes "until"
 help_word (Moves Trace) = codes "trace"

@@ -35,6 +35,10 @@ pub enum Why {
     NoSteps,
     /// The text is no condition.
     NoCondition,
+    /// What stands behind the place or the condition is no number of hits.
+    NoHits,
+    /// The source has no places of C.
+    NoMarks,
     /// The condition held after no earlier step.
     NeverMet,
     /// There is no word, or more than one.

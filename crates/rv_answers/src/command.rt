@@ -29,6 +29,7 @@ pub enum Move {
 pub enum Command {
     Step,
     Over,
+    NextC,
     Moves(Move),
     Where,
     Backtrace,
@@ -83,7 +84,7 @@ pub(crate) struct CommandRow {
 
 /// The commands by their words, in the order of the help: the first word is that of the help, and the others
 /// are as other tools have them.
-static COMMANDS: [(&str, CommandRow); 33] = [
+static COMMANDS: [(&str, CommandRow); 34] = [
     (
         "s step si",
         CommandRow {
@@ -109,6 +110,15 @@ static COMMANDS: [(&str, CommandRow); 33] = [
             form: "next",
             does: "goes on past the line here, and past the calls that it makes",
             example: "next",
+        },
+    ),
+    (
+        "nextc",
+        CommandRow {
+            command: Command::NextC,
+            form: "nextc",
+            does: "goes on to the next place of the C source, past calls: to a label as `main.16` of tools/cc",
+            example: "nextc",
         },
     ),
     (
@@ -178,9 +188,9 @@ static COMMANDS: [(&str, CommandRow); 33] = [
         "b break",
         CommandRow {
             command: Command::Break,
-            form: "b [WHERE [if WHAT]]",
-            does: "sets a breakpoint at a line, an address or a name, which stops a run only if WHAT holds, as in `until`; or lists them, and what is watched",
-            example: "b 12",
+            form: "b [WHERE [if WHAT] [after N]]",
+            does: "sets a breakpoint at a line, an address or a name, which stops a run only if WHAT holds, as in `until`, and from the Nth such time on; or lists them, and what is watched",
+            example: "b 12 after 3",
         },
     ),
     (
@@ -440,6 +450,7 @@ pub fn command_word(command: Command) -> &'static str
         Command::Step => "s",
         Command::Moves(Move::Go) => "c",
         Command::Over => "next",
+        Command::NextC => "nextc",
         Command::Moves(Move::Finish) => "finish",
         Command::Moves(Move::Until) => "until",
         Command::Moves(Move::Trace) => "trace",

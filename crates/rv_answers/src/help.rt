@@ -5,7 +5,7 @@ use crate::nearest::Nearest;
 use rv_base::{first_word, look_up};
 
 /// The width of a command's form in the list.
-const FORM_WIDTH: usize = 20;
+const FORM_WIDTH: usize = 30;
 
 /// Appends the list of all commands.
 fn append_commands(text: &mut Printer) {
@@ -62,7 +62,7 @@ fn offer_commands(nearest: &mut Nearest<'_>) {
 }
 
 /// Words of gdb, with what to type here.
-static OTHERS: [(&str, &str); 20] = [
+static OTHERS: [(&str, &str); 21] = [
     (
         "info",
         "`r` shows the registers, `b` the breakpoints, `t` the traps, `dev` the devices",
@@ -96,6 +96,10 @@ static OTHERS: [(&str, &str); 20] = [
     (
         "condition",
         "`b WHERE if REG = V` stops there only if it holds",
+    ),
+    (
+        "ignore",
+        "`b WHERE after N` stops there from the Nth time on",
     ),
     ("rs", "`u` goes back"),
     ("rsi", "`u` goes back"),

@@ -1,20 +1,26 @@
 //! The text of what commands answer that change breakpoints, give inputs or save.
 use crate::Printer;
 use crate::lines::Lines;
+use crate::many::Many;
 use crate::moves::{BreakCondition, Breakpoint, Breakpoints, Cleared, Given, Saved};
 use crate::runs::append_watches;
 
-/// Appends the condition of a breakpoint.
-fn append_condition(condition: &[u8], text: &mut Printer) {
-    text.say(" if ");
-    text.shown(condition);
+/// Appends the condition of a breakpoint, if it has one, and how many hits are passed before one stops a run.
+fn append_condition(condition: &Option<Many<u8>>, passes: u64, text: &mut Printer) {
+    if let Some(condition) = condition {
+        text.say(" if ");
+        text.shown(condition.items());
+    }
+    if passes > 0 {
+        text.fill(", %d hit%{s are| is|s are} passed first", &[passes, passes]);
+    }
 }
 
 /// Appends those of some conditions that are of the breakpoint at an address.
 fn append_condition_at(conditions: &[BreakCondition], address: u32, text: &mut Printer) {
     for condition in conditions {
         if condition.address == address {
-            append_condition(condition.text.items(), text);
+            append_condition(&condition.text, condition.passes, text);
         }
     }
 }
@@ -25,9 +31,7 @@ impl Lines<'_> {
         let place = set.place;
         text.say("breakpoint at");
         self.append_short_place(place, text);
-        if let Some(condition) = &set.condition {
-            append_condition(condition.items(), text);
-        }
+        append_condition(&set.condition, set.passes, text);
         if place.address % 4 != 0 || place.word.is_none() {
             text.say(", where no instruction can be");
         }

@@ -53,6 +53,8 @@ pub enum Aim {
     Breakpoint,
     /// The return from a function or a handler.
     Return,
+    /// A place of the C source.
+    Mark,
     /// A trap; with the last one, if there was one.
     Trap(Option<Trap>),
     /// A byte of the console.
@@ -116,15 +118,19 @@ pub struct Breakpoint {
     pub place: Place,
     /// The condition on which a run stops there, as it was given, if there is one.
     pub condition: Option<Many<u8>>,
+    /// How many hits a run passes before one stops it.
+    pub passes: u64,
 }
 
-/// The condition of a breakpoint.
+/// What a breakpoint stops a run on.
 #[derive(Drop)]
 pub struct BreakCondition {
     /// The address of the breakpoint.
     pub address: u32,
-    /// The condition, as it was given.
-    pub text: Many<u8>,
+    /// The condition, as it was given, if there is one.
+    pub text: Option<Many<u8>>,
+    /// How many hits a run passes before one stops it.
+    pub passes: u64,
 }
 
 /// All breakpoints.
@@ -132,7 +138,7 @@ pub struct BreakCondition {
 pub struct Breakpoints {
     /// Their places, in the order of their addresses.
     pub places: Many<Place>,
-    /// The conditions of those that have one, in the order in which they were given.
+    /// What those stop a run on that have a condition or passed hits, in the order in which that was given.
     pub conditions: Many<BreakCondition>,
     /// What is watched, in the order in which it was asked for.
     pub watches: Many<Watch>,

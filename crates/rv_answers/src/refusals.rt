@@ -42,6 +42,14 @@ const NO_CONDITION: &str =
 const NO_GUARD: &str =
     "is no place with one of these after `if`: console, a line or an address, REG or [ADDR] alone or with =, !=, <, <=, > or >= and a value, with spaces between";
 
+/// What may stand behind the place of a breakpoint.
+const NO_HITS: &str =
+    "behind the place may stand `if` and a condition, then `after` and a number from 1 to 1000000000, and nothing else";
+
+/// Why there is no next place of the C source.
+const NO_MARKS: &str =
+    "no label of the source is a function and a line of C, as `main.16`: tools/cc writes them; `next` goes on past a line of this source\n";
+
 /// Appends that a name is no control register, and which is the nearest.
 fn refuse_control_register(command: &str, name: &[u8], text: &mut Printer) {
     text.refuse(command, name, "is no control register");
@@ -156,6 +164,8 @@ impl Lines<'_> {
             }
             Why::NoSteps => refuse_operand(word, operand, no_steps(refusal.command), text),
             Why::NoCondition => refuse_operand(word, operand, no_condition(refusal.command), text),
+            Why::NoHits => want(word, NO_HITS, text),
+            Why::NoMarks => say_of(word, NO_MARKS, text),
             Why::NeverMet => say_of(word, "it held after no earlier step\n", text),
             Why::NotOne => want_one(refusal.command, text),
             Why::NoBytesThere => self.refuse_lines(text),

@@ -120,7 +120,7 @@ fn limit_form(aim: Aim) -> &'static str {
         Aim::Steps => "stopped after %d step%{s||s}\n",
         Aim::Breakpoint => "still running after %d step%{s||s}; c goes on\n",
         Aim::Return => "not returned after %d step%{s||s}; c goes on\n",
-        Aim::Trap(_) | Aim::Console | Aim::Arrival | Aim::Watch(_) =>
+        Aim::Mark | Aim::Trap(_) | Aim::Console | Aim::Arrival | Aim::Watch(_) =>
             "not reached after %d step%{s||s}; c goes on\n",
     }
 }

@@ -234,6 +234,7 @@ unfoldable pub aim_data : Aim → Data
 aim_data aims.Steps = string (codes "steps")
 aim_data aims.Breakpoint = string (codes "breakpoint")
 aim_data aims.Return = string (codes "return")
+aim_data aims.Mark = string (codes "mark")
 aim_data (aims.Trap t) = string (codes "trap")
 aim_data aims.Console = string (codes "console")
 aim_data aims.Arrival = string (codes "arrival")
@@ -279,10 +280,12 @@ trace_data ls t = kind "traced" (("steps", list_data (step_data ls) t.steps) ∷
 -- ---- `b`, `d`, `rx`, `line` and `save`
 
 unfoldable pub breakpoint_data : List (List ℕ × ℕ) → Breakpoint → Data
-breakpoint_data ls b = kind "break" (("place", place_data ls b.place) ∷ ("condition", option_data text_data b.condition) ∷ [])
+breakpoint_data ls b = kind "break" (("place", place_data ls b.place)
+    ∷ ("condition", option_data text_data b.condition) ∷ ("passes", natural b.passes) ∷ [])
 
 unfoldable pub break_condition_data : BreakCondition → Data
-break_condition_data c = object (members (("address", natural c.address) ∷ ("text", text_data c.text) ∷ []))
+break_condition_data c = object (members (("address", natural c.address)
+    ∷ ("text", option_data text_data c.text) ∷ ("passes", natural c.passes) ∷ []))
 
 unfoldable pub breakpoints_data : List (List ℕ × ℕ) → Breakpoints → Data
 breakpoints_data ls b = kind "breakpoints" (("places", list_data (place_data ls) b.places)
@@ -451,6 +454,8 @@ why_data why.NoControlRegister = string (codes "no_control_register")
 why_data why.NoEdgeSource = string (codes "no_edge_source")
 why_data why.NoSteps = string (codes "no_steps")
 why_data why.NoCondition = string (codes "no_condition")
+why_data why.NoHits = string (codes "no_hits")
+why_data why.NoMarks = string (codes "no_marks")
 why_data why.NeverMet = string (codes "never_met")
 why_data why.NotOne = string (codes "not_one")
 why_data why.NoBytesThere = string (codes "no_bytes_there")

@@ -34,6 +34,8 @@ fn word_of(why: Why) -> &'static str
         Why::NoEdgeSource => "no_edge_source",
         Why::NoSteps => "no_steps",
         Why::NoCondition => "no_condition",
+        Why::NoHits => "no_hits",
+        Why::NoMarks => "no_marks",
         Why::NeverMet => "never_met",
         Why::NotOne => "not_one",
         Why::NoBytesThere => "no_bytes_there",

@@ -36,6 +36,7 @@ impl ToJson for Aim {
             Aim::Steps => send_word("steps", out),
             Aim::Breakpoint => send_word("breakpoint", out),
             Aim::Return => send_word("return", out),
+            Aim::Mark => send_word("mark", out),
             Aim::Trap(_) => send_word("trap", out),
             Aim::Console => send_word("console", out),
             Aim::Arrival => send_word("arrival", out),
@@ -174,7 +175,8 @@ impl ToJson for Breakpoint {
             out,
             kind = "break",
             place,
-            condition = MaybeText(&self.condition)
+            condition = MaybeText(&self.condition),
+            passes
         )
     }
 }
@@ -184,7 +186,14 @@ impl ToJson for BreakCondition {
 
     #[tactic(auto, unfolding(crate::specs::Json::break_condition_data))]
     fn send<S: Serializer>(&self, names: &Names<'_>, out: &mut S) -> Result<(), S::Error> {
-        send_members!(self, names, out, address, text = Text(&self.text))
+        send_members!(
+            self,
+            names,
+            out,
+            address,
+            text = MaybeText(&self.text),
+            passes
+        )
     }
 }
 

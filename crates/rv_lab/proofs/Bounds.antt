@@ -10,8 +10,9 @@ use Rattle.rv_monitor.specs.State.{SessionState, TimedState, after, given, with_
 use Rattle.rv_recording.specs.Recording.{RecordingState, with_timed}
 use Rattle.rv_monitor.specs.Stops.{may_step}
 use Rattle.rv_recording.proofs.Counting.{steps_within}
-use Rattle.rv_lab.specs.Runs.{Leaves}
-use Rattle.rv_lab.specs.Commands.{IsWithin, begun, monitored_run, piece_most, piece_steps, planned, run_ends, run_of, stepped, stops_of, with_session}
+use Rattle.rv_lab.specs.Runs.{Leaves, run_goal}
+use Rattle.rv_lab.specs.Commands.{IsWithin, begun, monitored_run, piece_most, piece_steps, planned, run_of, stepped, stops_of, with_session}
+use Rattle.rv_runs.specs.Ends.{run_ends}
 use Rattle.rv_lab.specs.Support.Short.{GoesOnWith, Starts, Steps}
 use Rattle.rv_lab.specs.Refusals.{Leads, RunsOut, StopsShort, by_hand, due, nowhere, steps}
 use Rattle.rv_asm.specs.Lines.{Located}
@@ -20,8 +21,9 @@ use Rattle.rv_program.specs.Program.{Assembly}
 use Rattle.rv_lab.specs.State.{LabState, setup, timed}
 use Rattle.rv_lab.specs.declared.order.Order.{Order}
 use Rattle.rv_lab.specs.declared.order.Order.TheVariants as orders
-use Rattle.rv_lab.specs.declared.plan.Plan.{Plan}
-use Rattle.rv_lab.specs.declared.plan.Goal.TheVariants as goal
+use Rattle.rv_runs.specs.declared.plan.Plan.{Plan}
+use Rattle.rv_runs.specs.declared.goal.Goal.{Goal}
+use Rattle.rv_runs.specs.declared.goal.Goal.TheVariants as goal
 
 -- ---- states
 
@@ -104,7 +106,7 @@ monitors c limit (Some p) old new e w = goes p (begun old) new w
 monitors_setup : (c : Option commands.Command) (limit : ℕ) (o : Option Plan) (old new : LabState) → o ≡ run_of c limit
     → MonitorLeaves c o old new → setup new ≡ setup old
 monitors_setup c limit None old new e w =
-    ap setup w.0 ∙ ap (λ (a : Assembly). (old.source, old.places, old.frames, a, old.recording.pages, old.recording.slots, old.piece))
+    ap setup w.0 ∙ ap (λ (a : Assembly). (old.source, old.places, old.frames, old.marks, a, old.recording.pages, old.recording.slots, old.piece))
     (looks_same c limit old.recording.session new.recording.session (sym e) w.1).1
 monitors_setup c limit (Some p) old new e w = ap setup w
 
@@ -144,32 +146,32 @@ left_setup_by _ old new w = ap setup w
 
 -- ---- where memory ran out
 
-out : (n : ℕ) (Does : LabState → LabState → Type 0) (old new : LabState)
-    → ((done : LabState) → Does old done → IsWithin n old done) → RunsOut Does old new → IsWithin n old new
-out n Does old new each (inl e) = unmoved n old new e
-out n Does old new each (inr (inl d)) = each new d
-out n Does old new each (inr (inr s)) = omega (arith, each s.0 s.1, rises (timed new) (timed s.0) s.3)
+out : (n : ℕ) (g : Option Goal) (Does : LabState → LabState → Type 0) (old new : LabState)
+    → ((done : LabState) → Does old done → IsWithin n old done) → RunsOut g Does old new → IsWithin n old new
+out n g Does old new each (inl e) = unmoved n old new e
+out n g Does old new each (inr (inl d)) = each new d
+out n g Does old new each (inr (inr s)) = omega (arith, each s.0 s.1, rises (timed new) (timed s.0) s.3)
 
 abbrev Setup : Type 0
-Setup = List ℕ × Located × List FrameRow × Assembly × ℕ × ℕ × ℕ
+Setup = List ℕ × Located × List FrameRow × List ℕ × Assembly × ℕ × ℕ × ℕ
 
-pub out_setup_by : (o : Order) (old new : LabState) → RunsOut (Leaves o) old new → setup new ≡ setup old
+pub out_setup_by : (o : Order) (old new : LabState) → RunsOut (run_goal o old.recording.session) (Leaves o) old new → setup new ≡ setup old
 out_setup_by o old new (inl e) = ap setup e
 out_setup_by o old new (inr (inl d)) = left_setup_by o old new d
 out_setup_by o old new (inr (inr s)) =
-    ap setup s.4 ∙ ap (λ (x : Setup). (x.0, x.1, x.2, old.recording.session.program, old.recording.pages, old.recording.slots, x.6))
+    ap setup s.4 ∙ ap (λ (x : Setup). (x.0, x.1, x.2, x.3, old.recording.session.program, old.recording.pages, old.recording.slots, x.7))
     (left_setup_by o old s.0 s.1)
 
 -- ---- the calls
 
-pub short_within : (o : Order) (old new : LabState) → RunsOut (Leaves o) old new
+pub short_within : (o : Order) (old new : LabState) → RunsOut (run_goal o old.recording.session) (Leaves o) old new
     → IsWithin (max old.piece 1) old new
-short_within o old new s = out _ (Leaves o) old new (λ d w. within o old d w) s
+short_within o old new s = out _ (run_goal o old.recording.session) (Leaves o) old new (λ d w. within o old d w) s
 
 pub piece_within : (p : Plan) (old new : LabState) → GoesOnWith p old new → IsWithin (max old.piece 1) old new
 piece_within p old new g = goes p old new g
 
-pub piece_short_within : (p : Plan) (old new : LabState) → StopsShort (GoesOnWith p) old new
+pub piece_short_within : (p : Plan) (old new : LabState) → StopsShort (Some p.goal) (GoesOnWith p) old new
     → IsWithin (max old.piece 1) old new
 piece_short_within p old new s =
-    out _ (GoesOnWith p) old new (λ d g. goes p old d g) (inr (inr s))
+    out _ (Some p.goal) (GoesOnWith p) old new (λ d g. goes p old d g) (inr (inr s))

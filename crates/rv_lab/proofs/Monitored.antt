@@ -10,7 +10,7 @@ use Rattle.rv_monitor.specs.declared.command.Next.TheVariants as told
 use Rattle.rv_lab.specs.Commands.{monitor_next, next_of, run_of}
 use Rattle.rv_lab.specs.State.{LabState}
 use Rattle.rv_lab.specs.declared.lab.Next.TheVariants as next
-use Rattle.rv_lab.specs.declared.plan.Plan.{Plan}
+use Rattle.rv_runs.specs.declared.plan.Plan.{Plan}
 
 -- where memory runs out in one, nothing has changed
 pub looks_refused : (c : Option commands.Command) (limit : ℕ) (s new : SessionState) → run_of c limit ≡ None

@@ -1,6 +1,6 @@
 -- What an order, and a line, asks for was done.
 use Rattle.std.proofs.Common.{◌≡◌, ◌∙◌, ℕ, List, [], refl, sym, ap, subst, inl, inr}
-use Rattle.std.specs.Prelude.{max, IfOk, OnErr, OnOk, Result, Ok, Err, slice_get, unwrap_or}
+use Rattle.std.specs.Prelude.{max, Option, IfOk, OnErr, OnOk, Result, Ok, Err, slice_get, unwrap_or}
 use Rattle.std.specs.Option.{option_map_or}
 use Rattle.rv_base.specs.Words.{words}
 use Rattle.rv_base.specs.declared.memory.NoMemory.{NoMemory}
@@ -11,7 +11,7 @@ use Rattle.rv_answers.specs.declared.command.Command.{Command}
 use Rattle.rv_lab.specs.Commands.{IsWithin, next_of, ready}
 use Rattle.rv_lab.specs.Orders.{command_order, order_of, ordered}
 use Rattle.rv_lab.specs.Refusals.{RunsOut, StopsShort}
-use Rattle.rv_lab.specs.Runs.{Leaves, does, line_does, reply_on, reply_to, run_answer}
+use Rattle.rv_lab.specs.Runs.{Leaves, run_goal, does, line_does, reply_on, reply_to, run_answer}
 use Rattle.rv_lab.specs.State.{LabState, sent, setup}
 use Rattle.rv_lab.specs.Support.Short.{Executes}
 use Rattle.rv_lab.specs.Words.{line_command}
@@ -19,40 +19,41 @@ use Rattle.rv_lab.specs.declared.lab.Done.{Done}
 use Rattle.rv_lab.specs.declared.lab.Next.{Next}
 use Rattle.rv_lab.specs.declared.lab.Reply.{Reply}
 use Rattle.rv_lab.specs.declared.order.Order.{Order}
+use Rattle.rv_runs.specs.declared.goal.Goal.{Goal}
 use Rattle.rv_lab.proofs.Bounds.{left_setup_by, out_setup_by, short_within, within}
 
 -- ---- an order
 
 pub executed : (o known : Order) (old new : LabState) (r : Result Done NoMemory) → o ≡ known
     → OnOk r (Leaves known old new) → IfOk r (λ d. d.next ≡ (does known old new).next)
-    → IfOk r (λ d. d.answer ≡ (does known old new).answer) → OnErr r (RunsOut (Leaves known) old new)
+    → IfOk r (λ d. d.answer ≡ (does known old new).answer) → OnErr r (RunsOut (run_goal known old.recording.session) (Leaves known) old new)
     → Executes o old new r
 unfolding Executes
 executed o known old new r e leaves next answers out =
     subst (λ (q : Order). Executes q old new r) (sym e) (leaves, next, answers, out)
 
-short_is_out : (Does : LabState → LabState → Type 0) (r : Result Done NoMemory) (old new : LabState)
-    → OnErr r (StopsShort Does old new) → OnErr r (RunsOut Does old new)
-short_is_out Does (Ok d) old new s = tt
-short_is_out Does (Err why) old new s = inr (inr s)
+short_is_out : (g : Option Goal) (Does : LabState → LabState → Type 0) (r : Result Done NoMemory) (old new : LabState)
+    → OnErr r (StopsShort g Does old new) → OnErr r (RunsOut g Does old new)
+short_is_out g Does (Ok d) old new s = tt
+short_is_out g Does (Err why) old new s = inr (inr s)
 
-kept_is_out : (Does : LabState → LabState → Type 0) (r : Result Done NoMemory) (old new : LabState)
-    → OnErr r (new ≡ old) → OnErr r (RunsOut Does old new)
-kept_is_out Does (Ok d) old new s = tt
-kept_is_out Does (Err why) old new s = inl s
+kept_is_out : (g : Option Goal) (Does : LabState → LabState → Type 0) (r : Result Done NoMemory) (old new : LabState)
+    → OnErr r (new ≡ old) → OnErr r (RunsOut g Does old new)
+kept_is_out g Does (Ok d) old new s = tt
+kept_is_out g Does (Err why) old new s = inl s
 
 pub executed_short : (o known : Order) (old new : LabState) (r : Result Done NoMemory) → o ≡ known
     → OnOk r (Leaves known old new) → IfOk r (λ d. d.next ≡ (does known old new).next)
-    → IfOk r (λ d. d.answer ≡ (does known old new).answer) → OnErr r (StopsShort (Leaves known) old new)
+    → IfOk r (λ d. d.answer ≡ (does known old new).answer) → OnErr r (StopsShort (run_goal known old.recording.session) (Leaves known) old new)
     → Executes o old new r
 executed_short o known old new r e leaves next answers short =
-    executed o known old new r e leaves next answers (short_is_out (Leaves known) r old new short)
+    executed o known old new r e leaves next answers (short_is_out (run_goal known old.recording.session) (Leaves known) r old new short)
 
 pub executed_kept : (o known : Order) (old new : LabState) (r : Result Done NoMemory) → o ≡ known
     → OnOk r (Leaves known old new) → IfOk r (λ d. d.next ≡ (does known old new).next)
     → IfOk r (λ d. d.answer ≡ (does known old new).answer) → OnErr r (new ≡ old) → Executes o old new r
 executed_kept o known old new r e leaves next answers kept =
-    executed o known old new r e leaves next answers (kept_is_out (Leaves known) r old new kept)
+    executed o known old new r e leaves next answers (kept_is_out (run_goal known old.recording.session) (Leaves known) r old new kept)
 
 on_ok : (r : Result Done NoMemory) (P : Type 0) → P → OnOk r P
 on_ok (Ok d) P p = p
@@ -68,7 +69,7 @@ pub executed_look : (o known : Order) (l : LabState) (r : Result Done NoMemory) 
     → Executes o l l r
 executed_look o known l r e same next answers =
     executed o known l l r e (on_ok r (Leaves known l l) same) next answers
-    (on_err r (RunsOut (Leaves known) l l) (inl refl))
+    (on_err r (RunsOut (run_goal known l.recording.session) (Leaves known) l l) (inl refl))
 
 -- ---- a line
 
@@ -98,7 +99,7 @@ pub left_setup : (line : List ℕ) (old new : LabState) → Leaves (ordered line
 left_setup line old new w = left_setup_by (ordered line old) (ready (line_command line) old) new w
 
 pub out_setup : (line : List ℕ) (old new : LabState)
-    → RunsOut (Leaves (ordered line old)) (ready (line_command line) old) new → setup new ≡ setup old
+    → RunsOut (run_goal (ordered line old) old.recording.session) (Leaves (ordered line old)) (ready (line_command line) old) new → setup new ≡ setup old
 out_setup line old new w = out_setup_by (ordered line old) (ready (line_command line) old) new w
 
 pub is_within : (line : List ℕ) (old new : LabState) → Leaves (ordered line old) (ready (line_command line) old) new
@@ -106,7 +107,7 @@ pub is_within : (line : List ℕ) (old new : LabState) → Leaves (ordered line 
 is_within line old new w = within (ordered line old) (ready (line_command line) old) new w
 
 pub is_within_short : (line : List ℕ) (old new : LabState)
-    → RunsOut (Leaves (ordered line old)) (ready (line_command line) old) new
+    → RunsOut (run_goal (ordered line old) old.recording.session) (Leaves (ordered line old)) (ready (line_command line) old) new
     → IsWithin (max old.piece 1) old new
 is_within_short line old new w = short_within (ordered line old) (ready (line_command line) old) new w
 

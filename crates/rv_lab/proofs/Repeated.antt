@@ -14,7 +14,8 @@ use Rattle.rv_recording.specs.Support.Steps.{end_by}
 use Rattle.rv_recording.specs.declared.until.End.{End}
 use Rattle.rv_recording.proofs.Counting.{all_steps}
 use Rattle.rv_recording.proofs.Taken.{took_ran}
-use Rattle.rv_lab.proofs.Runs.{goes_while, taken_after}
+use Rattle.rv_lab.proofs.Runs.{goes_while}
+use Rattle.rv_runs.proofs.Later.{taken_after}
 
 none_of : (o : Option End) → is_none o ≡ true → o ≡ None
 none_of None h = refl

@@ -2,172 +2,30 @@
 use Rattle.std.proofs.Common.{◌≡◌, ◌∙◌, ℕ, zero, suc, ◌+◌, ◌-◌, ◌<◌, Bool, true, false, List, [], ◌∷◌, refl, sym, ap, subst, arith}
 use Rattle.std.proofs.lemmas.Bool.{false≢true}
 use Rattle.std.specs.FinSet as set
-use Rattle.std.specs.Prelude.{◌&&◌, nat_lt, is_none, is_some, max, min, if◌then◌else◌, option_and_then, unwrap_or, Option, Some, None, Result, Ok, Err, OnOk}
+use Rattle.std.specs.Prelude.{◌&&◌, nat_lt, is_none, is_some, max, min, if◌then◌else◌, unwrap_or, Option, Some, None, Result, Ok, Err, OnOk}
 use Rattle.rv_base.specs.declared.memory.NoMemory.{NoMemory}
 use Rattle.rv_board.specs.Support.State.{halted_of, pc_of}
-use Rattle.rv_monitor.specs.State.{IsInTime, SessionState, TimedState, after}
+use Rattle.rv_monitor.specs.State.{IsInTime, SessionState, after}
 use Rattle.rv_monitor.specs.Stops.{may_step, steps_between}
 use Rattle.rv_monitor.proofs.Sets.{no_member}
 use Rattle.rv_monitor.proofs.Steps.{after_more, after_none}
 use Rattle.rv_recording.specs.Recording.{RecordingState, with_timed}
 use Rattle.rv_recording.specs.Until.{HasRun, step_ends, steps_of}
 use Rattle.rv_recording.specs.declared.until.End.{End}
-use Rattle.rv_recording.specs.declared.until.End.TheVariants.{Halted, Reached, Breakpoint, Limit, Stuck}
+use Rattle.rv_recording.specs.declared.until.End.TheVariants.{Halted, Limit, Stuck}
 use Rattle.rv_timeline.specs.declared.input.Input.{Input}
-use Rattle.rv_lab.specs.Guards.{end_here, stops}
-use Rattle.rv_lab.specs.declared.guard.Guard.{Guard}
 use Rattle.rv_lab.specs.State.{LabState, sent, timed}
-use Rattle.rv_lab.specs.Commands.{Stops, goal_after, gone_on, guarded_ends, plan_after, resumed_by, resumes_after, run_ends, stepped, stops_of, tells_last, with_inputs, with_piece, with_session, with_steps}
-use Rattle.rv_lab.specs.Support.Short.{Traced, end_now, rest_of, resumes_of, stepped_by, watched_ends}
-use Rattle.rv_lab.specs.Watches.{changes_at, watching}
-use Rattle.rv_lab.specs.declared.plan.Plan.{Plan}
-use Rattle.rv_lab.specs.declared.plan.Goal.{Goal}
-use Rattle.rv_lab.specs.declared.plan.Goal.TheVariants as goal
+use Rattle.rv_lab.specs.Commands.{gone_on, guards_by, stepped, stops_of, with_inputs, with_piece, with_session, with_steps}
+use Rattle.rv_runs.specs.Plans.{plan_after, rest_of, resumes_after, resumes_of, tells_last}
+use Rattle.rv_runs.specs.Ends.{goal_after, run_ends}
+use Rattle.rv_lab.specs.Support.Short.{Traced, end_now, ran_to, stepped_by}
+use Rattle.rv_runs.proofs.Later.{end_is, taken_after}
+use Rattle.rv_runs.proofs.Plans.{plan_is, resumes_is}
+use Rattle.rv_runs.specs.declared.plan.Plan.{Plan}
+use Rattle.rv_runs.specs.declared.goal.Goal.{Goal}
+use Rattle.rv_runs.specs.declared.goal.Goal.TheVariants as goal
 
 -- ---- a call of a run
-
-abbrev pub end_is : Option ℕ → Bool → Bool → Bool → Option End
-end_is h r b l = if is_some h then Some Halted
-    else (if r then Some Reached else (if b then Some Breakpoint else (if l then None else Some Stuck)))
-
-rest_by : (p : Plan) (g : Goal) (n : ℕ) (h : Option ℕ) (r b l : Bool)
-    → rest_of p g (unwrap_or (end_is h r b l) Limit) n
-    ≡ (if is_none (end_is h r b l) && nat_lt n p.left then Some (record p { goal = g; left = p.left - n }) else None)
-rest_by p g n (Some code) r b l = refl
-rest_by p g n None true b l = refl
-rest_by p g n None false true l = refl
-rest_by p g n None false false true = refl
-rest_by p g n None false false false = refl
-
--- at a breakpoint, which stops it or not
-rest_there : (p : Plan) (g : Goal) (n : ℕ) (st l : Bool)
-    → rest_of p g (unwrap_or (if st then Some Breakpoint else (if l then None else Some Stuck)) Limit) n
-    ≡ (if is_none (if st then Some Breakpoint else (if l then None else Some Stuck)) && nat_lt n p.left
-    then Some (record p { goal = g; left = p.left - n }) else None)
-rest_there p g n true l = refl
-rest_there p g n false true = refl
-rest_there p g n false false = refl
-
-rest_past : (gs : List Guard) (t : SessionState) (p : Plan) (g : Goal) (n : ℕ) (h : Option ℕ) (r b l : Bool)
-    → rest_of p g (unwrap_or (option_and_then (end_here gs t) (end_is h r b l)) Limit) n
-    ≡ (if is_none (option_and_then (end_here gs t) (end_is h r b l)) && nat_lt n p.left
-    then Some (record p { goal = g; left = p.left - n }) else None)
-rest_past gs t p g n (Some code) r b l = refl
-rest_past gs t p g n None true b l = refl
-rest_past gs t p g n None false true l =
-    rest_there p g n (stops gs t.timed.board) (nat_lt t.timed.taken t.limit)
-rest_past gs t p g n None false false true = refl
-rest_past gs t p g n None false false false = refl
-
-guarded_rest : (gs : List Guard) (p : Plan) (g : Goal) (s : SessionState) (n : ℕ)
-    → rest_of p (goal_after p.goal s.timed n) (unwrap_or (guarded_ends gs g s n) Limit) n
-    ≡ (if is_none (guarded_ends gs g s n) && nat_lt n p.left
-    then Some (record p { goal = goal_after p.goal s.timed n; left = p.left - n }) else None)
-guarded_rest gs p goal.Count s n = rest_by p (goal_after p.goal s.timed n) n (halted_of (after s.timed n).board) _ _ _
-guarded_rest gs p goal.Trace s n = rest_by p (goal_after p.goal s.timed n) n (halted_of (after s.timed n).board) _ _ _
-guarded_rest gs p goal.Break s n =
-    rest_past gs (record s { timed = after s.timed n }) p (goal_after p.goal s.timed n) n (halted_of (after s.timed n).board) _ _ _
-guarded_rest gs p (goal.Out calls line) s n =
-    rest_past gs (record s { timed = after s.timed n }) p (goal_after p.goal s.timed n) n (halted_of (after s.timed n).board) _ _ _
-guarded_rest gs p (goal.Until condition) s n =
-    rest_past gs (record s { timed = after s.timed n }) p (goal_after p.goal s.timed n) n (halted_of (after s.timed n).board) _ _ _
-
--- or at a change of what is watched
-rest_watching : (p : Plan) (g : Goal) (n : ℕ) (changes : Bool) (o : Option End)
-    → rest_of p g (unwrap_or o Limit) n
-    ≡ (if is_none o && nat_lt n p.left then Some (record p { goal = g; left = p.left - n }) else None)
-    → rest_of p g (unwrap_or (watching changes o) Limit) n
-    ≡ (if is_none (watching changes o) && nat_lt n p.left then Some (record p { goal = g; left = p.left - n }) else None)
-rest_watching p g n false o e = e
-rest_watching p g n true None e = refl
-rest_watching p g n true (Some Halted) e = refl
-rest_watching p g n true (Some _) e = refl
-
-rest_heeding : (st : Stops) (p : Plan) (g : Goal) (s : SessionState) (n : ℕ)
-    → rest_of p (goal_after p.goal s.timed n) (unwrap_or (watched_ends st g s n) Limit) n
-    ≡ (if is_none (watched_ends st g s n) && nat_lt n p.left
-    then Some (record p { goal = goal_after p.goal s.timed n; left = p.left - n }) else None)
-rest_heeding st p g s n =
-    rest_watching p (goal_after p.goal s.timed n) n (changes_at st.watches s.timed n) (guarded_ends st.guards g s n)
-    (guarded_rest st.guards p g s n)
-
-rest_is : (st : Stops) (p : Plan) (g : Goal) (s : SessionState) (n : ℕ)
-    → rest_of p (goal_after p.goal s.timed n) (unwrap_or (run_ends st g s n) Limit) n
-    ≡ (if is_none (run_ends st g s n) && nat_lt n p.left
-    then Some (record p { goal = goal_after p.goal s.timed n; left = p.left - n }) else None)
-rest_is st p goal.Count s n = guarded_rest st.guards p goal.Count s n
-rest_is st p goal.Trace s n = guarded_rest st.guards p goal.Trace s n
-rest_is st p goal.Break s n = rest_heeding st p goal.Break s n
-rest_is st p (goal.Out calls line) s n = rest_heeding st p (goal.Out calls line) s n
-rest_is st p (goal.Until condition) s n = rest_heeding st p (goal.Until condition) s n
-
-plan_is : (st : Stops) (p : Plan) (s : SessionState) (n : ℕ)
-    → rest_of p (goal_after p.goal s.timed n) (unwrap_or (run_ends st p.goal s n) Limit) n ≡ plan_after st p s n
-unfolding plan_after
-plan_is st p s n = rest_is st p p.goal s n
-
-resumes_by : (g : Goal) (h : Option ℕ) (r b l : Bool)
-    → resumes_of g (unwrap_or (end_is h r b l) Limit) ≡ (if is_none (end_is h r b l) then resumed_by g else goal.Break)
-resumes_by g (Some code) r b l = refl
-resumes_by g None true b l = refl
-resumes_by g None false true l = refl
-resumes_by g None false false true = refl
-resumes_by g None false false false = refl
-
-resumes_there : (g : Goal) (st l : Bool)
-    → resumes_of g (unwrap_or (if st then Some Breakpoint else (if l then None else Some Stuck)) Limit)
-    ≡ (if is_none (if st then Some Breakpoint else (if l then None else Some Stuck)) then resumed_by g else goal.Break)
-resumes_there g true l = refl
-resumes_there g false true = refl
-resumes_there g false false = refl
-
-resumes_past : (gs : List Guard) (t : SessionState) (g : Goal) (h : Option ℕ) (r b l : Bool)
-    → resumes_of g (unwrap_or (option_and_then (end_here gs t) (end_is h r b l)) Limit)
-    ≡ (if is_none (option_and_then (end_here gs t) (end_is h r b l)) then resumed_by g else goal.Break)
-resumes_past gs t g (Some code) r b l = refl
-resumes_past gs t g None true b l = refl
-resumes_past gs t g None false true l = resumes_there g (stops gs t.timed.board) (nat_lt t.timed.taken t.limit)
-resumes_past gs t g None false false true = refl
-resumes_past gs t g None false false false = refl
-
-guarded_resumes : (gs : List Guard) (g : Goal) (s : SessionState) (n : ℕ)
-    → resumes_of (goal_after g s.timed n) (unwrap_or (guarded_ends gs g s n) Limit) ≡ (if is_none (guarded_ends gs g s n) then resumed_by (goal_after g s.timed n) else goal.Break)
-guarded_resumes gs goal.Count s n = resumes_by goal.Count (halted_of (after s.timed n).board) _ _ _
-guarded_resumes gs goal.Trace s n = resumes_by goal.Trace (halted_of (after s.timed n).board) _ _ _
-guarded_resumes gs goal.Break s n =
-    resumes_past gs (record s { timed = after s.timed n }) goal.Break (halted_of (after s.timed n).board) _ _ _
-guarded_resumes gs (goal.Out calls line) s n =
-    resumes_past gs (record s { timed = after s.timed n }) (goal_after (goal.Out calls line) s.timed n) (halted_of (after s.timed n).board) _ _ _
-guarded_resumes gs (goal.Until condition) s n =
-    resumes_past gs (record s { timed = after s.timed n }) (goal.Until condition) (halted_of (after s.timed n).board) _ _ _
-
-resumes_watching : (g : Goal) (changes : Bool) (o : Option End)
-    → resumes_of g (unwrap_or o Limit) ≡ (if is_none o then resumed_by g else goal.Break)
-    → resumes_of g (unwrap_or (watching changes o) Limit)
-    ≡ (if is_none (watching changes o) then resumed_by g else goal.Break)
-resumes_watching g false o e = e
-resumes_watching g true None e = refl
-resumes_watching g true (Some Halted) e = refl
-resumes_watching g true (Some _) e = refl
-
-resumes_heeding : (st : Stops) (g : Goal) (s : SessionState) (n : ℕ)
-    → resumes_of (goal_after g s.timed n) (unwrap_or (watched_ends st g s n) Limit)
-    ≡ (if is_none (watched_ends st g s n) then resumed_by (goal_after g s.timed n) else goal.Break)
-resumes_heeding st g s n =
-    resumes_watching (goal_after g s.timed n) (changes_at st.watches s.timed n) (guarded_ends st.guards g s n)
-    (guarded_resumes st.guards g s n)
-
-resumes_is : (st : Stops) (g : Goal) (s : SessionState) (n : ℕ)
-    → resumes_of (goal_after g s.timed n) (unwrap_or (run_ends st g s n) Limit) ≡ resumes_after st g s n
-resumes_is st goal.Count s n = guarded_resumes st.guards goal.Count s n
-resumes_is st goal.Trace s n = guarded_resumes st.guards goal.Trace s n
-resumes_is st goal.Break s n = resumes_heeding st goal.Break s n
-resumes_is st (goal.Out calls line) s n = resumes_heeding st (goal.Out calls line) s n
-resumes_is st (goal.Until condition) s n = resumes_heeding st (goal.Until condition) s n
-
-pub taken_after : (s : TimedState) (n : ℕ) → (after s n).taken ≡ s.taken + n
-unfolding after
-taken_after s n = refl
 
 -- what the steps of a call leave
 module _ (p : Plan) (old : LabState) where
@@ -177,31 +35,37 @@ module _ (p : Plan) (old : LabState) where
   has_taken : (n : ℕ) (t : SessionState) (end : End) (g : Goal) (done : ℕ)
       → t ≡ record s { timed = after s.timed n } → end ≡ unwrap_or (run_ends (stops_of old) p.goal s n) Limit
       → g ≡ goal_after p.goal s.timed (steps_between s.timed t.timed) → done ≡ t.timed.taken - s.timed.taken
-      → record (with_session old t) { plan = rest_of p g end done; resumes = resumes_of g end }
-      ≡ record (with_steps n old) { plan = plan_after (stops_of old) p s n; resumes = resumes_after (stops_of old) p.goal s n }
+      → record (ran_to p.goal old t) { plan = rest_of p g end done; resumes = resumes_of g end }
+      ≡ record (with_steps n old) {
+        guards = guards_by p.goal old n;
+        plan = plan_after (stops_of old) p s n;
+        resumes = resumes_after (stops_of old) p.goal s n;
+      }
   has_taken n t end g done state ended goal_is done_is =
       let now = ap (λ (u : SessionState). u.timed.taken) state in
       let between : steps_between s.timed t.timed ≡ n = omega (arith, now, taken_after s.timed n) in
       let all : done ≡ n = done_is ∙ between in
-      let left : Goal → End → ℕ → LabState = λ h e k.
-      record (with_steps n old) { plan = rest_of p h e k; resumes = resumes_of h e } in
-      ap (λ (u : SessionState). record (with_session old u) { plan = rest_of p g end done; resumes = resumes_of g end }) state
+      let here : steps_between s.timed (after s.timed n) ≡ n = omega (arith, taken_after s.timed n) in
+      let begins : LabState = record (with_steps n old) { guards = guards_by p.goal old n } in
+      let left : Goal → End → ℕ → LabState = λ h e k. record begins { plan = rest_of p h e k; resumes = resumes_of h e } in
+      ap (λ (u : SessionState). record (ran_to p.goal old u) { plan = rest_of p g end done; resumes = resumes_of g end }) state
+      ∙ (ap (λ (i : ℕ). record (left g end done) { guards = guards_by p.goal old i }) here
       ∙ (ap (λ (h : Goal). left h end done) goal_is
       ∙ (ap (λ (k : ℕ). left (goal_after p.goal s.timed k) end done) between
       ∙ (ap (λ (k : ℕ). left (goal_after p.goal s.timed n) end k) all
       ∙ (ap (λ (e : End). left (goal_after p.goal s.timed n) e n) ended
-      ∙ (ap (λ (q : Option Plan). record (with_steps n old) {
+      ∙ (ap (λ (q : Option Plan). record begins {
         plan = q;
         resumes = resumes_of (goal_after p.goal s.timed n) (unwrap_or (run_ends (stops_of old) p.goal s n) Limit);
       }) (plan_is (stops_of old) p s n)
-      ∙ ap (λ (h : Goal). record (with_steps n old) { plan = plan_after (stops_of old) p s n; resumes = h })
-      (resumes_is (stops_of old) p.goal s n))))))
+      ∙ ap (λ (h : Goal). record begins { plan = plan_after (stops_of old) p s n; resumes = h })
+      (resumes_is (stops_of old) p.goal s n)))))))
 
 pub took_piece : (p : Plan) (g : Goal) (end : End) (old at_first mid new : LabState) (most done : ℕ)
     → at_first ≡ record old { plan = None; resumes = goal.Break }
     → HasRun (run_ends (stops_of at_first) p.goal at_first.recording.session) most at_first.recording.session mid.recording.session end
     → g ≡ goal_after p.goal (timed at_first) (steps_between (timed at_first) (timed mid))
-    → mid ≡ with_session at_first mid.recording.session → most ≡ min p.left (max old.piece 1)
+    → mid ≡ ran_to p.goal at_first mid.recording.session → most ≡ min p.left (max old.piece 1)
     → done ≡ (timed mid).taken - (timed old).taken → new ≡ record mid { plan = rest_of p g end done; resumes = resumes_of g end }
     → new ≡ with_piece p old
 took_piece p g end old at_first mid new most done is run goal_is others most_is done_is e =
@@ -211,12 +75,13 @@ took_piece p g end old at_first mid new most done is run goal_is others most_is 
     is run in
     let goal_now = goal_is
     ∙ ap (λ (r : RecordingState). goal_after p.goal r.session.timed (steps_between r.session.timed (timed mid))) same in
-    let from_old : mid ≡ with_session (record old { plan = None; resumes = goal.Break }) mid.recording.session =
-    others ∙ ap (λ (l : LabState). with_session l mid.recording.session) is in
+    let from_old : mid ≡ ran_to p.goal (record old { plan = None; resumes = goal.Break }) mid.recording.session =
+    others ∙ ap (λ (l : LabState). ran_to p.goal l mid.recording.session) is in
     e ∙ (ap (λ (l : LabState). record l { plan = rest_of p g end done; resumes = resumes_of g end }) from_old
     ∙ (has_taken p old (steps_of (run_ends (stops_of old) p.goal old.recording.session) most) mid.recording.session end g done ran.state
     ran.ended goal_now done_is
     ∙ ap (λ (m : ℕ). record (with_steps (steps_of (run_ends (stops_of old) p.goal old.recording.session) m) old) {
+      guards = guards_by p.goal old (steps_of (run_ends (stops_of old) p.goal old.recording.session) m);
       plan = plan_after (stops_of old) p old.recording.session (steps_of (run_ends (stops_of old) p.goal old.recording.session) m);
       resumes = resumes_after (stops_of old) p.goal old.recording.session
           (steps_of (run_ends (stops_of old) p.goal old.recording.session) m);

@@ -2,6 +2,7 @@
 use Rattle.std.proofs.Common.{◌≡◌, ◌∙◌, ℕ, zero, suc, ◌+◌, ◌-◌, ◌<◌, ◌≤◌, true, List, [], ◌∷◌, length, take, drop, get_or, refl, sym, ap, subst, arith, inr}
 use Rattle.std.proofs.lemmas.List.{take_all}
 use Rattle.std.specs.Prelude.{fold, Bool, false, if◌then◌else◌, Option, Some, None, Result, Ok, Err, OnErr, MatchOption}
+use Rattle.std.specs.Option.{option_map}
 use Rattle.rv_base.specs.declared.memory.NoMemory.{NoMemory}
 use Rattle.rv_timeline.specs.Timed.{never_falls}
 use Rattle.rv_timeline.specs.declared.input.Input.{Input}
@@ -13,21 +14,20 @@ use Rattle.rv_recording.specs.Refused.{IsRefusedIn}
 use Rattle.rv_recording.specs.Until.{step_ends, steps_of}
 use Rattle.rv_recording.specs.declared.until.End.{End}
 use Rattle.rv_lab.specs.Commands as lab
-use Rattle.rv_lab.specs.Runs.{Leaves}
-use Rattle.rv_lab.specs.Commands.{begun, monitored_run, piece_most, planned, run_ends, stepped, stops_of, with_console, with_inputs, with_session}
+use Rattle.rv_lab.specs.Runs.{Leaves, run_goal}
+use Rattle.rv_lab.specs.Commands.{begun, guards_by, monitored_run, piece_most, planned, stepped, stops_of, with_console, with_inputs, with_session}
+use Rattle.rv_runs.specs.Ends.{run_ends}
 use Rattle.rv_lab.specs.Refusals.{Leads, RunsOut, StopsShort, by_hand, due, nowhere, steps}
-use Rattle.rv_lab.specs.Support.Short.{Gives, GoesOnWith, IsOnWay, Looks, Monitors, Starts, Steps, StopsIn, Traced, stepped_by}
+use Rattle.rv_lab.specs.Support.Short.{Gives, GoesOnWith, IsOnWay, Looks, Monitors, Starts, Steps, StopsIn, Traced, ran_to, stepped_by}
 use Rattle.rv_lab.specs.State.{LabState, timed}
 use Rattle.rv_lab.specs.declared.order.Order.TheVariants as orders
-use Rattle.rv_lab.specs.declared.plan.Plan.{Plan}
-use Rattle.rv_lab.specs.declared.plan.Goal.{Goal}
-use Rattle.rv_lab.specs.declared.plan.Goal.TheVariants as goal
+use Rattle.rv_runs.specs.declared.plan.Plan.{Plan}
+use Rattle.rv_runs.specs.declared.goal.Goal.{Goal}
+use Rattle.rv_runs.specs.declared.goal.Goal.TheVariants as goal
+use Rattle.rv_runs.specs.declared.guard.Guard.{Guard}
+use Rattle.rv_runs.proofs.Parts.{on_err}
+use Rattle.rv_runs.proofs.Passing.{traced_guards}
 use Rattle.rv_lab.proofs.Runs.{all_stepped, one_and_more}
-
--- what holds in any case holds where memory ran out
-pub on_err : {A : Type 0} (r : Result A NoMemory) (P : Type 0) → P → OnErr r P
-on_err (Ok a) P p = tt
-on_err (Err why) P p = p
 
 -- ---- what leads to what
 
@@ -59,9 +59,9 @@ from_due s k m l rising =
 
 -- ---- runs
 
-module _ (ends : ℕ → Option End) (most : ℕ) (old new : LabState) (rising : never_falls (timed old).inputs ≡ true)
+module _ (g : Goal) (ends : ℕ → Option End) (most : ℕ) (old new : LabState) (rising : never_falls (timed old).inputs ≡ true)
     (r : IsRefusedIn ends most old.recording.session new.recording.session)
-    (others : new ≡ with_session old new.recording.session) where
+    (others : new ≡ ran_to g old new.recording.session) where
   abbrev count : ℕ
   count = steps_between (timed old) (timed new)
 
@@ -71,31 +71,33 @@ module _ (ends : ℕ → Option End) (most : ℕ) (old new : LabState) (rising :
   session_is : new.recording.session ≡ record old.recording.session { timed = timed new }
   session_is = r.state ∙ ap (λ (t : TimedState). record old.recording.session { timed = t }) (sym timed_due)
 
-  pub refused_stops : StopsIn ends most old new
+  pub refused_stops : StopsIn g ends most old new
   refused_stops = (
     subst (Leads (timed old)) (sym timed_due) (to_due (timed old) count),
     subst (λ (t : TimedState). Leads t (after (timed old) (steps_of ends most))) (sym timed_due)
         (from_due (timed old) count (steps_of ends most) r.within rising),
-    others ∙ ap (λ (u : SessionState). with_session old u) session_is,
+    others ∙ ap (λ (u : SessionState). record (with_session old u) { guards = guards_by g old count }) session_is,
   )
 
 pub piece_err : {A : Type 0} (r : Result A NoMemory) (p : Plan) (most : ℕ) (old at_first new : LabState)
     → most ≡ piece_most p old → at_first ≡ record old { plan = None; resumes = goal.Break }
-    → StopsIn (run_ends (stops_of at_first) p.goal at_first.recording.session) most at_first new
-    → OnErr r (StopsShort (GoesOnWith p) old new)
+    → StopsIn p.goal (run_ends (stops_of at_first) p.goal at_first.recording.session) most at_first new
+    → OnErr r (StopsShort (Some p.goal) (GoesOnWith p) old new)
 piece_err r p most old at_first new most_is is short =
-    let s : StopsIn (run_ends (stops_of old) p.goal old.recording.session) (piece_most p old) (record old { plan = None; resumes = goal.Break }) new =
-    subst (λ (n : ℕ). StopsIn (run_ends (stops_of old) p.goal old.recording.session) n (record old { plan = None; resumes = goal.Break }) new) most_is
-    (subst (λ (l : LabState). StopsIn (run_ends (stops_of l) p.goal l.recording.session) most l new) is short) in
-    on_err r (StopsShort (GoesOnWith p) old new) (
+    let s : StopsIn p.goal (run_ends (stops_of old) p.goal old.recording.session) (piece_most p old) (record old { plan = None; resumes = goal.Break }) new =
+    subst (λ (n : ℕ). StopsIn p.goal (run_ends (stops_of old) p.goal old.recording.session) n (record old { plan = None; resumes = goal.Break }) new) most_is
+    (subst (λ (l : LabState). StopsIn p.goal (run_ends (stops_of l) p.goal l.recording.session) most l new) is short) in
+    let gs = guards_by p.goal old (steps_between (timed old) (timed new)) in
+    on_err r (StopsShort (Some p.goal) (GoesOnWith p) old new) (
       lab.gone_on p old,
       refl,
       s.0,
       s.1,
-      s.2 ∙ (ap (λ (g : Goal). record old { recording = with_timed old.recording (timed new); plan = None; resumes = g })
+      s.2 ∙ (ap (λ (g : Goal). record old { recording = with_timed old.recording (timed new); guards = gs; plan = None; resumes = g })
           (sym (ap (λ (l : LabState). l.resumes) s.2))
           ∙ ap (λ (n : ℕ). record old {
             recording = with_timed old.recording (timed new);
+            guards = gs;
             plan = None;
             resumes = new.resumes;
             told = n;
@@ -103,9 +105,9 @@ piece_err r p most old at_first new most_is is short =
     )
 
 pub starts_short : {A : Type 0} (r : Result A NoMemory) (p : Plan) (old mid new : LabState) → mid ≡ begun old
-    → OnErr r (StopsShort (GoesOnWith p) mid new) → OnErr r (StopsShort (Starts p) old new)
+    → OnErr r (StopsShort (Some p.goal) (GoesOnWith p) mid new) → OnErr r (StopsShort (Some p.goal) (Starts p) old new)
 starts_short (Ok a) p old mid new is s = tt
-starts_short (Err why) p old mid new is s = subst (λ (l : LabState). StopsShort (GoesOnWith p) l new) is s
+starts_short (Err why) p old mid new is s = subst (λ (l : LabState). StopsShort (Some p.goal) (GoesOnWith p) l new) is s
 
 -- a run that a line of the monitor asks for
 starts_as : (line : List ℕ) (p : Plan) (old done : LabState) → Some p ≡ monitored_run line old.recording.session
@@ -115,17 +117,22 @@ starts_as line p old done e s =
     (Looks line old done) (λ q. Starts q old done)) e s
 
 pub monitor_short : {A : Type 0} (r : Result A NoMemory) (line : List ℕ) (p : Plan) (old new : LabState)
-    → Some p ≡ monitored_run line old.recording.session → OnErr r (StopsShort (Starts p) old new)
-    → OnErr r (RunsOut (Monitors line) old new)
+    → Some p ≡ monitored_run line old.recording.session → OnErr r (StopsShort (Some p.goal) (Starts p) old new)
+    → OnErr r (RunsOut (run_goal (orders.Monitor line) old.recording.session) (Monitors line) old new)
 monitor_short (Ok a) line p old new e s = tt
-monitor_short (Err why) line p old new e s = inr (inr (s.0, starts_as line p old s.0 e s.1, s.2, s.3, s.4))
+monitor_short (Err why) line p old new e s =
+    subst (λ (o : Option Plan). RunsOut (option_map (λ q. q.goal) o) (Monitors line) old new) e
+    (inr (inr (s.0, starts_as line p old s.0 e s.1, s.2, s.3, s.4)))
 
 pub continued : {A : Type 0} (r : Result A NoMemory) (p : Plan) (old new : LabState)
-    → old.plan ≡ Some p → StopsShort (GoesOnWith p) old new → OnErr r (RunsOut lab.GoesOn old new)
+    → old.plan ≡ Some p → StopsShort (Some p.goal) (GoesOnWith p) old new
+    → OnErr r (RunsOut (option_map (λ q. q.goal) old.plan) lab.GoesOn old new)
 continued r p old new e s =
     let done : lab.GoesOn old s.0 =
     subst (λ (o : Option Plan). MatchOption o (s.0 ≡ old) (λ q. GoesOnWith q old s.0)) (sym e) s.1 in
-    on_err r (RunsOut lab.GoesOn old new) (inr (inr (s.0, done, s.2, s.3, s.4)))
+    on_err r (RunsOut (option_map (λ q. q.goal) old.plan) lab.GoesOn old new)
+    (subst (λ (o : Option Plan). RunsOut (option_map (λ q. q.goal) o) lab.GoesOn old new) (sym e)
+    (inr (inr (s.0, done, s.2, s.3, s.4))))
 
 -- ---- steps
 
@@ -162,11 +169,11 @@ step_refused inside old new same rising why t others =
     (step_on_way inside new rising t.0 t.1 others)
 
 pub many_short : {A : Type 0} (r : Result A NoMemory) (n : ℕ) (old mid new : LabState)
-    → mid ≡ record old { count = n } → OnErr r (StopsShort (Starts (planned goal.Count n)) mid new)
-    → OnErr r (StopsShort (Steps n) old new)
+    → mid ≡ record old { count = n } → OnErr r (StopsShort (Some goal.Count) (Starts (planned goal.Count n)) mid new)
+    → OnErr r (StopsShort (Some goal.Count) (Steps n) old new)
 many_short (Ok a) n old mid new is s = tt
 many_short (Err why) n old mid new is s =
-    subst (λ (l : LabState). StopsShort (Starts (planned goal.Count n)) l new) is s
+    subst (λ (l : LabState). StopsShort (Some goal.Count) (Starts (planned goal.Count n)) l new) is s
 
 -- ---- a trace
 
@@ -186,7 +193,7 @@ leads_steps (suc k) r =
 
 pub traced_short : (n : ℕ) (old new : LabState) → 0 < n → old.plan ≡ None
     → IsOnWay old.recording new.recording (stepped old.recording)
-    → new ≡ record old { recording = new.recording } → StopsShort (Traced n) old new
+    → new ≡ record old { recording = new.recording } → StopsShort None (Traced n) old new
 traced_short n old new h none way others = (
   record old { recording = stepped_by n old.recording },
   refl,
@@ -243,22 +250,24 @@ traced_further (Err why) n old mid new h e s =
 -- steps past any breakpoint stopped short
 pub traced_stops : (n : ℕ) (old new : LabState) → IsInTime (timed old)
     → IsOnWay old.recording new.recording (stepped_by n old.recording) → new ≡ record old { recording = new.recording }
-    → StopsIn (step_ends old.recording.session) n old new
+    → StopsIn goal.Trace (step_ends old.recording.session) n old new
 traced_stops n old new h way others = (
   way.0,
   subst (λ (r : RecordingState). Leads (timed new) r.session.timed) (all_stepped n old.recording h) way.1,
-  others ∙ ap (λ (r : RecordingState). record old { recording = r }) way.2,
+  others ∙ (ap (λ (r : RecordingState). record old { recording = r }) way.2
+      ∙ ap (λ (gs : List Guard). record old { recording = with_timed old.recording (timed new); guards = gs })
+      (sym (traced_guards old.marks old.guards old.recording.session (steps_between (timed old) (timed new))))),
 )
 
 -- a single step
 pub once_short : {A : Type 0} (r : Result A NoMemory) (old counted mid new : LabState) → counted ≡ record old { count = 1 }
     → mid ≡ begun counted → old.plan ≡ None → IsOnWay mid.recording new.recording (stepped mid.recording)
-    → new ≡ record mid { recording = new.recording } → OnErr r (StopsShort (Leaves orders.Once) old new)
+    → new ≡ record mid { recording = new.recording } → OnErr r (StopsShort None (Leaves orders.Once) old new)
 once_short r old counted mid new one is none way others =
     let at : mid ≡ begun (record old { count = 1 }) = is ∙ ap begun one in
-    let t = subst (λ (l : LabState). StopsShort (Traced 1) l new) at
+    let t = subst (λ (l : LabState). StopsShort None (Traced 1) l new) at
     (traced_short 1 mid new (omega arith) (ap (λ (l : LabState). l.plan) at ∙ none) way others) in
-    on_err r (StopsShort (Leaves orders.Once) old new) (with_console t.0, ap with_console t.1, t.2, t.3, t.4)
+    on_err r (StopsShort None (Leaves orders.Once) old new) (with_console t.0, ap with_console t.1, t.2, t.3, t.4)
 
 -- ---- inputs by hand
 
@@ -268,9 +277,9 @@ leads_inputs (x ∷ xs) s =
     joined s (given s x) (fold given (given s x) xs) (by_hand s x nowhere) (leads_inputs xs (given s x))
 
 pub gave_nothing : (old new : LabState) (inputs : List Input) → old.plan ≡ None → new ≡ old
-    → StopsShort (Gives inputs) old new
+    → StopsShort None (Gives inputs) old new
 gave_nothing old new inputs none e =
-    subst (StopsShort (Gives inputs) old) (sym e) (
+    subst (StopsShort None (Gives inputs) old) (sym e) (
       with_inputs old inputs,
       refl,
       nowhere,
@@ -279,7 +288,7 @@ gave_nothing old new inputs none e =
     )
 
 gave_one : (old new : LabState) (input : Input) (more : List Input)
-    → StopsShort (Gives more) (with_inputs old (input ∷ [])) new → StopsShort (Gives (input ∷ more)) old new
+    → StopsShort None (Gives more) (with_inputs old (input ∷ [])) new → StopsShort None (Gives (input ∷ more)) old new
 gave_one old new input more s = (
   s.0,
   s.1,
@@ -289,16 +298,16 @@ gave_one old new input more s = (
 )
 
 gave_some : {A : Type 0} (r : Result A NoMemory) (old mid new : LabState) (input : Input) (more : List Input)
-    → mid ≡ with_inputs old (input ∷ []) → OnErr r (StopsShort (Gives more) mid new)
-    → OnErr r (StopsShort (Gives (input ∷ more)) old new)
+    → mid ≡ with_inputs old (input ∷ []) → OnErr r (StopsShort None (Gives more) mid new)
+    → OnErr r (StopsShort None (Gives (input ∷ more)) old new)
 gave_some (Ok a) old mid new input more e s = tt
 gave_some (Err why) old mid new input more e s =
-    gave_one old new input more (subst (λ (l : LabState). StopsShort (Gives more) l new) e s)
+    gave_one old new input more (subst (λ (l : LabState). StopsShort None (Gives more) l new) e s)
 
 pub gave_rest : {A : Type 0} (r : Result A NoMemory) (old mid new : LabState) (inputs : List Input) (input : Input)
     → 1 ≤ length inputs → input ≡ get_or inputs 0 input → mid ≡ with_inputs old (input ∷ [])
-    → OnErr r (StopsShort (Gives (take (length inputs - 1) (drop 1 inputs))) mid new)
-    → OnErr r (StopsShort (Gives inputs) old new)
+    → OnErr r (StopsShort None (Gives (take (length inputs - 1) (drop 1 inputs))) mid new)
+    → OnErr r (StopsShort None (Gives inputs) old new)
 gave_rest r old mid new [] input h is e s = absurd (omega (arith, h))
 gave_rest r old mid new (x ∷ more) input h is e s =
     let same : take (length (x ∷ more) - 1) more ≡ more = take_all (length (x ∷ more) - 1) more (omega arith) in

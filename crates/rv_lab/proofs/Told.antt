@@ -6,7 +6,7 @@ use Rattle.rv_base.specs.declared.memory.NoMemory.{NoMemory}
 use Rattle.rv_hart.specs.declared.trap.Outcome.{Outcome}
 use Rattle.rv_hart.specs.Step.{step}
 use Rattle.rv_monitor.specs.State.{SessionState, after, with_due}
-use Rattle.rv_monitor.specs.Stops.{TakesStep, may_step}
+use Rattle.rv_monitor.specs.Stops.{TakesStep, may_step, steps_between}
 use Rattle.rv_recording.specs.Recording.{RecordingState, with_timed}
 use Rattle.rv_recording.specs.declared.until.End.{End}
 use Rattle.rv_answers.specs.declared.answer.Answer.{Answer}
@@ -22,17 +22,20 @@ use Rattle.rv_answers.specs.declared.values.Trap.{Trap}
 use Rattle.rv_monitor.specs.Commands as monitor
 use Rattle.rv_monitor.specs.Commands.{command_in}
 use Rattle.rv_lab.specs.Answers.{place_of, standing}
-use Rattle.rv_lab.specs.Commands.{begun, gone_on, is_traced, monitored_run, piece_most, planned, stepped, tells_last, with_piece, with_steps}
+use Rattle.rv_lab.specs.Commands.{begun, gone_on, guards_by, monitored_run, piece_most, piece_steps, planned, stepped, with_piece, with_steps}
+use Rattle.rv_runs.specs.Plans.{is_traced, tells_last}
 use Rattle.rv_lab.specs.Refusals.{StopsShort, nowhere}
 use Rattle.rv_lab.specs.Runs.{aim_of, changes, end_of, ending_of, monitor_answer, next_step, next_steps, over_answer, run_answer, step_answer, step_value, trap_in, watch_changes}
 use Rattle.rv_lab.specs.State.{LabState, board, registers_of, sent, timed}
 use Rattle.rv_lab.specs.Support.Short.{GoesOnWith, IsOnWay, Traced, call_answer, told_steps}
 use Rattle.rv_lab.specs.declared.lab.Done.{Done}
-use Rattle.rv_lab.specs.declared.plan.Goal.{Goal}
-use Rattle.rv_lab.specs.declared.plan.Goal.TheVariants as goal
-use Rattle.rv_lab.specs.declared.plan.Plan.{Plan}
+use Rattle.rv_runs.specs.declared.goal.Goal.{Goal}
+use Rattle.rv_runs.specs.declared.goal.Goal.TheVariants as goal
+use Rattle.rv_runs.specs.declared.plan.Plan.{Plan}
 use Rattle.rv_lab.proofs.Runs.{told_call, traced_last}
-use Rattle.rv_lab.proofs.Short.{on_err, to_steps}
+use Rattle.rv_lab.proofs.Short.{to_steps}
+use Rattle.rv_runs.proofs.Later.{taken_after}
+use Rattle.rv_runs.proofs.Parts.{on_err}
 
 -- ---- runs
 
@@ -54,16 +57,19 @@ answered p end steps old new a ended rows h =
 pub over_short : {A : Type 0} (r : Result A NoMemory) (p : Plan) (waits : Bool) (old mid new : LabState)
     → mid ≡ with_piece p old → waits ≡ tells_last p
     → new ≡ record mid { told = if waits && is_some mid.plan then mid.told else sent mid }
-    → new.plan ≡ None → OnErr r (StopsShort (GoesOnWith p) old new)
+    → new.plan ≡ None → OnErr r (StopsShort (Some p.goal) (GoesOnWith p) old new)
 over_short r p waits old mid new is w told none =
     let all : new ≡ gone_on p old = told_call p waits old mid new is w told in
     let last : (gone_on p old).plan ≡ None = sym (ap (λ (l : LabState). l.plan) all) ∙ none in
-    on_err r (StopsShort (GoesOnWith p) old new) (subst (StopsShort (GoesOnWith p) old) (sym all) (
+    let n = piece_steps p old in
+    let between : n ≡ steps_between (timed old) (after (timed old) n) = omega (arith, taken_after (timed old) n) in
+    on_err r (StopsShort (Some p.goal) (GoesOnWith p) old new) (subst (StopsShort (Some p.goal) (GoesOnWith p) old) (sym all) (
       gone_on p old,
       refl,
       to_steps (timed old) _,
       nowhere,
-      ap (λ (q : Option Plan). record (gone_on p old) { plan = q }) last,
+      ap (λ (q : Option Plan). record (gone_on p old) { plan = q }) last
+          ∙ ap (λ (i : ℕ). record (gone_on p old) { plan = None; guards = guards_by p.goal old i }) between,
     ))
 
 -- ---- a step

@@ -6,18 +6,22 @@ use Rattle.rv_answers.specs.declared.moves.Step.{Step}
 use Rattle.rv_base.specs.declared.memory.NoMemory.{NoMemory}
 use Rattle.rv_timeline.specs.Timed.{never_falls}
 use Rattle.rv_monitor.specs.State.{IsInTime, SessionState, TimedState, after}
+use Rattle.rv_monitor.specs.Stops.{steps_between}
 use Rattle.rv_recording.specs.Recording.{RecordingState}
 use Rattle.rv_recording.specs.Refused.{IsRefusedIn}
 use Rattle.rv_recording.specs.Until.{HasRun, step_ends, steps_of}
 use Rattle.rv_recording.specs.declared.until.End.{End}
-use Rattle.rv_lab.specs.Commands.{Stops, goal_after, is_traced, run_ends, with_session}
+use Rattle.rv_lab.specs.Commands.{guards_by, with_session}
+use Rattle.rv_runs.specs.Ends.{Stops, goal_after, run_ends}
+use Rattle.rv_runs.specs.Plans.{is_traced}
 use Rattle.rv_lab.specs.Runs.{next_steps}
 use Rattle.rv_lab.specs.State.{LabState, timed}
-use Rattle.rv_lab.specs.Support.Short.{StopsIn, Traced, told_steps}
+use Rattle.rv_lab.specs.Support.Short.{StopsIn, Traced, ran_to, told_steps}
 use Rattle.rv_recording.specs.declared.until.Watched.{Watched}
-use Rattle.rv_lab.specs.declared.guard.Guard.{Guard}
-use Rattle.rv_lab.specs.declared.plan.Goal.{Goal}
-use Rattle.rv_lab.specs.declared.plan.Goal.TheVariants as goal
+use Rattle.rv_runs.specs.declared.guard.Guard.{Guard}
+use Rattle.rv_runs.specs.declared.goal.Goal.{Goal}
+use Rattle.rv_runs.specs.declared.goal.Goal.TheVariants as goal
+use Rattle.rv_runs.proofs.Passing.{traced_guards}
 use Rattle.rv_lab.proofs.Runs.{all_stepped}
 use Rattle.rv_lab.proofs.Short.{refused_stops}
 
@@ -31,6 +35,7 @@ trace_goal goal.Trace e = refl
 trace_goal goal.Count e = absurd (false≢true e)
 trace_goal goal.Break e = absurd (false≢true e)
 trace_goal (goal.Out calls line) e = absurd (false≢true e)
+trace_goal (goal.Mark calls) e = absurd (false≢true e)
 trace_goal (goal.Until condition) e = absurd (false≢true e)
 
 module _ (g : Goal) (b : Bool) (is : b ≡ is_traced g) (yes : b ≡ true) where
@@ -48,9 +53,16 @@ module _ (g : Goal) (b : Bool) (is : b ≡ is_traced g) (yes : b ≡ true) where
       → OnOk r (ys ≡ xs ++ told_steps g n l)
   trace_told r n l xs ys h = subst (λ (x : Goal). OnOk r (ys ≡ xs ++ told_steps x n l)) traces h
 
-  pub trace_stops : {E : Type 0} (r : Result End E) (st : Stops) (n : ℕ) (s : SessionState) (old new : LabState) → OnErr r (StopsIn (step_ends s) n old new)
-      → OnErr r (StopsIn (run_ends st g s) n old new)
-  trace_stops r st n s old new h = subst (λ (x : Goal). OnErr r (StopsIn (run_ends st x s) n old new)) traces h
+  pub trace_stops : {E : Type 0} (r : Result End E) (st : Stops) (n : ℕ) (s : SessionState) (old new : LabState) → OnErr r (StopsIn goal.Trace (step_ends s) n old new)
+      → OnErr r (StopsIn g (run_ends st g s) n old new)
+  trace_stops r st n s old new h = subst (λ (x : Goal). OnErr r (StopsIn x (run_ends st x s) n old new)) traces h
+
+  pub trace_others : (old new : LabState) → new ≡ with_session old new.recording.session
+      → new ≡ ran_to g old new.recording.session
+  trace_others old new e =
+      subst (λ (x : Goal). new ≡ ran_to x old new.recording.session) traces
+      (e ∙ ap (λ (gs : List Guard). record (with_session old new.recording.session) { guards = gs })
+      (sym (traced_guards old.marks old.guards old.recording.session (steps_between (timed old) (timed new)))))
 
 -- any other goal
 pub none_told : {E : Type 0} (r : Result End E) (g : Goal) (b : Bool) (n : ℕ) (l : LabState) (xs : List Step)
@@ -70,23 +82,43 @@ traced_others n old new h t =
     t ∙ (ap (λ (r : RecordingState). record old { recording = r }) (all_stepped n old.recording h)
     ∙ ap (with_session old) (sym now))
 
--- a run that memory stopped
+-- ---- a run, by its recording and its guards
+
+ran_over : (g : Goal) (l : LabState) (q : RecordingState) (gs : List Guard) → q ≡ record l.recording { session = q.session }
+    → gs ≡ guards_by g l (steps_between (timed l) q.session.timed)
+    → record l { recording = q; guards = gs } ≡ ran_to g l q.session
+ran_over g l q gs others counts =
+    ap (λ (x : RecordingState). record l { recording = x; guards = gs }) others
+    ∙ ap (λ (xs : List Guard). record (with_session l q.session) { guards = xs }) counts
+
+-- one that memory stopped
 pub refused_err : (r : Result End NoMemory) (st lent : Stops) (g : Goal) (most : ℕ) (inside old : LabState)
-    (q : RecordingState) → lent ≡ st → inside ≡ old → IsInTime (timed old)
+    (q : RecordingState) (gs : List Guard) → lent ≡ st → inside ≡ old → IsInTime (timed old)
     → OnErr r (IsRefusedIn (run_ends lent g inside.recording.session) most inside.recording.session q.session)
     → q ≡ record inside.recording { session = q.session }
-    → OnErr r (StopsIn (run_ends st g old.recording.session) most old (record inside { recording = q }))
-refused_err (Ok end) st lent g most inside old q whole same h refused others = tt
-refused_err (Err why) st lent g most inside old q whole same h refused others =
+    → gs ≡ guards_by g inside (steps_between (timed inside) q.session.timed)
+    → OnErr r (StopsIn g (run_ends st g old.recording.session) most old (record inside { recording = q; guards = gs }))
+refused_err (Ok end) st lent g most inside old q gs whole same h refused others counts = tt
+refused_err (Err why) st lent g most inside old q gs whole same h refused others counts =
     let rising = subst (λ (l : LabState). never_falls (timed l).inputs ≡ true) (sym same) h.rising in
-    subst (λ (l : LabState). StopsIn (run_ends st g l.recording.session) most l (record inside { recording = q })) same
-    (refused_stops (run_ends st g inside.recording.session) most inside (record inside { recording = q }) rising
+    let new : LabState = record inside { recording = q; guards = gs } in
+    subst (λ (l : LabState). StopsIn g (run_ends st g l.recording.session) most l new) same
+    (refused_stops g (run_ends st g inside.recording.session) most inside new rising
     (subst (λ (xs : Stops). IsRefusedIn (run_ends xs g inside.recording.session) most inside.recording.session q.session)
     whole refused)
-    (ap (λ (p : RecordingState). record inside { recording = p }) others))
+    (ran_over g inside q gs others counts))
 
-pub stops_are : (gs hs : List Guard) (ws vs : List Watched) → gs ≡ hs → ws ≡ vs
-    → ◌≡◌ {A = Stops} (record { guards = gs; watches = ws }) (record { guards = hs; watches = vs })
-stops_are gs hs ws vs a b =
-    ap (λ (x : List Guard). record { guards = x; watches = ws }) a
-    ∙ ap (λ (x : List Watched). record { guards = hs; watches = x }) b
+-- and any run
+pub ran_board : (g : Goal) (inside old : LabState) (q : RecordingState) (gs : List Guard) → inside ≡ old
+    → q ≡ record inside.recording { session = q.session }
+    → gs ≡ guards_by g inside (steps_between (timed inside) q.session.timed)
+    → record inside { recording = q; guards = gs } ≡ ran_to g old q.session
+ran_board g inside old q gs same others counts =
+    ran_over g inside q gs others counts ∙ ap (λ (l : LabState). ran_to g l q.session) same
+
+pub stops_are : (gs hs : List Guard) (ws vs : List Watched) (ms ns : List ℕ) → gs ≡ hs → ws ≡ vs → ms ≡ ns
+    → ◌≡◌ {A = Stops} (record { guards = gs; watches = ws; marks = ms }) (record { guards = hs; watches = vs; marks = ns })
+stops_are gs hs ws vs ms ns a b c =
+    ap (λ (x : List Guard). record { guards = x; watches = ws; marks = ms }) a
+    ∙ (ap (λ (x : List Watched). record { guards = hs; watches = x; marks = ms }) b
+    ∙ ap (λ (x : List ℕ). record { guards = hs; watches = vs; marks = x }) c)

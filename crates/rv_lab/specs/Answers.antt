@@ -46,7 +46,7 @@ use Rattle.rv_answers.specs.declared.values.Trap.{Trap}
 use Rattle.rv_lab.specs.State.{LabState, board, listing, registers_of, timed}
 use Rattle.rv_lab.specs.Lines.{line_at, line_count, row_of}
 use Rattle.rv_lab.specs.Words.{count_of, usual_steps}
-use Rattle.rv_lab.specs.declared.guard.Guard.{Guard}
+use Rattle.rv_runs.specs.declared.guard.Guard.{Guard}
 use Rattle.rv_lab.specs.declared.source.Excerpt.{Excerpt}
 use Rattle.rv_answers.specs.declared.command.Command.{Command}
 use Rattle.rv_answers.specs.declared.command.Command.TheVariants as command
@@ -96,9 +96,13 @@ instruction_answer l [] = answers.Instruction (place_of l (board l).machine.pc)
 instruction_answer l (word ∷ more) = option_map_or (λ a. answers.Instruction (place_of l a))
     (address (listing l) (board l) word) (refused command.Instruction word why.NoAddress)
 
--- of each condition of a breakpoint, where it is and how it was given
+-- the condition of a breakpoint as it was given, if it has one
+abbrev pub given_condition : Guard → Option (List ℕ)
+given_condition g = option_map (λ c. g.text) g.condition
+
+-- what a breakpoint stops a run on
 abbrev pub condition_of : Guard → BreakCondition
-condition_of g = record { address = g.address; text = g.text }
+condition_of g = record { address = g.address; text = given_condition g; passes = g.passes }
 
 unfoldable pub breakpoints : LabState → List Place
 breakpoints l =

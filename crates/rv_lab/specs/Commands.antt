@@ -1,29 +1,27 @@
 -- To audit: public contracts cite this.
 -- What each order leaves of a lab, by which a command line asks for something (this project's own: docs/LAB.md).
-use Rattle.std.specs.Prelude.{◌≡◌, ℕ, ◌+◌, ◌-◌, ◌≤◌, ◌&&◌, ◌||◌, Bool, true, false, if◌then◌else◌, is_none, is_some, max, min, nat_lt, List, fold, Option, Some, None, MatchOption, unwrap_or}
+use Rattle.std.specs.Prelude.{◌≡◌, ℕ, ◌+◌, ◌-◌, ◌≤◌, ◌&&◌, true, false, if◌then◌else◌, is_some, max, min, List, fold, Option, Some, None, MatchOption, unwrap_or}
 use Rattle.rv_timeline.specs.declared.input.Input.{Input}
 use Rattle.rv_monitor.specs.Commands.{command_in}
 use Rattle.rv_commands.specs.declared.command.Command as commands
 use Rattle.rv_commands.specs.declared.command.Command.TheVariants as monitored
-use Rattle.rv_monitor.specs.State.{SessionState, TimedState, after, given}
+use Rattle.rv_monitor.specs.State.{SessionState, after, given}
 use Rattle.rv_monitor.specs.Stops.{may_step}
 use Rattle.rv_recording.specs.Recording.{RecordingState, with_timed}
-use Rattle.rv_recording.specs.Until.{break_ends, step_ends, steps_of, until_ends}
-use Rattle.rv_recording.specs.Out.{open_at, out_ends}
-use Rattle.rv_recording.specs.declared.until.End.{End}
-use Rattle.rv_recording.specs.declared.until.Watched.{Watched}
-use Rattle.rv_lab.specs.Guards.{passing, with_guard, without_guard}
+use Rattle.rv_recording.specs.Until.{steps_of}
+use Rattle.rv_runs.specs.Ends.{Stops, guards_after, run_ends}
+use Rattle.rv_runs.specs.Guards.{with_guard, without_guard}
+use Rattle.rv_runs.specs.Plans.{plan_after, resumes_after, tells_last}
 use Rattle.rv_lab.specs.State.{LabState, board, registers_of, sent, timed}
-use Rattle.rv_lab.specs.declared.guard.Guard.{Guard}
+use Rattle.rv_runs.specs.declared.guard.Guard.{Guard}
 use Rattle.rv_lab.specs.declared.lab.Next.{Next}
 use Rattle.rv_lab.specs.declared.lab.Next.TheVariants as next
-use Rattle.rv_lab.specs.declared.plan.Plan.{Plan}
-use Rattle.rv_lab.specs.declared.plan.Trail.{Trail}
-use Rattle.rv_lab.specs.declared.plan.Goal.{Goal}
-use Rattle.rv_lab.specs.declared.plan.Goal.TheVariants as goal
+use Rattle.rv_runs.specs.declared.plan.Plan.{Plan}
+use Rattle.rv_lab.specs.declared.trail.Trail.{Trail}
+use Rattle.rv_runs.specs.declared.goal.Goal.{Goal}
+use Rattle.rv_runs.specs.declared.goal.Goal.TheVariants as goal
 use Rattle.rv_answers.specs.declared.command.Command.{Command}
 use Rattle.rv_answers.specs.declared.command.Command.TheVariants.{Why}
-use Rattle.rv_lab.specs.Watches.{changes_at, watching}
 use Rattle.rv_lab.specs.Words.{repeated}
 
 -- ---- changes of a session
@@ -32,7 +30,7 @@ use Rattle.rv_lab.specs.Words.{repeated}
 abbrev pub with_session : LabState → SessionState → LabState
 with_session l s = record l { recording = record l.recording { session = s } }
 
--- a lab without a condition of the breakpoint at an address, and with another one for its breakpoint
+-- a lab without a guard of the breakpoint at an address, and with another one for its breakpoint
 abbrev pub unguarded : ℕ → LabState → LabState
 unguarded a l = record l { guards = without_guard a l.guards }
 
@@ -45,55 +43,13 @@ guarded g l = record l { guards = with_guard g l.guards }
 abbrev pub planned : Goal → ℕ → Plan
 planned goal most = record { goal = goal; left = most; is_monitored = false }
 
--- what stops a run beside what it goes on for: breakpoints with these conditions, and a change of what is watched
-pub record Stops : Type 0 where
-  pub guards : List Guard
-  pub watches : List Watched
-
+-- what stops a run beside what it goes on for
 abbrev pub stops_of : LabState → Stops
-stops_of l = record { guards = l.guards; watches = l.watches }
+stops_of l = record { guards = l.guards; watches = l.watches; marks = l.marks }
 
--- whether they stop a run: only a number of steps goes past any breakpoint, and any change
-abbrev pub heeds : Goal → Bool
-heeds goal.Count = false
-heeds goal.Trace = false
-heeds other = true
-
--- why a run from a session on is over after some of its steps, if it is and nothing is watched, by what it goes on for
--- and by the conditions of breakpoints
-abbrev pub guarded_ends : List Guard → Goal → SessionState → ℕ → Option End
-guarded_ends gs goal.Count s = step_ends s
-guarded_ends gs goal.Trace s = step_ends s
-guarded_ends gs goal.Break s = passing gs s (break_ends s)
-guarded_ends gs (goal.Out calls line) s = passing gs s (out_ends calls line s)
-guarded_ends gs (goal.Until condition) s = passing gs s (until_ends condition s)
-
--- and by what is watched
-abbrev pub run_ends : Stops → Goal → SessionState → ℕ → Option End
-run_ends st g s n =
-    if heeds g then watching (changes_at st.watches s.timed n) (guarded_ends st.guards g s n)
-    else guarded_ends st.guards g s n
-
--- what the run goes on for after n steps
-abbrev pub goal_after : Goal → TimedState → ℕ → Goal
-goal_after (goal.Out calls line) s n = goal.Out (open_at calls s n) line
-goal_after other s n = other
-
--- the plan of a run after n steps: there is one exactly while the run isn't over and steps are left
-unfoldable pub plan_after : Stops → Plan → SessionState → ℕ → Option Plan
-plan_after st p s n =
-    if is_none (run_ends st p.goal s n) && nat_lt n p.left
-    then Some (record p { goal = goal_after p.goal s.timed n; left = p.left - n }) else None
-
--- what `c` goes on for after a run that went on for this: the same, but breakpoints alone after one that counted steps
-abbrev pub resumed_by : Goal → Goal
-resumed_by goal.Count = goal.Break
-resumed_by goal.Trace = goal.Break
-resumed_by other = other
-
--- and after n steps of a run, which may be over: then breakpoints alone
-abbrev pub resumes_after : Stops → Goal → SessionState → ℕ → Goal
-resumes_after st g s n = if is_none (run_ends st g s n) then resumed_by (goal_after g s.timed n) else goal.Break
+-- its guards after n steps of a run that goes on for that, whose hits are counted
+abbrev pub guards_by : Goal → LabState → ℕ → List Guard
+guards_by g l n = guards_after l.marks l.guards g l.recording.session n
 
 -- the lab with n steps taken
 abbrev pub with_steps : ℕ → LabState → LabState
@@ -114,16 +70,11 @@ piece_steps p l = steps_of (run_ends (stops_of l) p.goal l.recording.session) (p
 abbrev pub with_piece : Plan → LabState → LabState
 with_piece p l =
     let s = l.recording.session in let n = piece_steps p l in
-    record (with_steps n l) { plan = plan_after (stops_of l) p s n; resumes = resumes_after (stops_of l) p.goal s n }
-
--- whether each step of a run is told
-abbrev pub is_traced : Goal → Bool
-is_traced goal.Trace = true
-is_traced other = false
-
--- whether the console is told at the end of a run alone: of one of the monitor, and of a trace
-abbrev pub tells_last : Plan → Bool
-tells_last p = p.is_monitored || is_traced p.goal
+    record (with_steps n l) {
+      guards = guards_by p.goal l n;
+      plan = plan_after (stops_of l) p s n;
+      resumes = resumes_after (stops_of l) p.goal s n;
+    }
 
 -- the lab after it: the console was told, unless that waits for the end
 abbrev pub gone_on : Plan → LabState → LabState

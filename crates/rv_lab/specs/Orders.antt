@@ -16,24 +16,25 @@ use Rattle.rv_recording.specs.declared.until.Watched.{Watched}
 use Rattle.rv_why.specs.Origins.{last_sought}
 use Rattle.rv_why.specs.Taken.{first_state}
 use Rattle.rv_why.specs.declared.writes.Sought.TheVariants as sought
-use Rattle.rv_operands.specs.Operands.{address, break_address, break_place, bytes_inputs, followed, leading, line_number, operand_text, trimmed}
+use Rattle.rv_operands.specs.Operands.{address, break_address, break_place, bytes_inputs, followed, leading, line_number, operand_text, passes, trimmed, without_last}
 use Rattle.rv_answers.specs.Commands.{command_named}
 use Rattle.rv_answers.specs.declared.answer.Answer.{Answer}
 use Rattle.rv_answers.specs.declared.answer.Answer.TheVariants as answers
 use Rattle.rv_answers.specs.declared.answer.Why.TheVariants as why
 use Rattle.rv_answers.specs.declared.command.Command.{Command}
-use Rattle.rv_answers.specs.declared.command.Command.TheVariants.{Step, Over, Moves, Break, Clear, Watch, Unwatch, Receive, Line, Save, Monitor, Why, Help, Quit, StepOnce, Again, Unknown, TooLong}
+use Rattle.rv_answers.specs.declared.command.Command.TheVariants.{Step, Over, NextC, Moves, Break, Clear, Watch, Unwatch, Receive, Line, Save, Monitor, Why, Help, Quit, StepOnce, Again, Unknown, TooLong}
 use Rattle.rv_answers.specs.declared.command.Command.TheVariants as command
 use Rattle.rv_answers.specs.declared.command.Move.TheVariants.{Go, Finish, Until, Trace, Back}
 use Rattle.rv_lab.specs.Answers.{breakpoints_answer, look_answer, only, refused, watches_of}
 use Rattle.rv_lab.specs.Commands.{planned, ready}
 use Rattle.rv_lab.specs.Lines.{line_at}
 use Rattle.rv_lab.specs.State.{LabState, board, listing, timed}
-use Rattle.rv_lab.specs.Watches.{is_same}
+use Rattle.rv_runs.specs.Watches.{is_same}
 use Rattle.rv_lab.specs.Words.{count_of, line_command, most_steps, usual_steps}
+use Rattle.rv_runs.specs.declared.guard.Guard.{Guard}
 use Rattle.rv_lab.specs.declared.order.Order.{Order}
 use Rattle.rv_lab.specs.declared.order.Order.TheVariants as orders
-use Rattle.rv_lab.specs.declared.plan.Goal.TheVariants as goal
+use Rattle.rv_runs.specs.declared.goal.Goal.TheVariants as goal
 
 -- what some words ask for, or that they are refused
 abbrev pub or_refused : {A : Type 0} → Option A → (A → Order) → Answer → Order
@@ -62,21 +63,35 @@ abbrev pub is_of_board : Condition → Bool
 is_of_board condition.Trap = false
 is_of_board _ = true
 
--- `b`: all breakpoints; or one at a word, with a condition after `if`
-unfoldable pub guard_order : (text word : List ℕ) → LabState → Option Condition × List (List ℕ) → Order
-guard_order text word l (Some c, []) =
-    if is_of_board c then or_refused (break_place (listing l) (board l) word)
-    (λ a. orders.BreakIf (record { address = a; condition = c; text = trimmed (operand_text (operand_text text)) }))
-    (no_break Break (word ∷ [])) else orders.Answered (refused Break text why.NoCondition)
-guard_order text word l _ = orders.Answered (refused Break text why.NoCondition)
+-- the condition of `b` as it was given: what stands between `if` and the words that follow it, which are two if any
+abbrev pub condition_text : List ℕ → List (List ℕ) → List ℕ
+condition_text text [] = trimmed (operand_text (operand_text text))
+condition_text text (word ∷ more) = trimmed (without_last (without_last (operand_text (operand_text text))))
 
+-- a breakpoint that stops each run, or one with a condition or passed hits
+abbrev pub break_by : Guard → Order
+break_by g = if is_none g.condition && (g.passes == 0) then orders.Break g.address else orders.BreakIf g
+
+-- one at a word, with a condition or none, by the words that follow it
+unfoldable pub break_at : (text word : List ℕ) → LabState → Option Condition → (given : List ℕ) → List (List ℕ) → Order
+break_at text word l c given more = or_refused (passes more)
+    (λ n. or_refused (break_place (listing l) (board l) word)
+    (λ a. break_by (record { address = a; condition = c; text = given; passes = n })) (no_break Break (word ∷ [])))
+    (refused Break text why.NoHits)
+
+unfoldable pub guard_order : (text word : List ℕ) → LabState → Option Condition × List (List ℕ) → Order
+guard_order text word l (Some c, more) =
+    if is_of_board c then break_at text word l (Some c) (condition_text text more) more
+    else orders.Answered (refused Break text why.NoCondition)
+guard_order text word l (None, more) = orders.Answered (refused Break text why.NoCondition)
+
+-- `b`: all breakpoints; or one at a word, perhaps with a condition after `if`
 unfoldable pub break_order : List ℕ → List (List ℕ) → LabState → Order
 break_order text [] l = orders.Answered (breakpoints_answer l)
-break_order text (word ∷ []) l =
-    or_refused (break_place (listing l) (board l) word) (λ a. orders.Break a) (no_break Break (word ∷ []))
+break_order text (word ∷ []) l = break_at text word l None [] []
 break_order text (word ∷ second ∷ more) l =
     if bytes_eq second (codes "if") then guard_order text word l (leading (listing l) (board l) more)
-    else orders.Answered (no_break Break (word ∷ second ∷ more))
+    else break_at text word l None [] (second ∷ more)
 
 -- `watch`: all that is watched; or one register or word more, of 16 at most
 abbrev pub watch_one : Watched → LabState → Order
@@ -125,11 +140,17 @@ here l = option_and_then (span_of (listing l)) (line_at (listing l) (board l).ma
 abbrev pub next_order : LabState → Order
 next_order l = orders.Run (planned (goal.Out 0 (here l)) usual_steps)
 
+-- `nextc`: to the next place of the C source, past each call
+unfoldable pub nextc_order : LabState → Order
+nextc_order l = if length l.marks == 0 then orders.Answered (refused NextC [] why.NoMarks)
+    else orders.Run (planned (goal.Mark 0) usual_steps)
+
 -- what an empty line asks for: the last step or list command again
 abbrev pub again_order : Command → LabState → Order
 again_order Step l = steps_order l.count
 again_order StepOnce l = orders.Once
 again_order Over l = next_order l
+again_order NextC l = nextc_order l
 again_order command.List l = orders.List (record { after = l.listed; count = 11 }) true
 again_order _ l = orders.Answered answers.Nothing
 
@@ -172,6 +193,7 @@ command_order Step word text l =
 command_order (Moves Go) word text l = or_refused (count_of usual_steps most_steps (words text))
     (λ n. orders.Run (planned l.resumes n)) (refused (Moves Go) text why.NoSteps)
 command_order Over word text l = next_order l
+command_order NextC word text l = nextc_order l
 command_order (Moves Finish) word text l = orders.Run (planned (goal.Out 1 None) usual_steps)
 command_order (Moves Until) word text l = until_order text l
 command_order (Moves Trace) word text l = or_refused (count_of 10 1000 (words text))

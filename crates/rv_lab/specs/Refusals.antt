@@ -1,9 +1,13 @@
 -- To audit: public contracts cite this.
 -- The lab where memory ran out in a call (this project's own: docs/LAB.md).
-use Rattle.std.specs.Prelude.{◌≡◌, ◌⊎◌, ℕ, None}
+use Rattle.std.specs.Prelude.{◌≡◌, ◌⊎◌, ℕ, List, Option, Some, None}
 use Rattle.rv_timeline.specs.declared.input.Input.{Input}
 use Rattle.rv_monitor.specs.State.{TimedState, after, with_due, given}
+use Rattle.rv_monitor.specs.Stops.{steps_between}
 use Rattle.rv_recording.specs.Recording.{with_timed}
+use Rattle.rv_runs.specs.declared.goal.Goal.{Goal}
+use Rattle.rv_runs.specs.declared.guard.Guard.{Guard}
+use Rattle.rv_lab.specs.Commands.{guards_by}
 use Rattle.rv_lab.specs.State.{LabState, timed}
 
 -- a state leads to another by steps that are taken, the inputs before the next step, and inputs by hand
@@ -13,14 +17,25 @@ pub data Leads (old : TimedState) : TimedState → Type 0 where
   due : (s : TimedState) → Leads old s → Leads old (with_due s)
   by_hand : (s : TimedState) (input : Input) → Leads old s → Leads old (given s input)
 
--- a call stopped short: it took some of the steps, and gave some of the inputs, that lead to what it does, and
--- its run is over
-abbrev pub StopsShort : (LabState → LabState → Type 0) → LabState → LabState → Type 0
-StopsShort Does old new =
+-- the guards of a lab after the steps to a state: of a run that goes on for something, or of no run
+abbrev pub guards_at : Option Goal → LabState → TimedState → List Guard
+guards_at None l t = l.guards
+guards_at (Some g) l t = guards_by g l (steps_between (timed l) t)
+
+-- a call stopped short, of a run that goes on for something or of no run: it took some of the steps, and gave some of
+-- the inputs, that lead to what it does, the hits of these steps are counted, and its run is over
+abbrev pub StopsShort : Option Goal → (LabState → LabState → Type 0) → LabState → LabState → Type 0
+StopsShort g Does old new =
     (done : LabState) × Does old done × Leads (timed old) (timed new) × Leads (timed new) (timed done)
-    × (new ≡ record done { recording = with_timed old.recording (timed new); plan = None; resumes = new.resumes; told = new.told })
+    × (new ≡ record done {
+      recording = with_timed old.recording (timed new);
+      guards = guards_at g old (timed new);
+      plan = None;
+      resumes = new.resumes;
+      told = new.told;
+    })
 
 -- memory ran out in a call: it did nothing, or all that it does but for the end of its answer, or it stopped
 -- short
-abbrev pub RunsOut : (LabState → LabState → Type 0) → LabState → LabState → Type 0
-RunsOut Does old new = (new ≡ old) ⊎ (Does old new ⊎ StopsShort Does old new)
+abbrev pub RunsOut : Option Goal → (LabState → LabState → Type 0) → LabState → LabState → Type 0
+RunsOut g Does old new = (new ≡ old) ⊎ (Does old new ⊎ StopsShort g Does old new)

@@ -12,7 +12,7 @@ use Rattle.rv_hart.specs.declared.trap.Outcome.TheVariants.{Trapped}
 use Rattle.rv_board.specs.declared.event.TrapRecord.{TrapRecord}
 use Rattle.rv_monitor.specs.Commands as monitor
 use Rattle.rv_monitor.specs.Commands.{command_in}
-use Rattle.rv_monitor.specs.State.{with_break, with_due, without_break}
+use Rattle.rv_monitor.specs.State.{SessionState, with_break, with_due, without_break}
 use Rattle.rv_monitor.specs.Stops.{may_step}
 use Rattle.rv_monitor.specs.Views.{stop_text}
 use Rattle.rv_board.specs.BoardState.{BoardState}
@@ -36,23 +36,25 @@ use Rattle.rv_answers.specs.declared.values.RegisterValue.{RegisterValue}
 use Rattle.rv_answers.specs.declared.values.Trap.{Trap}
 use Rattle.rv_why.specs.Why.{explanation}
 use Rattle.rv_why.specs.Origins.{origin, target_of}
-use Rattle.rv_lab.specs.Answers.{place_of, rows_answer, standing, watch_of}
-use Rattle.rv_lab.specs.Commands.{begun, gone_on, guarded, heeds, monitor_next, monitored_run, is_traced, next_of, piece_most, piece_steps, planned, ready, run_ends, stepped, stops_of, unguarded, with_console, with_inputs, with_session, with_steps}
+use Rattle.rv_lab.specs.Answers.{given_condition, place_of, rows_answer, standing, watch_of}
+use Rattle.rv_lab.specs.Commands.{begun, gone_on, guarded, monitor_next, monitored_run, next_of, piece_most, piece_steps, planned, ready, stepped, stops_of, unguarded, with_console, with_inputs, with_session, with_steps}
+use Rattle.rv_runs.specs.Ends.{heeds, run_ends}
+use Rattle.rv_runs.specs.Plans.{is_traced}
 use Rattle.rv_lab.specs.Orders.{ordered}
 use Rattle.rv_lab.specs.Saved.{steps_text}
 use Rattle.rv_lab.specs.State.{LabState, board, listing, registers_of, sent, timed}
 use Rattle.rv_lab.specs.Lines.{line_count}
 use Rattle.rv_lab.specs.declared.lab.Next.{Next}
 use Rattle.rv_lab.specs.declared.lab.Next.TheVariants as next
-use Rattle.rv_lab.specs.Watches.{differs, with_watch, without_watch}
+use Rattle.rv_runs.specs.Watches.{differs, with_watch, without_watch}
 use Rattle.rv_lab.specs.Words.{line_command, most_steps}
 use Rattle.rv_lab.specs.declared.lab.Reply.{Reply}
 use Rattle.rv_lab.specs.declared.order.Order.{Order}
 use Rattle.rv_lab.specs.declared.order.Order.TheVariants as orders
-use Rattle.rv_lab.specs.declared.plan.Goal.{Goal}
-use Rattle.rv_lab.specs.declared.plan.Goal.TheVariants as goal
-use Rattle.rv_lab.specs.declared.plan.Plan.{Plan}
-use Rattle.rv_lab.specs.declared.plan.Trail.{Trail}
+use Rattle.rv_runs.specs.declared.goal.Goal.{Goal}
+use Rattle.rv_runs.specs.declared.goal.Goal.TheVariants as goal
+use Rattle.rv_runs.specs.declared.plan.Plan.{Plan}
+use Rattle.rv_lab.specs.declared.trail.Trail.{Trail}
 
 -- ---- steps
 
@@ -119,6 +121,7 @@ aim_of l goal.Count = aim.Steps
 aim_of l goal.Trace = aim.Steps
 aim_of l goal.Break = aim.Breakpoint
 aim_of l (goal.Out calls line) = aim.Return
+aim_of l (goal.Mark calls) = aim.Mark
 aim_of l (goal.Until c) = until_aim l c
 
 -- the monitor's word for why a run is over
@@ -249,10 +252,10 @@ does (orders.List e follows) old new =
     more (new ≡ record old { listed = min (e.after + e.count) (line_count (listing old)) }) (rows_answer e follows old)
 does (orders.Break a) old new =
     more (new ≡ unguarded a (with_session old (with_break old.recording.session a)))
-    (answers.Break (record { place = place_of new a; condition = None }))
+    (answers.Break (record { place = place_of new a; condition = None; passes = 0 }))
 does (orders.BreakIf g) old new =
     more (new ≡ guarded g (with_session old (with_break old.recording.session g.address)))
-    (answers.Break (record { place = place_of new g.address; condition = Some g.text }))
+    (answers.Break (record { place = place_of new g.address; condition = given_condition g; passes = g.passes }))
 does (orders.Clear a) old new = let s = old.recording.session in
     more (new ≡ unguarded a (with_session old (without_break s a)))
     (answers.Cleared (record { place = place_of new a; was_there = set.contains s.breakpoints.addresses a }))
@@ -273,6 +276,13 @@ does (orders.Answered a) old new = more (new ≡ old) a
 
 abbrev pub Leaves : Order → LabState → LabState → Type 0
 Leaves o old new = (does o old new).leaves
+
+-- what the run of an order goes on for, if it begins one
+abbrev pub run_goal : Order → SessionState → Option Goal
+run_goal (orders.Steps n) s = Some goal.Count
+run_goal (orders.Run p) s = Some p.goal
+run_goal (orders.Monitor line) s = option_map (λ p. p.goal) (monitored_run line s)
+run_goal other s = None
 
 -- ---- lines and calls
 

@@ -6,7 +6,7 @@ use Rattle.rv_base.specs.Numbers.{number_in}
 use Rattle.rv_base.specs.Words.{begins_comment, words}
 use Rattle.rv_answers.specs.Commands.{command_named}
 use Rattle.rv_answers.specs.declared.command.Command.{Command}
-use Rattle.rv_answers.specs.declared.command.Command.TheVariants.{Step, Over, Moves, Again, StepOnce, Nothing, Unknown, TooLong}
+use Rattle.rv_answers.specs.declared.command.Command.TheVariants.{Step, Over, NextC, Moves, Again, StepOnce, Nothing, Unknown, TooLong}
 use Rattle.rv_answers.specs.declared.command.Command.TheVariants as command
 
 -- the command that a line's words ask for: an empty line repeats a command, and a comment does nothing
@@ -23,6 +23,7 @@ line_command line = if nat_lt line_limit (length line) then TooLong else word_co
 abbrev pub repeated : Command → Command → Command
 repeated Step before = Step
 repeated Over before = Over
+repeated NextC before = NextC
 repeated command.List before = command.List
 repeated (Moves m) before = StepOnce
 repeated other before = before

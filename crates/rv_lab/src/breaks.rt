@@ -1,16 +1,47 @@
 //! Breakpoints.
-ghost use Rattle.std.specs.Prelude.{◌≡◌, IfOk, None, OnErr, OnOk, Some};
+ghost use Rattle.std.specs.Prelude.{◌≡◌, IfOk, None, OnErr, OnOk, Some, map};
 ghost use Rattle.std.specs.FinSet as set;
 ghost use Rattle.rv_answers.specs.declared.answer.Answer.TheVariants as answers;
+ghost use Rattle.rv_answers.specs.declared.moves.BreakCondition.{BreakCondition};
 ghost use Rattle.rv_lab.specs.Answers as spec;
+ghost use Rattle.rv_lab.specs.Answers.{condition_of};
 ghost use Rattle.rv_lab.specs.Runs.{Leaves};
 ghost use Rattle.rv_lab.specs.declared.lab.Next.TheVariants as after;
 ghost use Rattle.rv_lab.specs.declared.order.Order.TheVariants as orders;
 
-use crate::guard::{Guard, conditions_of, put_guard, remove_guard};
 use crate::lab::{Done, Lab};
-use rv_answers::{Answer, Breakpoint, Breakpoints, Cleared};
+use rv_answers::{Answer, BreakCondition, Breakpoint, Breakpoints, Cleared, Many};
 use rv_base::NoMemory;
+use rv_runs::{Guard, put_guard, remove_guard};
+use std::alloc::Global;
+
+/// Returns the condition of a breakpoint as it was given, if it has one.
+fn given_condition(alloc: Global, guard: &Guard) -> Result<Option<Many<u8>>, NoMemory>
+    ensures { IfOk result (λ c. c ≡ spec.given_condition guard.now) }
+{
+    if guard.condition.is_none() {
+        return Ok(None);
+    }
+    Ok(Some(Many::of(Vec::from_slice(alloc, guard.text.items())?)))
+}
+
+/// Returns what breakpoints stop a run on.
+fn conditions_of(alloc: Global, guards: &[Guard]) -> Result<Many<BreakCondition>, NoMemory>
+    ensures { IfOk result (λ m. m ≡ map condition_of guards.now) }
+{
+    let mut conditions = Vec::new(alloc);
+    for guard in guards {
+        let condition = BreakCondition {
+            address: guard.address,
+            text: given_condition(alloc, guard)?,
+            passes: guard.passes,
+        };
+        let Ok(()) = conditions.push(condition) else {
+            return Err(NoMemory);
+        };
+    }
+    Ok(Many::of(conditions))
+}
 
 impl Lab {
     /// Answers `b` alone.
@@ -27,23 +58,28 @@ impl Lab {
         }))
     }
 
-    /// Makes an address a breakpoint at which a run stops only if a condition holds.
+    /// Makes an address a breakpoint at which not each arrival stops a run.
     pub(crate) fn set_guarded(&mut self, guard: Guard) -> Result<Done, NoMemory>
         ensures next { IfOk result (λ d. d.next ≡ after.More) }
         ensures leaves { OnOk result (Leaves (orders.BreakIf guard) self.old self.new) }
         ensures answers { IfOk result (λ d. d.answer ≡ answers.Break (record {
           place = spec.place_of self.new guard.address;
-          condition = Some guard.text;
+          condition = spec.given_condition guard;
+          passes = guard.passes;
         })) }
         ensures err { OnErr result (self.new ≡ self.old) }
     {
-        let condition = Some(self.copied(guard.text.items())?);
+        let condition = given_condition(self.alloc, &guard)?;
         self.guards.reserve(1)?;
-        let address = guard.address;
+        let (address, passes) = (guard.address, guard.passes);
         self.recording.set_break(address)?;
         put_guard(&mut self.guards, guard);
         let place = self.place_of(address);
-        Ok(Done::more(Answer::Break(Breakpoint { place, condition })))
+        Ok(Done::more(Answer::Break(Breakpoint {
+            place,
+            condition,
+            passes,
+        })))
     }
 
     /// Makes an address a breakpoint without a condition.
@@ -53,6 +89,7 @@ impl Lab {
         ensures answers { IfOk result (λ d. d.answer ≡ answers.Break (record {
           place = spec.place_of self.new address;
           condition = None;
+          passes = 0;
         })) }
         ensures err { OnErr result (self.new ≡ self.old) }
     {
@@ -62,6 +99,7 @@ impl Lab {
         Ok(Done::more(Answer::Break(Breakpoint {
             place,
             condition: None,
+            passes: 0,
         })))
     }
 

@@ -5,7 +5,7 @@ ghost use Rattle.rv_operands.specs.Operands.{operand_text};
 ghost use Rattle.rv_lab.specs.Commands.{trail_before};
 ghost use Rattle.rv_lab.specs.Words.{line_command, repeated, word_command};
 
-use crate::plan::Trail;
+use crate::trail::Trail;
 use rv_answers::{Command, command_named};
 use rv_base::{LINE_LIMIT, begins_comment, first_word};
 use rv_operands::operands_of;
@@ -16,7 +16,7 @@ pub(crate) fn repeated(command: Command, before: Command) -> Command
     ensures { result ≡ repeated command before }
 {
     match command {
-        Command::Step | Command::Over | Command::List => command,
+        Command::Step | Command::Over | Command::NextC | Command::List => command,
         Command::Moves(_) => Command::StepOnce,
         _ => before,
     }

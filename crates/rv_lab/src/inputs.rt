@@ -70,7 +70,7 @@ impl Lab {
     fn give_all(&mut self, inputs: &[Input]) -> Result<(), NoMemory>
         requires { self.old.plan ≡ None }
         ensures given { OnOk result (self.new ≡ with_inputs self.old inputs.now) }
-        ensures err { OnErr result (StopsShort (Gives inputs.now) self.old self.new) }
+        ensures err { OnErr result (StopsShort None (Gives inputs.now) self.old self.new) }
     {
         let [input, rest @ ..] = inputs else {
             return Ok(());
@@ -85,7 +85,7 @@ impl Lab {
         ensures next { IfOk result (λ d. d.next ≡ after.More) }
         ensures given { OnOk result (self.new ≡ with_inputs self.old inputs.now) }
         ensures answers { IfOk result (λ d. d.answer ≡ spec.given_answer (length inputs.now) self.new) }
-        ensures err { OnErr result (StopsShort (Gives inputs.now) self.old self.new) }
+        ensures err { OnErr result (StopsShort None (Gives inputs.now) self.old self.new) }
     {
         self.give_all(inputs)?;
         Ok(Done::more(self.given_answer(inputs.len())))

@@ -6,20 +6,21 @@ ghost use Rattle.rv_monitor.specs.Laws.{IsReached};
 ghost use Rattle.rv_recording.specs.Recording.{first_board};
 ghost use Rattle.rv_lab.specs.State.{listing, registers_of, setup};
 ghost use Rattle.rv_answers.specs.declared.command.Command.TheVariants.{StepOnce};
-ghost use Rattle.rv_lab.specs.declared.plan.Goal.TheVariants as goal;
+ghost use Rattle.rv_runs.specs.declared.goal.Goal.TheVariants as goal;
 ghost use Rattle.rv_lab.specs.Commands.{IsWithin, ready};
 ghost use Rattle.rv_lab.specs.Refusals.{RunsOut};
 ghost use Rattle.rv_lab.specs.Support.Short.{Executes};
+ghost use Rattle.rv_lab.specs.Marks.{marks_in};
 ghost use Rattle.rv_lab.specs.Opening.{OpensLab};
 ghost use Rattle.rv_lab.specs.Words.{line_command};
 ghost use Rattle.rv_lab.specs.Orders.{order_of, ordered};
-ghost use Rattle.rv_lab.specs.Runs.{Leaves, Obeys, look_by, reply_to};
+ghost use Rattle.rv_lab.specs.Runs.{Leaves, Obeys, look_by, reply_to, run_goal};
 
 use crate::command::{read_command, repeated, trail_before};
 use crate::fault::LabFault;
-use crate::guard::Guard;
+use crate::marks::marks_in;
 use crate::order::Order;
-use crate::plan::{Goal, Plan, Trail};
+use crate::trail::Trail;
 use rv_answers::{Answer, Command, Printer, Registers};
 use rv_asm::{Listing, Places, Program, list};
 use rv_base::NoMemory;
@@ -27,6 +28,7 @@ use rv_board::BootedBoard;
 use rv_convention::registers_of;
 use rv_frames::{FrameRow, frame_rows};
 use rv_recording::{Recording, Watched};
+use rv_runs::{Goal, Guard, Plan};
 use std::alloc::Global;
 use std::marker::Model;
 
@@ -102,6 +104,8 @@ pub struct Lab {
     pub(crate) source: Vec<u8>,
     pub(crate) places: Places,
     pub(crate) frames: Vec<FrameRow>,
+    /// The addresses of the places of the C source.
+    pub(crate) marks: Vec<u32>,
     pub(crate) recording: Recording,
     /// The conditions of breakpoints.
     pub(crate) guards: Vec<Guard>,
@@ -123,6 +127,7 @@ impl Drop for Lab {
             source: _,
             places: _,
             frames: _,
+            marks: _,
             recording: _,
             guards: _,
             watches: _,
@@ -143,7 +148,7 @@ impl Model for Lab {
 
     ghost coded = { Prim.hlevel (codes, plic_code, set.code {R = nat_cmp} coded_ℕ) };
 
-    ghost view = { λ l. record { source = l.source.items; places = l.places; frames = l.frames.items; recording = l.recording; guards = l.guards.items; watches = l.watches.items; registers = l.last.registers; before = l.last.steps; told = l.last.told; again = l.last.command; count = l.last.count; listed = l.last.listed; plan = l.last.plan; resumes = l.last.resumes; trail = l.last.trail; piece = l.piece } };
+    ghost view = { λ l. record { source = l.source.items; places = l.places; frames = l.frames.items; marks = l.marks.items; recording = l.recording; guards = l.guards.items; watches = l.watches.items; registers = l.last.registers; before = l.last.steps; told = l.last.told; again = l.last.command; count = l.last.count; listed = l.last.listed; plan = l.last.plan; resumes = l.last.resumes; trail = l.last.trail; piece = l.piece } };
 }
 
 impl Lab {
@@ -160,6 +165,7 @@ impl Lab {
         ensures sizes { IfOk result (λ l.
             (l.recording.pages ≡ sizes.pages) × (l.recording.slots ≡ sizes.slots)) }
         ensures listing { IfOk result (λ l. listed source.now ≡ Ok (listing l)) }
+        ensures marks { IfOk result (λ l. l.marks ≡ marks_in (listing l).labels) }
         ensures begins { IfOk result (λ l. (l.source ≡ source.now) × (l.guards ≡ []) × (l.watches ≡ []) × (l.before ≡ 0) × (l.told ≡ 0)
             × (l.registers ≡ registers_of l.recording.session.timed.board) × (l.again ≡ StepOnce) × (l.count ≡ 1)
             × (l.listed ≡ 0) × (l.plan ≡ None) × (l.resumes ≡ goal.Break) × (l.trail ≡ None) × (l.piece ≡ 1000000)) }
@@ -172,6 +178,9 @@ impl Lab {
             places: &places,
         };
         let Ok(frames) = frame_rows(alloc, listing) else {
+            return Err(LabFault::OutOfMemory);
+        };
+        let Ok(marks) = marks_in(alloc, listing.labels()) else {
             return Err(LabFault::OutOfMemory);
         };
         let Ok(source) = Vec::from_slice(alloc, source) else {
@@ -193,6 +202,7 @@ impl Lab {
             source,
             places,
             frames,
+            marks,
             recording,
             guards: Vec::new(alloc),
             watches: Vec::new(alloc),
@@ -280,7 +290,7 @@ impl Lab {
         match self.read_order(read_command(line))? {
             Order::Answered(answer) => Ok(Some(answer)),
             Order::List(excerpt, follows) => Ok(Some(self.rows_answer(excerpt, follows)?)),
-            Order::Origin(trail) => Ok(Some(Answer::Origin(self.origin_of(trail)?))),
+            Order::Origin(trail) => Ok(Some(Answer::Origin(self.origin_of(&trail)?))),
             _ => Ok(None),
         }
     }
@@ -309,8 +319,8 @@ impl Lab {
         ensures setup { setup self.new ≡ setup self.old }
         ensures obeys { OnOk result (Obeys line.now self.old self.new) }
         ensures replies { IfOk result (λ r. r ≡ reply_to line.now self.old self.new) }
-        ensures err { OnErr result (RunsOut (Leaves (ordered line.now self.old))
-            (ready (line_command line.now) self.old) self.new) }
+        ensures err { OnErr result (RunsOut (run_goal (ordered line.now self.old) self.old.recording.session)
+            (Leaves (ordered line.now self.old)) (ready (line_command line.now) self.old) self.new) }
         ensures bound { IsWithin (max self.old.piece 1) self.old self.new }
     {
         let from = self.board().console().len();

@@ -423,7 +423,7 @@ impl Lab {
             return self.refused(Command::Display, b"", Why::NotOne);
         };
         match self.scope().followed(word) {
-            Some(watched) => Ok(Answer::Display(self.watch_of(watched))),
+            Some(watched) => Ok(Answer::Display(self.watch_of(&watched))),
             None => self.refused(Command::Display, word, Why::NoAddress),
         }
     }

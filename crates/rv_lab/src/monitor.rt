@@ -4,18 +4,19 @@ ghost use Rattle.rv_answers.specs.declared.answer.Answer.TheVariants as answers;
 ghost use Rattle.rv_lab.specs.Commands.{monitor_next, monitored_run};
 ghost use Rattle.rv_lab.specs.Support.Short.{Looks, Monitors};
 ghost use Rattle.rv_lab.specs.Refusals.{RunsOut};
-ghost use Rattle.rv_lab.specs.Runs.{monitor_answer};
+ghost use Rattle.rv_lab.specs.Runs.{monitor_answer, run_goal};
+ghost use Rattle.rv_lab.specs.declared.order.Order.TheVariants as orders;
 ghost use Rattle.rv_monitor.specs.Commands as monitor;
 ghost use Rattle.rv_monitor.specs.Commands.{command_in};
 ghost use Rattle.rv_program.specs.Program.{value_of};
 
 use crate::lab::{Done, Lab, Next};
-use crate::plan::{Goal, Plan};
 use rv_answers::{Answer, Many};
 use rv_base::NoMemory;
 use rv_commands::{Command, SymbolLookup, read_command};
 use rv_monitor::Next as Monitored;
 use rv_program::Program;
+use rv_runs::{Goal, Plan};
 
 /// The symbols of a program, for the addresses in commands.
 #[derive(Drop)]
@@ -95,7 +96,7 @@ impl Lab {
             (λ d. d.next ≡ monitor_next (command_in operands.now self.old.recording.session) self.new) }
         ensures leaves { OnOk result (Monitors operands.now self.old self.new) }
         ensures answers { IfOk result (λ d. d.answer ≡ monitor_answer operands.now self.old self.new) }
-        ensures err { OnErr result (RunsOut (Monitors operands.now) self.old self.new) }
+        ensures err { OnErr result (RunsOut (run_goal (orders.Monitor operands.now) self.old.recording.session) (Monitors operands.now) self.old self.new) }
     {
         match self.monitored_run(operands) {
             Some(plan) => self.start(plan),

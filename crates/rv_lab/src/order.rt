@@ -4,25 +4,27 @@ ghost use Rattle.rv_base.specs.Words.{words};
 ghost use Rattle.rv_answers.specs.declared.command.Command.TheVariants as command;
 ghost use Rattle.rv_answers.specs.declared.command.Move.TheVariants as moves;
 ghost use Rattle.rv_lab.specs.Answers.{refused};
-ghost use Rattle.rv_lab.specs.Orders.{again_order, back_by, back_order, back_until, break_order, command_order, guard_order, help_order, here, is_of_board, list_order, list_round, next_order, no_break, save_order, steps_order, until_order, unwatch_order, watch_one, watch_order, why_order};
+ghost use Rattle.rv_lab.specs.Orders.{again_order, back_by, back_order, back_until, break_at, break_by, break_order, command_order, condition_text, guard_order, help_order, here, is_of_board, list_order, list_round, next_order, nextc_order, no_break, save_order, steps_order, until_order, unwatch_order, watch_one, watch_order, why_order};
 ghost use Rattle.rv_operands.specs.Operands.{leading};
 ghost use Rattle.rv_lab.specs.Commands.{planned};
 ghost use Rattle.rv_lab.specs.State.{board, listing};
 ghost use Rattle.rv_lab.specs.declared.order.Order.TheVariants as orders;
 
 use crate::command::CommandLine;
-use crate::guard::Guard;
 use crate::lab::Lab;
 use crate::operands::count_or;
 use crate::places::line_at;
-use crate::plan::{Goal, Plan, Trail};
 use crate::run::{MOST_STEPS, MOST_TRACED, USUAL_STEPS, USUAL_TRACED};
 use crate::source::{Excerpt, MOST_LINES, USUAL_LINES};
-use crate::watch::{MOST_WATCHED, place_of};
+use crate::trail::Trail;
+use crate::watch::MOST_WATCHED;
 use rv_answers::{Answer, Command, Many, Move, Why, command_named, push};
 use rv_base::{NoMemory, first_word, has_word};
-use rv_operands::{Leading, line_number, only_word, operands_of, read_bytes_inputs, trimmed};
+use rv_operands::{
+    Leading, line_number, only_word, operands_of, passes, read_bytes_inputs, trimmed, without_last,
+};
 use rv_recording::{Condition, LAST_STEP, Span, Watched};
+use rv_runs::{Goal, Guard, Plan, place_of};
 use rv_timeline::{Input, line_input};
 use rv_why::last_met;
 
@@ -81,6 +83,27 @@ fn is_of_board(condition: &Condition) -> bool
     ensures { result ≡ is_of_board condition.now }
 {
     !matches!(condition, Condition::Trap)
+}
+
+/// Returns the order for a breakpoint: one that stops each run, or one with a condition or passed hits.
+fn break_by(guard: Guard) -> Order
+    ensures { result ≡ break_by guard }
+{
+    if guard.condition.is_none() && guard.passes == 0 {
+        return Order::Break(guard.address);
+    }
+    Order::BreakIf(guard)
+}
+
+/// Returns the condition of `b` as it was given, by what follows it.
+fn condition_text<'a>(operands: &'a [u8], rest: &[u8]) -> &'a [u8]
+    ensures { result.now ≡ condition_text operands.now (words rest.now) }
+{
+    let text = operands_of(operands_of(operands));
+    if has_word(rest) {
+        return trimmed(without_last(without_last(text)));
+    }
+    trimmed(text)
 }
 
 /// Returns the order for a number of steps.
@@ -264,6 +287,33 @@ impl Lab {
         }
     }
 
+    /// Reads the words that follow a breakpoint at a word, or its condition, which was given as `given`.
+    #[tactic(auto, unfolding(crate::specs::Orders::break_at))]
+    fn break_at(
+        &self,
+        operands: &[u8],
+        word: &[u8],
+        condition: Option<Condition>,
+        given: &[u8],
+        rest: &[u8],
+    ) -> Result<Order, NoMemory>
+        ensures { IfOk result (λ o. o ≡ break_at operands.now word.now self.now condition given.now (words rest.now)) }
+    {
+        let Some(passes) = passes(rest) else {
+            return self.refuse(Command::Break, operands, Why::NoHits);
+        };
+        let Some(address) = self.scope().break_place(word) else {
+            return self.refuse_place(Command::Break, word);
+        };
+        let text = self.copied(given)?;
+        Ok(break_by(Guard {
+            address,
+            condition,
+            text,
+            passes,
+        }))
+    }
+
     /// Reads the condition of a breakpoint at a word, which stands in `text`.
     #[tactic(auto, unfolding(crate::specs::Orders::guard_order))]
     fn guard_order(&self, operands: &[u8], word: &[u8], text: &[u8]) -> Result<Order, NoMemory>
@@ -273,21 +323,11 @@ impl Lab {
         let Some(condition) = condition else {
             return self.refuse(Command::Break, operands, Why::NoCondition);
         };
-        if has_word(rest) {
-            return self.refuse(Command::Break, operands, Why::NoCondition);
-        }
         if !is_of_board(&condition) {
             return self.refuse(Command::Break, operands, Why::NoCondition);
         }
-        let Some(address) = self.scope().break_place(word) else {
-            return self.refuse_place(Command::Break, word);
-        };
-        let text = self.copied(trimmed(operands_of(operands_of(operands))))?;
-        Ok(Order::BreakIf(Guard {
-            address,
-            condition,
-            text,
-        }))
+        let given = condition_text(operands, rest);
+        self.break_at(operands, word, Some(condition), given, rest)
     }
 
     /// Reads the operands of `b`.
@@ -298,16 +338,12 @@ impl Lab {
         let Some((word, rest)) = first_word(operands) else {
             return Ok(Order::Answered(self.breakpoints_answer()?));
         };
-        let Some((second, text)) = first_word(rest) else {
-            return match self.scope().break_place(word) {
-                Some(address) => Ok(Order::Break(address)),
-                None => self.refuse_place(Command::Break, word),
-            };
-        };
-        if second == b"if".as_slice() {
+        if let Some((second, text)) = first_word(rest)
+            && second == b"if".as_slice()
+        {
             return self.guard_order(operands, word, text);
         }
-        self.refuse(Command::Break, b"", Why::NotOne)
+        self.break_at(operands, word, None, b"", rest)
     }
 
     /// Reads the operands of `d`.
@@ -325,9 +361,7 @@ impl Lab {
     fn watch_one(&self, watched: Watched) -> Result<Order, NoMemory>
         ensures { IfOk result (λ o. o ≡ watch_one watched self.now) }
     {
-        // A copy: for the borrow checker the call moves its argument.
-        let asked = watched;
-        if place_of(&self.watches, asked).is_none() && self.watches.len() >= MOST_WATCHED {
+        if place_of(&self.watches, &watched).is_none() && self.watches.len() >= MOST_WATCHED {
             return self.refuse(Command::Watch, b"", Why::TooMany);
         }
         Ok(Order::Watch(watched))
@@ -472,20 +506,32 @@ impl Lab {
         run_order(Goal::Out(0, self.here()), USUAL_STEPS)
     }
 
+    /// Returns the order of `nextc`.
+    #[tactic(auto, unfolding(crate::specs::Orders::nextc_order))]
+    fn nextc_order(&self) -> Result<Order, NoMemory>
+        ensures { IfOk result (λ o. o ≡ nextc_order self.now) }
+    {
+        if self.marks.is_empty() {
+            return self.refuse(Command::NextC, b"", Why::NoMarks);
+        }
+        Ok(run_order(Goal::Mark(0), USUAL_STEPS))
+    }
+
     /// Returns what an empty line asks for.
-    fn again_order(&self) -> Order
-        ensures { result ≡ again_order self.now.again self.now }
+    fn again_order(&self) -> Result<Order, NoMemory>
+        ensures { IfOk result (λ o. o ≡ again_order self.now.again self.now) }
     {
         match self.last.command {
-            Command::Step => steps_order(self.last.count),
-            Command::StepOnce => Order::Once,
-            Command::Over => self.next_order(),
+            Command::Step => Ok(steps_order(self.last.count)),
+            Command::StepOnce => Ok(Order::Once),
+            Command::Over => Ok(self.next_order()),
+            Command::NextC => self.nextc_order(),
             Command::List => {
                 let after = self.last.listed;
                 let count = USUAL_LINES as usize;
-                Order::List(Excerpt { after, count }, true)
+                Ok(Order::List(Excerpt { after, count }, true))
             }
-            _ => Order::Answered(Answer::Nothing),
+            _ => Ok(Order::Answered(Answer::Nothing)),
         }
     }
 
@@ -501,6 +547,7 @@ impl Lab {
         match line.command {
             Command::Step => self.step_order(line.operands),
             Command::Over => Ok(self.next_order()),
+            Command::NextC => self.nextc_order(),
             Command::Moves(moves) => self.move_order(moves, line.operands),
             Command::List => self.list_order(line.operands),
             Command::Break => self.break_order(line.operands),
@@ -514,7 +561,7 @@ impl Lab {
             Command::Why => self.why_order(line.operands),
             Command::Help => self.help_order(line.operands),
             Command::Quit => Ok(Order::Quit),
-            Command::Again => Ok(self.again_order()),
+            Command::Again => self.again_order(),
             Command::Unknown => Ok(Order::Answered(Answer::NoCommand(self.copied(line.word)?))),
             Command::TooLong => Ok(Order::Answered(Answer::TooLong)),
             command => Ok(Order::Answered(self.look_answer(command, line.operands)?)),

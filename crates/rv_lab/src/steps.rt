@@ -7,6 +7,7 @@ ghost use Rattle.rv_lab.specs.Runs.{Leaves, next_step, next_steps, step_answer};
 ghost use Rattle.rv_recording.specs.Until.{HasRun, step_ends};
 ghost use Rattle.rv_lab.specs.declared.lab.Next.TheVariants as after;
 ghost use Rattle.rv_lab.specs.declared.order.Order.TheVariants as orders;
+ghost use Rattle.rv_runs.specs.declared.goal.Goal.TheVariants as goal;
 ghost use Rattle.rv_lab.specs.State.{board, registers_of, timed};
 ghost use Rattle.rv_lab.specs.Support.Short.{IsOnWay, StopsIn, Traced, end_now, stepped_by};
 
@@ -121,7 +122,7 @@ impl Lab {
         ensures leaves { OnOk result (Leaves orders.Once self.old self.new) }
         ensures next { IfOk result (λ d. d.next ≡ after.More) }
         ensures answers { IfOk result (λ d. d.answer ≡ step_answer self.old self.new) }
-        ensures err { OnErr result (StopsShort (Leaves orders.Once) self.old self.new) }
+        ensures err { OnErr result (StopsShort None (Leaves orders.Once) self.old self.new) }
     {
         self.keep_count(1);
         self.begin();
@@ -171,7 +172,7 @@ impl Lab {
         ensures ok { IfOk result (HasRun (step_ends self.old.recording.session) most
             self.old.recording.session self.new.recording.session) }
         ensures steps { OnOk result (steps.new.items ≡ steps.old.items ++ next_steps most self.old) }
-        ensures err { OnErr result (StopsIn (step_ends self.old.recording.session) most self.old self.new) }
+        ensures err { OnErr result (StopsIn goal.Trace (step_ends self.old.recording.session) most self.old self.new) }
         ensures others { self.new ≡ with_session self.old self.new.recording.session }
     {
         // It tells that the board is the run of the recorded events.

@@ -8,7 +8,6 @@ ghost use Rattle.rv_monitor.specs.Views.{stop_text};
 ghost use Rattle.rv_lab.specs.State.{board, sent};
 
 use crate::lab::Lab;
-use crate::plan::Goal;
 use crate::steps::changes;
 use crate::watch::watch_on;
 use rv_answers::{Aim, Answer, Ending, Many, Run, Trap, Watch};
@@ -17,6 +16,7 @@ use rv_board::TrapRecord;
 use rv_convention::registers_of;
 use rv_monitor::write_stop;
 use rv_recording::{Condition, End, Watched};
+use rv_runs::Goal;
 
 /// Returns the monitor's word for why a run is over.
 fn stop_word(end: End) -> &'static str
@@ -81,8 +81,8 @@ impl Lab {
     }
 
     /// Returns what is watched, with its value.
-    pub(crate) fn watch_of(&self, watched: Watched) -> Watch
-        ensures { result ≡ watch_of self.now watched }
+    pub(crate) fn watch_of(&self, watched: &Watched) -> Watch
+        ensures { result ≡ watch_of self.now watched.now }
     {
         watch_on(self.board(), watched)
     }
@@ -95,8 +95,8 @@ impl Lab {
             Condition::Trap => Aim::Trap(self.last_trap_value()),
             Condition::Console(_) => Aim::Console,
             Condition::At { .. } => Aim::Arrival,
-            Condition::Changed { watched, .. } => Aim::Watch(self.watch_of(watched)),
-            Condition::Compares { watched, .. } => Aim::Watch(self.watch_of(watched)),
+            Condition::Changed { watched, .. } => Aim::Watch(self.watch_of(&watched)),
+            Condition::Compares { watched, .. } => Aim::Watch(self.watch_of(&watched)),
         }
     }
 
@@ -108,6 +108,7 @@ impl Lab {
             Goal::Count | Goal::Trace => Aim::Steps,
             Goal::Break => Aim::Breakpoint,
             Goal::Out(..) => Aim::Return,
+            Goal::Mark(_) => Aim::Mark,
             Goal::Until(condition) => self.until_aim(condition),
         }
     }

@@ -1,95 +1,38 @@
 //! What is watched.
-ghost use Rattle.std.specs.Prelude.{◌≡◌, ◌<◌, ◌≤◌, ◌-◌, ◌++◌, filter, IfOk, IfSome, OnErr, OnOk, length, map, vec_capacity, vec_len};
-ghost use Rattle.std.specs.List.{position};
+ghost use Rattle.std.specs.Prelude.{◌≡◌, ◌-◌, ◌++◌, filter, IfOk, OnErr, OnOk, length, map};
 ghost use Rattle.rv_answers.specs.declared.answer.Answer.TheVariants as answers;
 ghost use Rattle.rv_lab.specs.Answers.{watch_of, watch_on, watches_of};
 ghost use Rattle.rv_lab.specs.Runs as spec;
 ghost use Rattle.rv_lab.specs.Runs.{Leaves, change_of};
-ghost use Rattle.rv_lab.specs.Watches.{differs, is_same, with_watch, without_watch};
+ghost use Rattle.rv_runs.specs.Watches.{differs};
 ghost use Rattle.rv_lab.specs.declared.lab.Next.TheVariants as after;
 ghost use Rattle.rv_lab.specs.declared.order.Order.TheVariants as orders;
 
 use crate::lab::{Done, Lab};
-use crate::plan::Goal;
 use rv_answers::{Answer, Change, Many, Watch, push};
 use rv_base::NoMemory;
 use rv_board::BootedBoard;
 use rv_recording::Watched;
+use rv_runs::{Goal, differs, put_watch, remove_watch};
 use rv_why::target_of;
 use std::alloc::Global;
 
 /// The most registers and words that are watched.
 pub(crate) const MOST_WATCHED: usize = 16;
 
-/// Returns whether two are the same.
-fn is_same(one: Watched, other: Watched) -> bool
-    ensures { result ≡ is_same one other }
-{
-    match one {
-        Watched::Register(register) => match other {
-            Watched::Register(second) => register.number() == second.number(),
-            Watched::Word(_) => false,
-        },
-        Watched::Word(address) => match other {
-            Watched::Word(second) => address == second,
-            Watched::Register(_) => false,
-        },
-    }
-}
-
-/// Returns the place of one among what is watched, if it is.
-pub(crate) fn place_of(watches: &[Watched], watched: Watched) -> Option<usize>
-    ensures value { result ≡ position (is_same watched) watches.now }
-    ensures below { IfSome result (λ n. n < length watches.now) }
-{
-    watches.iter().position(|other| is_same(watched, *other))
-}
-
-/// Removes one from what is watched, if it is.
-fn remove_watch(watches: &mut Vec<Watched>, watched: Watched)
-    ensures items { watches.new.items ≡ without_watch watched watches.old.items }
-    ensures len { vec_len watches.new ≤ vec_len watches.old }
-    ensures capacity { vec_capacity watches.new ≡ vec_capacity watches.old }
-{
-    if let Some(place) = place_of(watches, watched) {
-        let _watched = watches.remove(place);
-    }
-}
-
-/// Puts one behind what else is watched.
-fn put_watch(watches: &mut Vec<Watched>, watched: Watched)
-    requires { vec_len watches.old < vec_capacity watches.old }
-    ensures { watches.new.items ≡ with_watch watched watches.old.items }
-{
-    // A copy: for the borrow checker the call moves its argument.
-    let asked = watched;
-    remove_watch(watches, asked);
-    watches.push_reserved(watched);
-}
-
-/// Returns whether the value of what is watched differs on two boards.
-#[tactic(auto, unfolding(crate::specs::Watches::differs))]
-fn differs(before: &BootedBoard, now: &BootedBoard, watched: Watched) -> bool
-    ensures { result ≡ differs before.now now.now watched }
-{
-    // A copy: for the borrow checker the call moves its argument.
-    let asked = watched;
-    watched.value(now) != asked.value(before)
-}
-
 /// Returns the values of what is watched on two boards.
-fn change_of(before: &BootedBoard, now: &BootedBoard, watched: Watched) -> Change
-    ensures { result ≡ change_of before.now now.now watched }
+fn change_of(before: &BootedBoard, now: &BootedBoard, watched: &Watched) -> Change
+    ensures { result ≡ change_of before.now now.now watched.now }
 {
-    let (first, second) = (watched, watched);
     Change {
-        target: target_of(watched),
-        before: first.value(before),
-        value: second.value(now),
+        target: target_of(*watched),
+        before: watched.value(before),
+        value: watched.value(now),
     }
 }
 
 /// Appends those of which the value differs on two boards, with both values.
+#[tactic(auto, unfolding(rv_runs::specs::Watches::differs))]
 fn push_changes(
     before: &BootedBoard,
     now: &BootedBoard,
@@ -102,20 +45,19 @@ fn push_changes(
     let [watched, rest @ ..] = watches else {
         return Ok(());
     };
-    if differs(before, now, *watched) {
-        push(changes, change_of(before, now, *watched))?;
+    let change = change_of(before, now, watched);
+    if differs(change.before, change.value) {
+        push(changes, change)?;
     }
     push_changes(before, now, rest, changes)
 }
 
 /// Returns what is watched, with its value on a board.
-pub(crate) fn watch_on(board: &BootedBoard, watched: Watched) -> Watch
-    ensures { result ≡ watch_on board.now watched }
+pub(crate) fn watch_on(board: &BootedBoard, watched: &Watched) -> Watch
+    ensures { result ≡ watch_on board.now watched.now }
 {
-    // A copy: for the borrow checker the call moves its argument.
-    let asked = watched;
     Watch {
-        target: target_of(asked),
+        target: target_of(*watched),
         value: watched.value(board),
     }
 }
@@ -126,7 +68,7 @@ fn all_on(alloc: Global, board: &BootedBoard, watches: &[Watched]) -> Result<Man
 {
     let mut values = Vec::new(alloc);
     for watched in watches {
-        push(&mut values, watch_on(board, *watched))?;
+        push(&mut values, watch_on(board, watched))?;
     }
     Ok(Many::of(values))
 }
@@ -171,10 +113,8 @@ impl Lab {
         ensures err { OnErr result (self.new ≡ self.old) }
     {
         self.watches.reserve(1)?;
-        // A copy: for the borrow checker the call moves its argument.
-        let asked = watched;
-        put_watch(&mut self.watches, asked);
-        Ok(Done::more(Answer::Watch(self.watch_of(watched))))
+        put_watch(&mut self.watches, &watched);
+        Ok(Done::more(Answer::Watch(self.watch_of(&watched))))
     }
 
     /// Watches one no more, or none.
@@ -187,7 +127,7 @@ impl Lab {
     {
         let before = self.watches.len();
         match watched {
-            Some(watched) => remove_watch(&mut self.watches, watched),
+            Some(watched) => remove_watch(&mut self.watches, &watched),
             None => self.watches.clear(),
         }
         let ended = before.saturating_sub(self.watches.len());

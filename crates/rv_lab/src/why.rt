@@ -7,7 +7,7 @@ ghost use Rattle.rv_lab.specs.declared.lab.Next.TheVariants as after;
 ghost use Rattle.rv_lab.specs.declared.order.Order.TheVariants as orders;
 
 use crate::lab::{Done, Lab};
-use crate::plan::Trail;
+use crate::trail::Trail;
 use rv_answers::{Answer, Origin};
 use rv_base::NoMemory;
 use rv_why::{explain, origin};
@@ -36,8 +36,8 @@ impl Lab {
     }
 
     /// Returns the last write of what is followed.
-    pub(crate) fn origin_of(&self, trail: Trail) -> Result<Origin, NoMemory>
-        ensures { IfOk result (λ o. o ≡ origin_of self.now trail) }
+    pub(crate) fn origin_of(&self, trail: &Trail) -> Result<Origin, NoMemory>
+        ensures { IfOk result (λ o. o ≡ origin_of self.now trail.now) }
     {
         origin(&self.recording, trail.watched, trail.steps)
     }
@@ -56,9 +56,7 @@ impl Lab {
         ensures answers { IfOk result (λ d. d.answer ≡ answers.Origin (origin_of self.old trail)) }
         ensures err { OnErr result (self.new ≡ self.old) }
     {
-        // A copy: for the borrow checker the call moves its argument.
-        let asked = trail;
-        let origin = self.origin_of(asked)?;
+        let origin = self.origin_of(&trail)?;
         self.keep_trail(trail_after(trail, &origin));
         Ok(Done::more(Answer::Origin(origin)))
     }

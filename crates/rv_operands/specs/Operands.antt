@@ -1,9 +1,10 @@
 -- To audit: public contracts cite this.
 -- What the operands of the lab's commands mean (this project's own: docs/LAB.md), by the lines and the
 -- symbols of the source, and the board as it stands before the command.
-use Rattle.std.specs.Prelude.{ℕ, ◌+◌, ◌-◌, ◌%◌, ◌^◌, ◌==◌, ◌||◌, Bool, true, false, List, [], ◌∷◌, length, map, take, drop, find, codes, if◌then◌else◌, nat_eq, nat_lt, slice_index, Option, Some, None, option_and_then}
+use Rattle.std.specs.Prelude.{ℕ, ◌+◌, ◌-◌, ◌%◌, ◌^◌, ◌==◌, ◌||◌, Bool, true, false, List, [], ◌∷◌, length, map, take, drop, find, codes, if◌then◌else◌, nat_eq, nat_lt, not, slice_index, Option, Some, None, option_and_then}
 use Rattle.std.specs.List.{ends_with, position_or_len, prefix_len, range_with_len, suffix_len}
 use Rattle.std.specs.Option.{option_map, option_map_or, option_or}
+use Rattle.std.specs.Str.{bytes_eq}
 use Rattle.rv_base.specs.Numbers.{number_in}
 use Rattle.rv_base.specs.Tables.{lookup}
 use Rattle.rv_base.specs.Words.{is_blank, words}
@@ -35,6 +36,12 @@ operand_text line =
 abbrev pub trimmed : List ℕ → List ℕ
 trimmed text =
     let front = take (length text - suffix_len is_blank text) text in drop (prefix_len is_blank front) front
+
+-- a text without its last word
+abbrev pub without_last : List ℕ → List ℕ
+without_last text =
+    let front = take (length text - suffix_len is_blank text) text in
+    take (length front - suffix_len (λ c. not (is_blank c)) front) front
 
 -- the only one of some words
 abbrev pub only_of : List (List ℕ) → Option (List ℕ)
@@ -134,6 +141,16 @@ leading l b [] = (None, [])
 leading l b (word ∷ []) = (word_condition l b word, [])
 leading l b (word ∷ second ∷ more) = option_map_or (λ r. (compared l b word r more, drop 1 more))
     (lookup second relations) (word_condition l b word, second ∷ more)
+
+-- ---- passed hits
+
+-- how many hits a breakpoint passes before one stops a run, by the words that follow its place or its condition: N - 1
+-- of `after N`, and none where there are no words
+unfoldable pub passes : List (List ℕ) → Option ℕ
+passes [] = Some 0
+passes (word ∷ n ∷ []) = if bytes_eq word (codes "after")
+    then option_and_then (λ n. if n == 0 then None else Some (n - 1)) (number_in 10 1000000000 n) else None
+passes _ = None
 
 -- ---- inputs
 

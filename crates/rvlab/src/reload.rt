@@ -34,7 +34,18 @@ fn break_line(rt: &HostRuntime, place: Place) -> Printer {
     line
 }
 
-/// Gives the breakpoint at a place its condition, if it had one. One that means nothing in the new source is left out.
+/// Appends what a breakpoint stops a run on, as the command that sets it has it.
+fn append_condition(condition: &BreakCondition, line: &mut Printer) {
+    if let Some(text) = &condition.text {
+        line.say(" if ");
+        line.put(text.items());
+    }
+    line.say(" after ");
+    line.number(condition.passes.saturating_add(1));
+}
+
+/// Gives the breakpoint at a place its condition and the hits that it still passes, if it had some. A condition that means
+/// nothing in the new source is left out.
 fn set_condition(
     rt: &HostRuntime,
     place: Place,
@@ -44,15 +55,14 @@ fn set_condition(
     for condition in conditions {
         if condition.address == place.address {
             let mut line = break_line(rt, place);
-            line.say(" if ");
-            line.put(condition.text.items());
+            append_condition(condition, &mut line);
             lab.answer(line.bytes())?;
         }
     }
     Ok(())
 }
 
-/// Sets breakpoints in a lab, with their conditions.
+/// Sets breakpoints in a lab, with what they stop a run on.
 fn set_breaks(rt: &HostRuntime, breaks: &Breakpoints, lab: &mut Lab) -> Result<(), NoMemory> {
     for place in breaks.places.items() {
         let place = *place;

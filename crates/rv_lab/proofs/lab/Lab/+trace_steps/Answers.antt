@@ -1,7 +1,8 @@
 use Rattle.std.proofs.Common.{◌∙◌, sym, arith}
 use Rattle.rv_lab.specs.Support.Short.{IsOnWay, stepped_by}
 use Rattle.rv_lab.proofs.Runs.{traced_all}
-use Rattle.rv_lab.proofs.Short.{first_on_way, on_err, traced_further}
+use Rattle.rv_lab.proofs.Short.{first_on_way, traced_further}
+use Rattle.rv_runs.proofs.Parts.{on_err}
 use Rattle.rv_lab.proofs.Told.{more_steps, wholly}
 use Rattle.rv_lab.proofs.lab.Lab.+trace_steps.Goals as goal
 

@@ -1,9 +1,10 @@
 use Rattle.std.proofs.Common.{◌∙◌, ◌++◌, ap, arith}
 use Rattle.std.specs.Prelude.{Option}
 use Rattle.rv_lab.specs.State.{LabState}
-use Rattle.rv_lab.specs.Support.Short.{rest_of, told_steps}
-use Rattle.rv_lab.specs.declared.plan.Goal.{Goal}
-use Rattle.rv_lab.specs.declared.plan.Plan.{Plan}
+use Rattle.rv_lab.specs.Support.Short.{told_steps}
+use Rattle.rv_runs.specs.Plans.{rest_of}
+use Rattle.rv_runs.specs.declared.goal.Goal.{Goal}
+use Rattle.rv_runs.specs.declared.plan.Plan.{Plan}
 use Rattle.rv_lab.proofs.Runs.{took_piece}
 use Rattle.rv_lab.proofs.Short.{piece_err}
 use Rattle.rv_lab.proofs.Told.{told_of}

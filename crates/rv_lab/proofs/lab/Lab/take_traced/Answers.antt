@@ -1,15 +1,17 @@
 use Rattle.rv_monitor.proofs.Reached.{in_time}
 use Rattle.rv_recording.specs.Until.{step_ends}
 use Rattle.rv_lab.specs.Support.Short.{StopsIn}
+use Rattle.rv_runs.specs.declared.goal.Goal.TheVariants as variants
 use Rattle.rv_lab.proofs.Runs.{traced_run}
-use Rattle.rv_lab.proofs.Short.{on_err, traced_stops}
+use Rattle.rv_lab.proofs.Short.{traced_stops}
+use Rattle.rv_runs.proofs.Parts.{on_err}
 use Rattle.rv_lab.proofs.Tracing.{traced_others}
 use Rattle.rv_lab.proofs.lab.Lab.take_traced.Goals as goal
 
 pub returns-in_err-trace_steps-clause-err : goal.returns-in_err-trace_steps-clause-err
 returns-in_err-trace_steps-clause-err c =
     on_err c.from_residual.result
-    (StopsIn (step_ends c.args.self.now.recording.session) c.args.most c.args.self.now c.trace_steps.new.self)
+    (StopsIn variants.Trace (step_ends c.args.self.now.recording.session) c.args.most c.args.self.now c.trace_steps.new.self)
     (traced_stops c.args.most c.args.self.now c.trace_steps.new.self (in_time _ _ c.board-board.ensures.run)
     c.in_err-trace_steps.ensures.err c.trace_steps.ensures.others)
 

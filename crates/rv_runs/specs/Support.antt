@@ -1,0 +1,2 @@
+-- Definitions that aren't to audit: each file says why.
+pub mod Plain
