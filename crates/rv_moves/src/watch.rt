@@ -2,14 +2,14 @@
 ghost use Rattle.std.specs.Prelude.{◌≡◌, ◌&&◌, ◌+◌, if◌then◌else◌, nat_lt};
 ghost use Rattle.std.specs.Option.{option_and_then};
 ghost use Rattle.rv_isa.specs.Support.Meaning.{means};
-ghost use Rattle.rv_hart.specs.Effect.{plus, reg};
 ghost use Rattle.rv_monitor.specs.Views.{word_at};
 ghost use Rattle.rv_moves.specs.Watches as spec;
 
 use rv_base::NoMemory;
 use rv_board::BootedBoard;
-use rv_isa::{Instr, Kind, Reg, decode};
+use rv_isa::{Instr, Kind, decode};
 use rv_monitor::word_at;
+use rv_recording::address_at;
 use std::alloc::Global;
 use std::marker::Model;
 
@@ -35,13 +35,6 @@ pub struct Watch {
     pub address: u32,
     /// The number of bytes.
     pub size: u32,
-}
-
-/// Returns the address at an offset from a register's value.
-fn address_at(board: &BootedBoard, base: Reg, offset: i32) -> u32
-    ensures { result ≡ plus (reg board.now.machine base) offset }
-{
-    board.reg(base).wrapping_add(offset.cast_unsigned())
 }
 
 /// Returns what an instruction accesses.

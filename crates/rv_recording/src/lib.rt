@@ -2,6 +2,7 @@
 //! were given by hand, and the board is always the run of the recorded events from reset on.
 #![tactic(auto)]
 
+mod access;
 mod breaks;
 mod kept;
 mod near;
@@ -9,6 +10,7 @@ mod out;
 mod recording;
 mod until;
 
+pub use access::address_at;
 pub use out::Span;
 pub use recording::{LAST_STEP, Recording};
 pub use until::{Condition, End, Watched};

@@ -2,7 +2,6 @@
 ghost use Rattle.std.specs.Prelude.{◌≡◌, ◌+◌, ◌<◌, ◌≤◌, ◌&&◌, ℕ, false, nat_lt, true, IfOk, IfSome, None, OnOk};
 ghost use Rattle.std.specs.Option.{option_map, option_map_or};
 ghost use Rattle.rv_isa.specs.Width.{bytes_of};
-ghost use Rattle.rv_hart.specs.Effect.{plus, reg};
 ghost use Rattle.rv_board.specs.Support.State.{halted_of};
 ghost use Rattle.rv_monitor.specs.State.{IsInTime, after};
 ghost use Rattle.rv_monitor.specs.Stops.{may_step};
@@ -22,7 +21,7 @@ use rv_hart::Outcome;
 use rv_isa::{Instr, Kind, Reg, Width};
 use rv_monitor::{Session, word_at};
 use rv_ram::PagedRam;
-use rv_recording::{Condition, Recording, Watched};
+use rv_recording::{Condition, Recording, Watched, address_at};
 
 /// What is sought among the steps of a recording.
 #[derive(Clone, Copy)]
@@ -68,13 +67,6 @@ fn sources(instr: Instr) -> (Option<Reg>, Option<Reg>)
         Kind::Csr { rs1, .. } => (Some(rs1), None),
         _ => (None, None),
     }
-}
-
-/// Returns the address at an offset from a register's value.
-fn address_at(board: &BootedBoard, base: Reg, offset: i32) -> u32
-    ensures { result ≡ plus (reg board.now.machine base) offset }
-{
-    board.reg(base).wrapping_add(offset.cast_unsigned())
 }
 
 /// Returns the address of a load or a store.
