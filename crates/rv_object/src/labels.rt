@@ -75,7 +75,7 @@ fn append<'a>(symbols: &mut Vec<Symbol<'a>>, symbol: Symbol<'a>) -> Result<(), N
     }
 }
 
-/// Appends the symbols of labels.
+/// Appends the symbols of labels. Of those at a function's first address the first one has its size and its type.
 fn append_labels<'a>(
     symbols: &mut Vec<Symbol<'a>>,
     labels: &'a [PlacedName],
@@ -88,6 +88,7 @@ fn append_labels<'a>(
         rest = functions_from(rest, label.address);
         let symbol = symbol_of(label.name.as_slice(), label.address, rest);
         append(symbols, symbol)?;
+        rest = functions_from(rest, label.address.saturating_add(1));
     }
     Ok(())
 }
