@@ -40,25 +40,64 @@ pub struct Calls {
     pub breakpoint: Option<u32>,
 }
 
-/// Sets a breakpoint, and another that no call comes to. Returns whether there was memory.
-fn set_breaks<M: ByteMemory, C: Decoded>(session: &mut Session<M, C>, address: u32) -> bool {
-    session.set_break(address).is_ok() && session.set_break(address ^ 0x4000_0000).is_ok()
+/// Sets the breakpoint, and another that no call comes to. Returns whether there was memory.
+fn set_breaks<M: ByteMemory, C: Decoded>(session: &mut Session<M, C>, calls: Calls) -> bool {
+    match calls.breakpoint {
+        Some(address) => {
+            session.set_break(address).is_ok() && session.set_break(address ^ 0x4000_0000).is_ok()
+        }
+        None => true,
+    }
 }
 
-/// Takes a call of a session: up to `most` steps where it has a breakpoint, which is met at the end if
-/// `met` says so, or else `count` steps. Returns whether there was memory and the call stopped as it had
-/// to.
+/// A part of the steps: the first one, and the last one so far.
+#[derive(Clone, Copy)]
+struct Part {
+    first: u64,
+    last: u64,
+}
+
+impl Part {
+    /// Returns how many steps it has.
+    fn count(self) -> u64 {
+        self.last.saturating_sub(self.first).saturating_add(1)
+    }
+}
+
+impl Calls {
+    /// Whether a call of these steps ends with the last one, where the pc is then `pc`.
+    fn end_with(self, part: Part, pc: u32) -> bool {
+        part.count() == self.size
+            || part.last.saturating_add(1) == self.steps
+            || self.breakpoint == Some(pc)
+    }
+
+    /// Returns how many steps a call takes at most.
+    fn most(self, part: Part) -> u64 {
+        self.size.min(self.steps.saturating_sub(part.first))
+    }
+
+    /// Why a call stops where the pc is then `pc`.
+    fn stop(self, pc: u32) -> Stop {
+        if self.breakpoint == Some(pc) {
+            Stop::Breakpoint
+        } else {
+            Stop::Limit
+        }
+    }
+}
+
+/// Takes the steps of a part by one call of a session, which looks for its breakpoint if it has one. Returns whether
+/// there was memory, and the call stopped as it had to.
 fn take_call<M: ByteMemory, C: Decoded>(
     session: &mut Session<M, C>,
     calls: Calls,
-    most: u64,
-    count: u64,
-    met: bool,
+    part: Part,
+    pc: u32,
 ) -> bool {
-    let stop = if met { Stop::Breakpoint } else { Stop::Limit };
     match calls.breakpoint {
-        Some(_) => session.go(most) == Ok(stop),
-        None => session.step(count).is_ok(),
+        Some(_) => session.go(calls.most(part)) == Ok(calls.stop(pc)),
+        None => session.step(part.count()).is_ok(),
     }
 }
 
@@ -71,27 +110,22 @@ pub fn same_in_calls<M: ByteMemory, C: Decoded, N: ByteMemory, D: Decoded>(
     inputs: &[TimedInput],
     calls: Calls,
 ) -> bool {
-    if let Some(address) = calls.breakpoint
-        && !set_breaks(session, address)
-    {
+    if !set_breaks(session, calls) {
         return false;
     }
     let mut first = 0u64;
-    for time in 0..calls.steps {
-        if !step_alone(alone, inputs, time) {
+    for last in 0..calls.steps {
+        if !step_alone(alone, inputs, last) {
             return false;
         }
-        let count = time.saturating_sub(first).saturating_add(1);
-        let is_last = time.saturating_add(1) == calls.steps;
-        let met = calls.breakpoint == Some(alone.pc());
-        if count == calls.size || is_last || met {
-            let most = calls.size.min(calls.steps.saturating_sub(first));
-            if !take_call(session, calls, most, count, met)
+        let part = Part { first, last };
+        if calls.end_with(part, alone.pc()) {
+            if !take_call(session, calls, part, alone.pc())
                 || !same_registers(session.board(), alone)
             {
                 return false;
             }
-            first = time.saturating_add(1);
+            first = last.saturating_add(1);
         }
     }
     same_everywhere(session.board(), alone)

@@ -45,7 +45,12 @@ fn same_csrs<M: ByteMemory, C: Decoded, N: ByteMemory, D: Decoded>(
     one: &Board<M, C>,
     other: &Board<N, D>,
 ) -> bool {
-    (0..CSR_ADDRESSES).all(|addr| one.csr(addr) == other.csr(addr))
+    for addr in 0..CSR_ADDRESSES {
+        if one.csr(addr) != other.csr(addr) {
+            return false;
+        }
+    }
+    true
 }
 
 fn same_memory<M: ByteMemory, C: Decoded, N: ByteMemory, D: Decoded>(
