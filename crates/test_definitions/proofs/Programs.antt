@@ -2,7 +2,7 @@
 use Rattle.std.proofs.Common.{◌≡◌, refl, true, false, ℕ, Bool, List}
 use Rattle.std.proofs.lemmas.Bool.{and_from, and_parts}
 use Rattle.std.specs.Option.{option_map_or}
-use Rattle.std.specs.Prelude.{[], ◌∷◌, ◌++◌, replicate}
+use Rattle.std.specs.Prelude.{[], ◌∷◌}
 use Rattle.std.specs.Fmt.{digits}
 use Rattle.std.specs.List.{list_all}
 use Rattle.rv_isa.specs.Alu.{alu_value, is_taken}
@@ -23,10 +23,8 @@ use Rattle.rv_bus.specs.Support.Locations.{location_of}
 use Rattle.rv_hart.specs.Effect.{execute, csr_written}
 use Rattle.rv_hart.specs.Step.{counts, enter}
 use Rattle.rv_board.specs.Boot.{board_at_reset}
-use Rattle.rv_board.specs.declared.event.Event.TheVariants.{Step}
-use Rattle.test_definitions.specs.Support.Programs.{runs}
-use Rattle.test_definitions.specs.Support.Runs.{Run, ends, has_word, image, leaves, ran_for}
-use Rattle.test_definitions.specs.declared.runs.TheConstants.{CALL, CALL_INSIDE}
+use Rattle.test_definitions.specs.Support.Runs.{Run, ends, events, image, leaves}
+use Rattle.test_definitions.specs.declared.runs.TheConstants.{RUNS}
 use Rattle.test_definitions.proofs.Lists.{at_reset}
 use Rattle.test_definitions.proofs.Running.{ran, run_is}
 
@@ -37,7 +35,8 @@ computes = 0
 
 -- whether a run is computed, and leaves what it has to
 abbrev computed : Run → Bool
-computed r = option_map_or (leaves r.0 r.2 r.3 r.4) (ran r.0 at_reset r.1 (board_at_reset (image r.0) 4096)) false
+computed r =
+    option_map_or (leaves r) (ran r.0.now at_reset (events r) (board_at_reset (image r.0.now) 4096)) false
 
 each_ends : (runs : List Run) → OneMeaning → list_all computed runs ≡ true → list_all ends runs ≡ true
 unfolding board_at_reset
@@ -45,14 +44,9 @@ each_ends [] one is = refl
 each_ends (r ∷ rs) one is =
     let p = and_parts (computed r) (list_all computed rs) is in
     and_from _ _
-    (run_is r.0 at_reset (leaves r.0 r.2 r.3 r.4) r.1 (board_at_reset (image r.0) 4096) one refl p.0)
+    (run_is r.0.now at_reset (leaves r) (events r) (board_at_reset (image r.0.now) 4096) one refl p.0)
     (each_ends rs one p.1)
 
-pub each_run : OneMeaning → list_all ends runs ≡ true
+pub each_run : OneMeaning → list_all ends RUNS ≡ true
 unfolding computes
-each_run one = each_ends runs one refl
-
-pub call_inside : OneMeaning → list_all (has_word (ran_for CALL 11)) CALL_INSIDE ≡ true
-unfolding computes
-call_inside one =
-    run_is CALL at_reset (λ b. list_all (has_word b) CALL_INSIDE) (replicate 11 Step) (board_at_reset (image CALL) 4096) one refl refl
+each_run one = each_ends RUNS one refl

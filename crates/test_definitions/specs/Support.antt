@@ -2,7 +2,6 @@
 pub mod Controller
 pub mod Devices
 pub mod Instructions
-pub mod Programs
 pub mod Registers
 pub mod Runs
 pub mod Traps

@@ -9,10 +9,13 @@ use Width::{Four, One, Two};
 use rv_isa::Width;
 use rv_pmp::{Access, Mode};
 
-// pmpaddr0 to pmpaddr3: the word at 0x80000010 (NA4), the 8 bytes at 0x80000018, the page at 0x80001000 and all bytes
-// (NAPOT); those up to 0x80001000, and from there to 0x80002000 (TOR); and entries beside each other.
+// pmpaddr0 to pmpaddr3: the words at 0x80000010 and at 0x80000000 (NA4), the 8 bytes at 0x80000018, the page at
+// 0x80001000 and all bytes (NAPOT); those up to 0x80001000, and from there to 0x80002000 (TOR); and entries beside
+// each other.
 
 const WORD: [u32; 4] = [0x2000_0004, 0, 0, 0];
+
+const FIRST: [u32; 4] = [0x2000_0000, 0, 0, 0];
 
 const DOUBLE: [u32; 4] = [0x2000_0006, 0, 0, 0];
 
@@ -39,7 +42,7 @@ const FOURTH: [u32; 4] = [0, 0, 0, 0x2000_0004];
 ///
 /// The configurations: 08 TOR, 10 NA4, 18 NAPOT, with 1 for R, 2 for W, 4 for X, and 80 for a locked entry. NAPOT
 /// with k ones at the end of its address has 2^(k+3) bytes.
-pub const ACCESSES: [([u32; 4], u32, Mode, Access, u32, Width, bool); 40] = [
+pub const ACCESSES: [([u32; 4], u32, Mode, Access, u32, Width, bool); 43] = [
     // without a matching entry machine mode may do all, user mode nothing
     ([0, 0, 0, 0], 0, Machine, Execute, 0x8000_0000, Four, true),
     ([0, 0, 0, 0], 0, User, Read, 0x8000_0000, Four, false),
@@ -79,6 +82,9 @@ pub const ACCESSES: [([u32; 4], u32, Mode, Access, u32, Width, bool); 40] = [
     // and has to match all of them
     (WORD_AND_ALL, 0x1f17, User, Read, 0x8000_0012, Four, false),
     (WORD, 0x17, User, Read, 0x8000_000e, Four, false),
+    (FIRST, 0x11, Machine, Read, 0x8000_0002, Four, false),
+    (FIRST, 0x11, Machine, Write, 0x8000_0000, Four, true),
+    (FIRST, 0x11, User, Read, 0x8000_0000, Four, true),
     // W without R is kept as neither
     (ALL, 0x1a, User, Write, 0x8000_0000, Four, false),
     // an entry binds machine mode only where it is locked

@@ -1,16 +1,16 @@
 //! Whole runs: programs by their words, and what they leave.
 ghost use Rattle.std.specs.Prelude.{◌≡◌, true};
 ghost use Rattle.std.specs.List.{list_all};
-ghost use Rattle.test_definitions.specs.Support.Programs.{runs};
-ghost use Rattle.test_definitions.specs.Support.Runs.{ends, has_word, ran_for};
+ghost use Rattle.test_definitions.specs.Support.Runs.{ends};
 
 use rv_isa::{Operation, one_meaning};
 
-// A program is a list of words, the first at 0x80000000, each with its operation, its rd, rs1 and rs2, and its
-// immediate. The words are those of GNU's assembler.
+/// A word of a program: its operation, its rd, rs1 and rs2, its immediate, and the word, which is that of GNU's
+/// assembler. The first one of a program is at 0x80000000.
+pub type Word = (Operation, [u8; 3], i32, u32);
 
 /// Sends `H`, and halts the board with code 0.
-pub const HELLO: [(Operation, [u8; 3], i32, u32); 7] = [
+pub const HELLO: [Word; 7] = [
     // lui x5,0x10000
     (Operation::Lui, [5, 0, 0], 65536, 0x100002b7),
     // addi x10,x0,72
@@ -32,7 +32,7 @@ pub const HELLO_ENDS: [(u8, u32); 2] = [(10, 72), (7, 0x5555)];
 
 /// A handler that keeps mcause in x10 and goes on behind the instruction that trapped: once behind an ECALL of
 /// machine mode, whose cause is 11, and once behind an EBREAK, whose cause is 3.
-pub const TRAP: [(Operation, [u8; 3], i32, u32); 12] = [
+pub const TRAP: [Word; 12] = [
     // auipc x5,0x0
     (Operation::Auipc, [5, 0, 0], 0, 0x00000297),
     // addi x5,x5,28
@@ -64,7 +64,7 @@ pub const TRAP_ENDS: [(u8, u32); 3] = [(10, 3), (11, 5), (6, 0x80000018)];
 
 /// A user task that may read and execute the 32 bytes from 0x80000040 on (NAPOT with two ones at its end). Its load
 /// gives the second word there, and its store to the third is refused: cause 7, with the address in mtval.
-pub const USER: [(Operation, [u8; 3], i32, u32); 20] = [
+pub const USER: [Word; 20] = [
     // auipc x5,0x0
     (Operation::Auipc, [5, 0, 0], 0, 0x00000297),
     // addi x6,x5,52
@@ -112,7 +112,7 @@ pub const USER_ENDS: [(u8, u32); 4] = [(10, 7), (11, 0x80000048), (12, 0x700693)
 
 /// A timer interrupt: the time to compare with is 14, so step 14 takes it in place of the second jump, where x11 was
 /// counted up twice. The handler reads mcause and the time, which is 17 in step 17.
-pub const TIMER: [(Operation, [u8; 3], i32, u32); 16] = [
+pub const TIMER: [Word; 16] = [
     // auipc x5,0x0
     (Operation::Auipc, [5, 0, 0], 0, 0x00000297),
     // addi x5,x5,48
@@ -152,7 +152,7 @@ pub const TIMER_ENDS: [(u8, u32); 3] = [(10, 0x80000007), (11, 2), (12, 17)];
 
 /// Code that changes itself: it stores the last word over the fifth before that is executed, so x10 gets 40 more
 /// than 1, and not 2.
-pub const CHANGES: [(Operation, [u8; 3], i32, u32); 7] = [
+pub const CHANGES: [Word; 7] = [
     // auipc x5,0x0
     (Operation::Auipc, [5, 0, 0], 0, 0x00000297),
     // lw x6,24(x5)
@@ -174,7 +174,7 @@ pub const CHANGES_ENDS: [(u8, u32); 2] = [(10, 41), (6, 0x2850513)];
 
 /// A call of user mode: machine mode lets it access every byte (NAPOT of all ones), goes to it by an MRET, and takes
 /// its ECALL. The handler keeps mcause and mepc, and returns behind the call. docs/MAP.md goes through it.
-pub const CALL: [(Operation, [u8; 3], i32, u32); 18] = [
+pub const CALL: [Word; 18] = [
     // auipc x5,0x0
     (Operation::Auipc, [5, 0, 0], 0, 0x00000297),
     // addi x6,x5,40
@@ -229,7 +229,7 @@ pub const CALL_INSIDE: [(u16, u32); 6] = [
 /// External interrupts, one within the handler of another. Sources 3 and 5 have priorities 2 and 5. The handler of 3
 /// claims it into x10, keeps mepc and mstatus, raises the threshold to 1 and enables interrupts again, so that 5 comes
 /// in before x21 becomes 1. The handler of 5 claims it into x13, reads mepc and mcause, and completes it.
-pub const EXTERNAL: [(Operation, [u8; 3], i32, u32); 37] = [
+pub const EXTERNAL: [Word; 37] = [
     // lui x5,0xc200
     (Operation::Lui, [5, 0, 0], 49664, 0x0c2002b7),
     // lui x6,0xc000
@@ -322,12 +322,44 @@ pub const EXTERNAL_ENDS: [(u8, u32); 8] = [
     (21, 1),
 ];
 
+/// A run of a program from its reset on: its words; the levels of its lines, each with the steps before it, the source
+/// and the level; how many steps follow; and what these leave: the pc, registers with their values, control registers
+/// with their words, and what was sent.
+pub type Run = (
+    &'static [Word],
+    &'static [(u32, u8, u8)],
+    u32,
+    u32,
+    &'static [(u8, u32)],
+    &'static [(u16, u32)],
+    &'static [u8],
+);
+
+/// The runs of these programs, and the one of `CALL` up to its ECALL.
+pub const RUNS: [Run; 8] = [
+    (&HELLO, &[], 7, 0x8000001c, &HELLO_ENDS, &[], b"H"),
+    (&TRAP, &[], 16, 0x80000018, &TRAP_ENDS, &[], b""),
+    (&USER, &[], 16, 0x8000003c, &USER_ENDS, &[], b""),
+    (&TIMER, &[], 17, 0x8000003c, &TIMER_ENDS, &[], b""),
+    (&CHANGES, &[], 5, 0x80000014, &CHANGES_ENDS, &[], b""),
+    (&CALL, &[], 11, 0x80000028, &[], &CALL_INSIDE, b""),
+    (&CALL, &[], 17, 0x80000044, &CALL_ENDS, &[], b""),
+    (
+        &EXTERNAL,
+        &EXTERNAL_LINES,
+        6,
+        0x80000044,
+        &EXTERNAL_ENDS,
+        &[],
+        b"",
+    ),
+];
+
 /// Law: on the definition of a run, each program leaves this pc, these registers and this console after these events,
 /// and each of its words is that of its fields.
-#[tactic(auto, using(crate::proofs::Programs::each_run, crate::proofs::Programs::call_inside))]
+#[tactic(auto, using(crate::proofs::Programs::each_run))]
 pub fn runs_are_defined()
-    ensures ends { list_all ends runs ≡ true }
-    ensures inside { list_all (has_word (ran_for CALL 11)) CALL_INSIDE ≡ true }
+    ensures { list_all ends RUNS ≡ true }
 {
     one_meaning();
 }

@@ -1,5 +1,4 @@
 //! Instructions: their words, fields, texts and values from other sources.
-mod fields;
 mod names;
 mod texts;
 mod values;

@@ -1,24 +1,22 @@
 //! Both memories, by the calls of their trait.
 ghost use Rattle.std.specs.Prelude.{◌≡◌, ◌+◌, ◌%◌, ◌≤◌, length};
 
+use crate::checks::check_at;
 use rv_base::NoMemory;
 use rv_isa::Width;
 use rv_ram::{ByteMemory, FlatMemory, PagedRam};
 use std::alloc::Global;
 use std::process::Abort;
-use std::test::Fail;
 
 /// A write: its offset, its width and its value.
 type Write = (u32, Width, u32);
 
 /// Does a write, after a check that it is in range and aligned.
-fn put<M: ByteMemory>(rt: &impl Abort, memory: &mut M, write: Write) -> Result<(), NoMemory> {
+fn put<M: ByteMemory>(rt: &impl Abort, memory: &mut M, write: Write) {
     let (off, width, value) = write;
     let size = memory.size();
-    assert!(rt; off < size);
-    assert!(rt; width.bytes() <= size - off);
-    assert!(rt; width.is_aligned(off));
-    memory.write(off, width, value)
+    assert!(rt; off < size && width.bytes() <= size - off && width.is_aligned(off));
+    memory.write(off, width, value).expect(rt, "no memory");
 }
 
 /// Returns a byte, after a check that the offset is in range.
@@ -29,8 +27,7 @@ fn byte<M: ByteMemory>(rt: &impl Abort, memory: &M, off: u32) -> u8 {
 
 /// Returns a word, after a check that it is in range and aligned.
 fn word<M: ByteMemory>(rt: &impl Abort, memory: &M, off: u32) -> u32 {
-    assert!(rt; off <= memory.size() - 4);
-    assert!(rt; off % 4 == 0);
+    assert!(rt; off <= memory.size() - 4 && off % 4 == 0);
     memory.read_word(off)
 }
 
@@ -117,70 +114,79 @@ static CASES: [Case<'static>; 5] = [
 ];
 
 /// Does the writes, in order.
-fn put_all<M: ByteMemory>(
-    rt: &impl Abort,
-    memory: &mut M,
-    writes: &[Write],
-) -> Result<(), NoMemory> {
+fn put_all<M: ByteMemory>(rt: &impl Abort, memory: &mut M, writes: &[Write]) {
     for &write in writes {
-        put(rt, memory, write)?;
+        put(rt, memory, write);
     }
-    Ok(())
 }
 
 fn check_bytes<M: ByteMemory>(rt: &impl Abort, memory: &M, bytes: &[(u32, u8)]) {
     for &(off, value) in bytes {
-        assert!(rt; byte(rt, memory, off) == value, "at {off}");
+        check_at(rt, byte(rt, memory, off) == value, off);
     }
 }
 
 fn check_words<M: ByteMemory>(rt: &impl Abort, memory: &M, words: &[(u32, u32)]) {
     for &(off, value) in words {
-        assert!(rt; word(rt, memory, off) == value, "at {off}");
+        check_at(rt, word(rt, memory, off) == value, off);
     }
 }
 
 /// Checks the size of a new memory, and what it holds after the writes.
-fn check<M: ByteMemory>(rt: &impl Abort, memory: &mut M, case: &Case<'_>) -> Result<(), NoMemory> {
+fn check<M: ByteMemory>(rt: &impl Abort, memory: &mut M, case: &Case<'_>) {
     assert!(rt; case.pages.checked_mul(4096) == Some(memory.size()));
-    put_all(rt, memory, case.writes)?;
+    put_all(rt, memory, case.writes);
     check_bytes(rt, memory, case.bytes);
     check_words(rt, memory, case.words);
-    Ok(())
 }
 
 /// Checks that two memories hold the same in their first four pages.
 fn check_same<M: ByteMemory, N: ByteMemory>(rt: &impl Abort, one: &M, other: &N) {
     for off in 0..one.size().min(16_384) {
-        assert!(rt; byte(rt, one, off) == byte(rt, other, off), "at {off}");
+        check_at(rt, byte(rt, one, off) == byte(rt, other, off), off);
     }
+}
+
+// These have no contracts, so that the proof of a test carries nothing of what a memory holds.
+
+/// Returns flat memory of so many pages.
+fn flat(rt: &impl Abort, alloc: Global, pages: u32) -> FlatMemory {
+    assert!(rt; 1 <= pages && pages <= 4096);
+    FlatMemory::new(alloc, pages).expect(rt, "no memory")
+}
+
+/// Returns paged memory of so many pages.
+fn paged(rt: &impl Abort, alloc: Global, pages: u32) -> PagedRam {
+    assert!(rt; 1 <= pages && pages <= 4096);
+    PagedRam::new(alloc, pages).expect(rt, "no memory")
+}
+
+/// Returns a copy of a memory.
+fn copy_of(rt: &impl Abort, alloc: Global, memory: &PagedRam) -> PagedRam {
+    memory.try_clone(alloc).expect(rt, "no memory")
 }
 
 /// Checks a case with each memory, and that both hold the same.
-fn check_both(rt: &impl Abort, alloc: Global, case: &Case<'_>) -> Result<(), NoMemory> {
-    assert!(rt; 1 <= case.pages);
-    assert!(rt; case.pages <= 4096);
-    let mut flat = FlatMemory::new(alloc, case.pages)?;
-    let mut paged = PagedRam::new(alloc, case.pages)?;
-    check(rt, &mut flat, case)?;
-    check(rt, &mut paged, case)?;
+fn check_both(rt: &impl Abort, alloc: Global, case: &Case<'_>) {
+    let mut flat = flat(rt, alloc, case.pages);
+    let mut paged = paged(rt, alloc, case.pages);
+    check(rt, &mut flat, case);
+    check(rt, &mut paged, case);
     check_same(rt, &flat, &paged);
-    Ok(())
 }
 
 #[test]
-fn writes_are_read(rt: HostRuntime) -> Result<(), Fail> {
+fn writes_are_read(rt: HostRuntime) {
     for case in CASES.iter() {
-        check_both(&rt, rt.alloc(), case)?;
+        check_both(&rt, rt.alloc(), case);
     }
     for k in 0..1024u32 {
-        check_first(&rt, rt.alloc(), 4 * k)?;
+        check_first(&rt, rt.alloc(), 4 * k);
     }
-    Ok(())
 }
 
 /// Checks a word that is written first in new memories of one page.
-fn check_first(rt: &impl Abort, alloc: Global, off: u32) -> Result<(), NoMemory> {
+fn check_first(rt: &impl Abort, alloc: Global, off: u32) {
     let writes = [(off, Width::Four, 0x8765_4321)];
     let words = [(off, 0x8765_4321)];
     let case = Case {
@@ -189,25 +195,23 @@ fn check_first(rt: &impl Abort, alloc: Global, off: u32) -> Result<(), NoMemory>
         bytes: &[],
         words: &words,
     };
-    check_both(rt, alloc, &case)
+    check_both(rt, alloc, &case);
 }
 
 /// Writes each word, and checks what the memory holds afterwards.
-fn fill<M: ByteMemory>(rt: &impl Abort, memory: &mut M) -> Result<(), NoMemory> {
+fn fill<M: ByteMemory>(rt: &impl Abort, memory: &mut M) {
     for k in 0..65_536u32 {
-        put(rt, memory, (4 * k, Width::Four, 0xffff_ffff - k))?;
+        put(rt, memory, (4 * k, Width::Four, 0xffff_ffff - k));
     }
     for k in 0..65_536u32 {
         assert!(rt; word(rt, memory, 4 * k) == 0xffff_ffff - k);
     }
-    Ok(())
 }
 
 #[test]
-fn each_word_of_64_pages_is_stored(rt: HostRuntime) -> Result<(), Fail> {
-    fill(&rt, &mut FlatMemory::new(rt.alloc(), 64)?)?;
-    fill(&rt, &mut PagedRam::new(rt.alloc(), 64)?)?;
-    Ok(())
+fn each_word_of_64_pages_is_stored(rt: HostRuntime) {
+    fill(&rt, &mut flat(&rt, rt.alloc(), 64));
+    fill(&rt, &mut paged(&rt, rt.alloc(), 64));
 }
 
 /// Writes a word of zeros, which never needs a page: the contract of `write` proves that the other arm is
@@ -223,25 +227,19 @@ fn put_zero(memory: &mut PagedRam, off: u32)
 }
 
 #[test]
-fn zeros_make_no_page(rt: HostRuntime) -> Result<(), Fail> {
-    let mut memory = PagedRam::new(rt.alloc(), 2)?;
+fn zeros_make_no_page(rt: HostRuntime) {
+    let mut memory = PagedRam::new(rt.alloc(), 2).expect(&rt, "no memory");
     put_zero(&mut memory, 4096);
     assert!(rt; word(&rt, &memory, 4096) == 0);
-    Ok(())
 }
 
 #[test]
-fn a_copy_and_its_memory_are_apart(rt: HostRuntime) -> Result<(), Fail> {
-    let mut memory = PagedRam::new(rt.alloc(), 4)?;
-    put(&rt, &mut memory, (4096, Width::Four, 7))?;
-    let mut copy = memory.try_clone(rt.alloc())?;
-    put(&rt, &mut copy, (4100, Width::Four, 8))?;
-    put(&rt, &mut memory, (12_288, Width::Four, 9))?;
-    assert!(rt; word(&rt, &memory, 4096) == 7);
-    assert!(rt; word(&rt, &memory, 4100) == 0);
-    assert!(rt; word(&rt, &memory, 12_288) == 9);
-    assert!(rt; word(&rt, &copy, 4096) == 7);
-    assert!(rt; word(&rt, &copy, 4100) == 8);
-    assert!(rt; word(&rt, &copy, 12_288) == 0);
-    Ok(())
+fn a_copy_and_its_memory_are_apart(rt: HostRuntime) {
+    let mut memory = paged(&rt, rt.alloc(), 4);
+    put(&rt, &mut memory, (4096, Width::Four, 7));
+    let mut copy = copy_of(&rt, rt.alloc(), &memory);
+    put(&rt, &mut copy, (4100, Width::Four, 8));
+    put(&rt, &mut memory, (12_288, Width::Four, 9));
+    check_words(&rt, &memory, &[(4096, 7), (4100, 0), (12_288, 9)]);
+    check_words(&rt, &copy, &[(4096, 7), (4100, 8), (12_288, 0)]);
 }

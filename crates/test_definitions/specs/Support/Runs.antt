@@ -29,10 +29,6 @@ image rows = flat_map (λ row. to_le_bytes w32 row.3) rows
 abbrev pub ran : List Row → List Event → BoardState
 ran rows events = run (board_at_reset (image rows) 4096) events
 
--- the board after a number of steps
-abbrev pub ran_for : List Row → ℕ → BoardState
-ran_for rows steps = ran rows (replicate steps Step)
-
 -- the events of rows, each of which has a number of steps, and then a source whose line gets a level
 abbrev pub events_of : List (ℕ × ℕ × ℕ) → List Event
 events_of rows = flat_map (λ row. replicate row.0 Step ++ Line row.1 (row.2 == 1) ∷ []) rows
@@ -45,21 +41,27 @@ has_its_words rows = list_all (λ row. encoded (fields row) == row.3) rows
 abbrev pub has : BoardState → ℕ × ℕ → Bool
 has b row = slice_index b.machine.registers row.0 == row.1
 
--- a board stands at an address, with values in registers, and has sent a text
-abbrev pub is_at : ℕ → List (ℕ × ℕ) → List ℕ → BoardState → Bool
-is_at pc values sent b = (b.machine.pc == pc) && list_all (has b) values && bytes_eq b.machine.bus.serial.sent sent
-
--- a program has the words of its fields, and what it leaves is this
-abbrev pub leaves : List Row → ℕ → List (ℕ × ℕ) → List ℕ → BoardState → Bool
-leaves rows pc values sent b = has_its_words rows && is_at pc values sent b
-
--- a program with the events of a run, and the pc, the registers and the console that they leave
-abbrev pub Run : Type 0
-Run = List Row × List Event × ℕ × List (ℕ × ℕ) × List ℕ
-
-abbrev pub ends : Run → Bool
-ends r = leaves r.0 r.2 r.3 r.4 (ran r.0 r.1)
-
 -- a control register has a word, as machine mode reads it
 abbrev pub has_word : BoardState → ℕ × ℕ → Bool
 has_word b row = option_map_or (λ word. word == row.1) (csr_of b row.0) false
+
+-- what a constant lends
+abbrev pub Lent : Type 0 → Type 0
+Lent A = record { now : List A }
+
+-- a row of runs: the words; the lines; the steps after them; the pc, the registers, the control registers and the console
+abbrev pub Run : Type 0
+Run = Lent Row × Lent (ℕ × ℕ × ℕ) × ℕ × ℕ × Lent (ℕ × ℕ) × Lent (ℕ × ℕ) × Lent ℕ
+
+-- the events of a run
+abbrev pub events : Run → List Event
+events r = events_of r.1.now ++ replicate r.2 Step
+
+-- a program has the words of its fields, and this is what its run leaves
+abbrev pub leaves : Run → BoardState → Bool
+leaves r b =
+    has_its_words r.0.now && (b.machine.pc == r.3) && list_all (has b) r.4.now && list_all (has_word b) r.5.now
+    && bytes_eq b.machine.bus.serial.sent r.6.now
+
+abbrev pub ends : Run → Bool
+ends r = leaves r (ran r.0.now (events r))

@@ -36,8 +36,13 @@ fn shows_all(rows: &[(Act, u32, u32)]) -> bool {
 
 #[test]
 fn controllers(rt: HostRuntime) {
-    assert!(rt; shows_all(EQUAL.as_slice()));
-    assert!(rt; shows_all(COMPLETE.as_slice()));
-    assert!(rt; shows_all(EDGES.as_slice()));
-    assert!(rt; shows_all(NESTED.as_slice()));
+    let tables = [
+        EQUAL.as_slice(),
+        COMPLETE.as_slice(),
+        EDGES.as_slice(),
+        NESTED.as_slice(),
+    ];
+    for rows in tables {
+        assert!(rt; shows_all(rows));
+    }
 }

@@ -1,4 +1,5 @@
 //! The rows of protection.
+use crate::checks::check_at;
 use rv_isa::Width;
 use rv_pmp::{Access, Mode, Pmp};
 use test_definitions::protection::ACCESSES;
@@ -23,9 +24,10 @@ fn allows(pmp: Option<Pmp>, mode: Mode, access: Access, addr: u32, width: Width)
 fn accesses(rt: HostRuntime) {
     for &(addresses, config, mode, access, addr, width, answer) in ACCESSES.iter() {
         let pmp = protection(addresses, config);
-        assert!(rt;
+        check_at(
+            &rt,
             allows(pmp, mode, access, addr, width) == Some(answer),
-            "{config:x} {addr:x}"
+            addr,
         );
     }
 }

@@ -1,4 +1,5 @@
 //! The rows of the control registers.
+use crate::checks::check_at;
 use rv_csr::Csrs;
 use rv_isa::Lines;
 use rv_pmp::Mode;
@@ -21,13 +22,13 @@ fn rights(addr: u16, mode: Mode) -> (bool, bool) {
 #[test]
 fn kept(rt: HostRuntime) {
     for &(addr, word, value) in KEPT.iter() {
-        assert!(rt; read_back(addr, word) == Some(value), "{addr:x} {word:x}");
+        check_at(&rt, read_back(addr, word) == Some(value), u32::from(addr));
     }
 }
 
 #[test]
 fn access(rt: HostRuntime) {
     for &(addr, mode, reads, writes) in RIGHTS.iter() {
-        assert!(rt; rights(addr, mode) == (reads, writes), "{addr:x} {mode:?}");
+        check_at(&rt, rights(addr, mode) == (reads, writes), u32::from(addr));
     }
 }

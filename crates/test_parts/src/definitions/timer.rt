@@ -1,4 +1,5 @@
 //! The rows of the timer.
+use crate::checks::check_at;
 use rv_mmio::Timer;
 use test_definitions::timer::TIMES;
 
@@ -17,9 +18,6 @@ fn found(stores: [(u32, u32); 3], ticks: u8, off: u32) -> Option<(u32, bool)> {
 #[test]
 fn times(rt: HostRuntime) {
     for &(stores, ticks, off, word, due) in TIMES.iter() {
-        assert!(rt;
-            found(stores, ticks, off) == Some((word, due)),
-            "{ticks} {off:x}"
-        );
+        check_at(&rt, found(stores, ticks, off) == Some((word, due)), off);
     }
 }

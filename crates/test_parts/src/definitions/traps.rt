@@ -1,4 +1,5 @@
 //! The rows of traps and interrupts.
+use crate::checks::check_at;
 use rv_csr::Csrs;
 use rv_isa::Lines;
 use rv_pmp::Mode;
@@ -29,17 +30,25 @@ fn leave(csrs: &mut Csrs) -> Option<(u32, Mode)> {
     Some((word(csrs, 0x300)?, mode))
 }
 
+/// A row of traps.
+type Row = ([u32; 2], Mode, u32, u32, [u32; 3], u32, Mode);
+
+/// Whether a trap and the return from it are as a row says.
+fn is_right(row: &Row) -> bool {
+    let &(before, mode, cause, pc, inside, after, back) = row;
+    match registers((0x300, before[0]), (0x305, before[1])) {
+        Some(mut csrs) => {
+            enter(&mut csrs, mode, cause, pc) == Some(inside)
+                && leave(&mut csrs) == Some((after, back))
+        }
+        None => false,
+    }
+}
+
 #[test]
 fn traps(rt: HostRuntime) {
-    for &(before, mode, cause, pc, inside, after, back) in TRAPS.iter() {
-        let Some(mut csrs) = registers((0x300, before[0]), (0x305, before[1])) else {
-            panic!(rt; "no registers");
-        };
-        assert!(rt;
-            enter(&mut csrs, mode, cause, pc) == Some(inside),
-            "{cause:x}"
-        );
-        assert!(rt; leave(&mut csrs) == Some((after, back)), "{cause:x}");
+    for row in TRAPS.iter() {
+        check_at(&rt, is_right(row), row.2);
     }
 }
 
@@ -58,6 +67,6 @@ fn taken(before: [u32; 2], mode: Mode, levels: [bool; 3]) -> Option<u32> {
 #[test]
 fn interrupts(rt: HostRuntime) {
     for &(before, mode, levels, cause) in INTERRUPTS.iter() {
-        assert!(rt; taken(before, mode, levels) == Some(cause), "{cause:x}");
+        check_at(&rt, taken(before, mode, levels) == Some(cause), cause);
     }
 }

@@ -1,19 +1,25 @@
 //! The rows of words and texts.
+use crate::checks::check_at;
 use rv_isa::{Instr, decode, encode, write_instr};
 use std::alloc::Global;
-use std::test::Fail;
 use test_definitions::words::WORDS;
 
-/// Returns the text of an instruction, filled up with blanks.
-fn filled_text(alloc: Global, instr: Instr) -> Result<Vec<u8>, &'static str> {
+/// Whether an instruction has this text, which blanks fill up.
+fn has_text(alloc: Global, instr: Instr, text: &[u8]) -> bool {
     let mut out = Vec::new(alloc);
-    write_instr(instr, &mut out)
-        .ok()
-        .ok_or("there is no memory")?;
-    for _ in out.len()..19 {
-        out.push(b' ').ok().ok_or("there is no memory")?;
+    let is_written = write_instr(instr, &mut out).is_ok();
+    is_written && text.starts_with(out.as_slice()) && is_blank_after(text, out.len())
+}
+
+/// Whether blanks alone stand in a text after so many bytes.
+fn is_blank_after(text: &[u8], count: usize) -> bool {
+    let (_, rest) = text.split_at(count.min(text.len()));
+    for &byte in rest {
+        if byte != b' ' {
+            return false;
+        }
     }
-    Ok(out)
+    true
 }
 
 /// Whether an instruction has these registers and this immediate.
@@ -24,13 +30,11 @@ fn has_fields(instr: Instr, registers: [u8; 3], imm: i32) -> bool {
 }
 
 #[test]
-fn words(rt: HostRuntime) -> Result<(), Fail> {
+fn words(rt: HostRuntime) {
     for &(_, registers, imm, word, text) in WORDS.iter() {
-        let instr = decode(word).ok_or("no instruction")?;
-        assert!(rt; has_fields(instr, registers, imm), "{word:x}");
-        assert!(rt; encode(instr) == word, "{word:x}");
-        let written = filled_text(rt.alloc(), instr)?;
-        assert!(rt; written.as_slice() == text.as_slice(), "{word:x}");
+        let instr = decode(word).expect(&rt, "no instruction");
+        check_at(&rt, has_fields(instr, registers, imm), word);
+        check_at(&rt, encode(instr) == word, word);
+        check_at(&rt, has_text(rt.alloc(), instr, text.as_slice()), word);
     }
-    Ok(())
 }

@@ -1,4 +1,5 @@
 //! Names of registers and control registers.
+use crate::checks::check_of;
 use rv_isa::{Reg, csr_named, reg_named};
 
 /// Names, each with the numbers of its register and of its control register.
@@ -35,8 +36,8 @@ fn control_register(name: &str) -> Option<u16> {
 #[test]
 fn names(rt: HostRuntime) {
     for &(name, register_number, control_number) in NAMES.iter() {
-        assert!(rt; register(name) == register_number, "{name}");
-        assert!(rt; control_register(name) == control_number, "{name}");
+        check_of(&rt, register(name) == register_number, name);
+        check_of(&rt, control_register(name) == control_number, name);
     }
 }
 
@@ -47,6 +48,5 @@ fn index(number: u8) -> Option<usize> {
 
 #[test]
 fn numbers(rt: HostRuntime) {
-    assert!(rt; index(32) == None);
-    assert!(rt; index(31) == Some(31));
+    assert!(rt; index(32) == None && index(31) == Some(31));
 }

@@ -1,4 +1,5 @@
 //! Words that no instruction has.
+use crate::checks::check_at;
 use rv_isa::decode;
 
 /// Words that no instruction has.
@@ -14,6 +15,6 @@ fn is_none(word: u32) -> bool {
 #[test]
 fn no_instruction(rt: HostRuntime) {
     for &word in NONE.iter() {
-        assert!(rt; is_none(word), "{word:x}");
+        check_at(&rt, is_none(word), word);
     }
 }

@@ -1,9 +1,9 @@
 //! Timed lists that are read, get one input more, or are written.
+use rv_base::NoMemory;
 use rv_plic::Source;
 use rv_timeline::{Input, TimedInput, Timeline, list_text};
-use std::alloc::Global;
+use std::alloc::{AllocError, Global};
 use std::process::Abort;
-use std::test::Fail;
 
 /// Returns a received byte with its step.
 fn rx(step: u64, byte: u8) -> TimedInput {
@@ -14,12 +14,12 @@ fn rx(step: u64, byte: u8) -> TimedInput {
 }
 
 /// Returns a level of an interrupt line with its step.
-fn line(step: u64, number: u8, high: bool) -> Result<TimedInput, &'static str> {
-    let source = Source::new(number).ok_or("there is no such source")?;
-    Ok(TimedInput {
+fn line(rt: &impl Abort, step: u64, number: u8, high: bool) -> TimedInput {
+    let source = Source::new(number).expect(rt, "there is no such source");
+    TimedInput {
         step,
         input: Input::Line { source, high },
-    })
+    }
 }
 
 /// Texts, each with the list that is written of its inputs: texts that are empty, comments, bytes of both
@@ -50,39 +50,22 @@ static LISTS: [(&[u8], &[u8]); 8] = [
 
 /// Reads a text that has no fault. It has no contract, so that the proofs of tests don't carry that of
 /// `read`.
-fn read(alloc: Global, text: &[u8]) -> Result<Timeline, &'static str> {
-    let timeline = Timeline::read(alloc, text);
-    timeline.ok().ok_or("the text is refused")
+fn read(rt: &impl Abort, alloc: Global, text: &[u8]) -> Timeline {
+    Timeline::read(alloc, text).expect(rt, "the text is refused")
 }
 
-/// Writes the list of inputs.
-fn written(alloc: Global, inputs: &[TimedInput]) -> Result<Vec<u8>, &'static str> {
-    list_text(alloc, inputs).ok().ok_or("there is no memory")
-}
-
-/// Reads a text, and inserts an input.
-fn inserted(alloc: Global, text: &[u8], timed: TimedInput) -> Result<Timeline, &'static str> {
-    let mut timeline = read(alloc, text)?;
-    timeline.insert(timed).ok().ok_or("there is no memory")?;
-    Ok(timeline)
-}
-
-/// Checks the list that is written of inputs.
-fn check_written(
-    rt: &impl Abort,
-    alloc: Global,
-    inputs: &[TimedInput],
-    list: &[u8],
-) -> Result<(), &'static str> {
-    let seen = written(alloc, inputs)?;
-    assert!(rt; seen.as_slice() == list);
-    Ok(())
+/// Whether this list is written of inputs.
+fn is_written(alloc: Global, inputs: &[TimedInput], list: &[u8]) -> bool {
+    match list_text(alloc, inputs) {
+        Ok(text) => text.as_slice() == list,
+        Err(NoMemory) => false,
+    }
 }
 
 /// Checks the list that is written of the inputs of a text.
-fn check(rt: &impl Abort, alloc: Global, text: &[u8], list: &[u8]) -> Result<(), &'static str> {
-    let timeline = read(alloc, text)?;
-    check_written(rt, alloc, timeline.inputs(), list)
+fn check(rt: &impl Abort, alloc: Global, text: &[u8], list: &[u8]) {
+    let timeline = read(rt, alloc, text);
+    assert!(rt; is_written(alloc, timeline.inputs(), list));
 }
 
 /// Returns a line of 1024 bytes with its end.
@@ -99,30 +82,21 @@ fn longest() -> [u8; 1026] {
 }
 
 #[test]
-fn lists_are_read(rt: HostRuntime) -> Result<(), Fail> {
+fn lists_are_read(rt: HostRuntime) {
     for &(text, list) in LISTS.iter() {
-        check(&rt, rt.alloc(), text, list)?;
+        check(&rt, rt.alloc(), text, list);
     }
-    check(&rt, rt.alloc(), &longest(), b"1 rx 7f\n")?;
-    check(&rt, rt.alloc(), &[b'#'; 1024], b"")?;
-    Ok(())
+    check(&rt, rt.alloc(), &longest(), b"1 rx 7f\n");
+    check(&rt, rt.alloc(), &[b'#'; 1024], b"");
 }
 
-/// Checks how many inputs there are, the first one, and the last one.
-fn check_ends(
-    rt: &impl Abort,
-    inputs: &[TimedInput],
-    count: usize,
-    first: TimedInput,
-    last: TimedInput,
-) {
-    assert_eq!(rt; inputs.len(), count);
-    assert!(rt; inputs.first().copied() == Some(first));
-    assert!(rt; inputs.last().copied() == Some(last));
+/// Whether there are so many inputs, with these at their ends.
+fn have_ends(inputs: &[TimedInput], count: usize, first: TimedInput, last: TimedInput) -> bool {
+    inputs.len() == count && inputs.first() == Some(&first) && inputs.last() == Some(&last)
 }
 
 /// Returns a timed list of `count` received bytes, one for each step from 0 on.
-fn list_of_bytes(alloc: Global, count: u32) -> Result<String, Fail> {
+fn list_of_bytes(alloc: Global, count: u32) -> Result<String, AllocError> {
     let mut text = String::new(alloc);
     for step in 0..count {
         text.push_str(&format!(in alloc; "{step} rx 5a\n")?)?;
@@ -131,44 +105,39 @@ fn list_of_bytes(alloc: Global, count: u32) -> Result<String, Fail> {
 }
 
 /// Reads the list of a hundred thousand bytes.
-fn read_bytes(alloc: Global) -> Result<Timeline, Fail> {
-    let text = list_of_bytes(alloc, 100_000)?;
-    Ok(read(alloc, text.as_bytes())?)
+fn read_bytes(rt: &impl Abort, alloc: Global) -> Timeline {
+    let text = list_of_bytes(alloc, 100_000).expect(rt, "no memory");
+    read(rt, alloc, text.as_bytes())
 }
 
 #[test]
-fn seventeen_bytes(rt: HostRuntime) -> Result<(), Fail> {
+fn seventeen_bytes(rt: HostRuntime) {
     let text = b"2 rx 00 01 02 03 04 05 06 07 08 09 0a 0b 0c 0d 0e 0f 10";
-    let timeline = read(rt.alloc(), text)?;
-    check_ends(&rt, timeline.inputs(), 17, rx(2, 0), rx(2, 0x10));
-    Ok(())
+    let timeline = read(&rt, rt.alloc(), text);
+    assert!(rt; have_ends(timeline.inputs(), 17, rx(2, 0), rx(2, 0x10)));
 }
 
 #[test]
-fn a_hundred_thousand_inputs(rt: HostRuntime) -> Result<(), Fail> {
-    let timeline = read_bytes(rt.alloc())?;
-    check_ends(
-        &rt,
-        timeline.inputs(),
-        100_000,
-        rx(0, 0x5A),
-        rx(99_999, 0x5A),
-    );
-    Ok(())
+fn a_hundred_thousand_inputs(rt: HostRuntime) {
+    let timeline = read_bytes(&rt, rt.alloc());
+    assert!(rt; have_ends(timeline.inputs(), 100_000, rx(0, 0x5a), rx(99_999, 0x5a)));
+}
+
+/// Inserts an input. Whether the inputs are then these.
+fn inserts(timeline: &mut Timeline, timed: TimedInput, inputs: &[TimedInput]) -> bool {
+    timeline.insert(timed).is_ok() && timeline.inputs() == inputs
 }
 
 #[test]
-fn an_input_is_inserted_after_those_of_its_step(rt: HostRuntime) -> Result<(), Fail> {
-    let timeline = inserted(rt.alloc(), b"3 rx 01 02\n5 rx 03", rx(3, 4))?;
+fn an_input_is_inserted_after_those_of_its_step(rt: HostRuntime) {
+    let mut timeline = read(&rt, rt.alloc(), b"3 rx 01 02\n5 rx 03");
     let inputs = [rx(3, 1), rx(3, 2), rx(3, 4), rx(5, 3)];
-    assert!(&rt; timeline.inputs() == inputs.as_slice());
-    Ok(())
+    assert!(rt; inserts(&mut timeline, rx(3, 4), &inputs));
 }
 
 #[test]
-fn a_line_is_written_for_each_input(rt: HostRuntime) -> Result<(), Fail> {
-    let inputs = [rx(0, 0x0A), line(7, 31, true)?, line(9999999999, 5, false)?];
+fn a_line_is_written_for_each_input(rt: HostRuntime) {
+    let (rises, falls) = (line(&rt, 7, 31, true), line(&rt, 9999999999, 5, false));
     let list = b"0 rx 0a\n7 line 31 1\n9999999999 line 5 0\n";
-    check_written(&rt, rt.alloc(), &inputs, list)?;
-    Ok(())
+    assert!(rt; is_written(rt.alloc(), &[rx(0, 0x0a), rises, falls], list));
 }

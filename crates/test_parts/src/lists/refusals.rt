@@ -1,7 +1,6 @@
 //! Timed lists that are refused.
 use rv_timeline::{Timeline, TimelineFault};
 use std::alloc::Global;
-use std::process::Abort;
 
 /// Texts, each with the number of its first refused line: steps that fall, steps that are not one to ten
 /// digits, sources other than 1 to 31, levels other than 0 and 1, bytes that are not two digits each, and
@@ -40,9 +39,9 @@ fn fault_of(alloc: Global, text: &[u8]) -> Option<TimelineFault> {
     Timeline::read(alloc, text).err()
 }
 
-/// Checks the number of the first refused line of a text.
-fn check_refusal(rt: &impl Abort, text: &[u8], line: usize, alloc: Global) {
-    assert!(rt; fault_of(alloc, text) == Some(TimelineFault::BadLine(line)));
+/// Whether this is the number of the first refused line of a text.
+fn is_refused_at(alloc: Global, text: &[u8], line: usize) -> bool {
+    fault_of(alloc, text) == Some(TimelineFault::BadLine(line))
 }
 
 /// Returns a comment of 1025 bytes, on the second line.
@@ -56,8 +55,8 @@ fn comment() -> [u8; 1028] {
 #[test]
 fn lines_are_refused(rt: HostRuntime) {
     for &(text, line) in REFUSALS.iter() {
-        check_refusal(&rt, text, line, rt.alloc());
+        assert!(rt; is_refused_at(rt.alloc(), text, line));
     }
-    check_refusal(&rt, &[b' '; 1025], 1, rt.alloc());
-    check_refusal(&rt, &comment(), 2, rt.alloc());
+    assert!(rt; is_refused_at(rt.alloc(), &[b' '; 1025], 1));
+    assert!(rt; is_refused_at(rt.alloc(), &comment(), 2));
 }

@@ -1,10 +1,9 @@
 //! The labels and statements of lines, and their faults, as docs/ASSEMBLER.md has them. What each mnemonic is
 //! assembled to is a row of test_rows.
-use rv_base::cut_lines;
+use rv_base::{cut_lines, decimal};
 use rv_source::{Label, Line, LineFault, Statement, read_line};
-use std::alloc::{AllocError, Global};
+use std::alloc::Global;
 use std::process::Abort;
-use std::test::Fail;
 
 /// Reads a line. It has no contract, so that the proofs of tests don't carry that of `read_line`.
 fn read<'a>(alloc: Global, text: &'a [u8]) -> Result<Line<'a>, LineFault> {
@@ -12,98 +11,83 @@ fn read<'a>(alloc: Global, text: &'a [u8]) -> Result<Line<'a>, LineFault> {
 }
 
 /// Reads a line that has no fault.
-fn line<'a>(alloc: Global, text: &'a [u8]) -> Result<Line<'a>, &'static str> {
-    read(alloc, text).ok().ok_or("the line is refused")
+fn line<'a>(rt: &impl Abort, alloc: Global, text: &'a [u8]) -> Line<'a> {
+    read(alloc, text).expect(rt, "the line is refused")
 }
 
-/// Checks the fault of a line.
-fn check_fault(rt: &impl Abort, alloc: Global, line: &[u8], fault: LineFault) {
-    assert!(rt; read(alloc, line).err() == Some(fault));
-}
-
-/// Checks that each line of the text has this fault.
-fn check_each_fault(rt: &impl Abort, alloc: Global, text: &[u8], fault: LineFault) {
-    for line in cut_lines(text) {
-        check_fault(rt, alloc, line, fault);
-    }
-}
-
-/// Appends a label as it is spelled.
-fn push_label(alloc: Global, out: &mut Vec<u8>, label: &Label) -> Result<(), AllocError> {
+/// Whether a label is spelled so.
+fn is_spelled(label: &Label, text: &[u8]) -> bool {
     match label {
-        Label::Name(name) => out.extend_from_slice(name.bytes()),
-        Label::Local(number) => out.extend_from_slice(format!(in alloc; "{number}")?.as_bytes()),
+        Label::Name(name) => name.bytes() == text,
+        Label::Local(number) => decimal(9999, text) == Some(u64::from(*number)),
     }
 }
 
-/// Returns the labels of a line, each with a blank before it.
-fn labels_of(alloc: Global, line: &Line<'_>) -> Result<Vec<u8>, AllocError> {
-    let mut out = Vec::new(alloc);
-    for label in line.labels() {
-        out.extend_from_slice(b" ")?;
-        push_label(alloc, &mut out, label)?;
+/// Whether labels are spelled so.
+fn are_spelled(labels: &[Label], texts: &[&[u8]]) -> bool {
+    for (label, text) in labels.iter().zip(texts) {
+        if !is_spelled(label, text) {
+            return false;
+        }
     }
-    Ok(out)
+    labels.len() == texts.len()
 }
 
-/// Returns the kind of statement of a line.
-fn statement_kind(line: &Line<'_>) -> &'static str {
+/// What a line states.
+#[derive(Clone, Copy, PartialEq, Eq)]
+enum Stated {
+    Instruction,
+    Marker,
+    SomethingElse,
+    Nothing,
+}
+
+/// Returns what a line states.
+fn states(line: &Line<'_>) -> Stated {
     match line.statement() {
-        Some(Statement::Instruction(_)) => "an instruction",
-        Some(Statement::Marker) => "a marker",
-        Some(_) => "something else",
-        None => "nothing",
+        Some(Statement::Instruction(_)) => Stated::Instruction,
+        Some(Statement::Marker) => Stated::Marker,
+        Some(_) => Stated::SomethingElse,
+        None => Stated::Nothing,
     }
 }
 
-/// Checks the labels of a line and the kind of its statement.
-fn check_line(
-    rt: &impl Abort,
-    alloc: Global,
-    line: &Line<'_>,
-    labels: &[u8],
-    kind: &str,
-) -> Result<(), Fail> {
-    let seen = labels_of(alloc, line)?;
-    assert!(rt; seen.as_slice() == labels);
-    assert!(rt; statement_kind(line) == kind);
-    Ok(())
+/// A line without a fault, its labels, and what it states.
+type Row = (&'static [u8], &'static [&'static [u8]], Stated);
+
+/// Checks the labels of a line, and what it states.
+fn check(rt: &impl Abort, alloc: Global, (text, labels, what): Row) {
+    let read = line(rt, alloc, text);
+    assert!(rt; are_spelled(read.labels(), labels) && states(&read) == what);
 }
 
-// A function that owns a line drops it at each `?`, which costs proof: so one function owns lines, and lends
-// them.
-
-/// Reads a line that has no fault, and checks its labels and the kind of its statement.
-fn check(
-    rt: &impl Abort,
-    alloc: Global,
-    text: &[u8],
-    labels: &[u8],
-    kind: &str,
-) -> Result<(), Fail> {
-    let read = line(alloc, text)?;
-    check_line(rt, alloc, &read, labels, kind)
-}
+static LABELS: [Row; 2] = [
+    (
+        b"main : 0: .text: 9999: nop",
+        &[b"main", b"0", b".text", b"9999"],
+        Stated::Instruction,
+    ),
+    (b" \t# nothing", &[], Stated::Nothing),
+];
 
 #[test]
-fn labels(rt: HostRuntime) -> Result<(), Fail> {
-    let text = b"main : 0: .text: 9999: nop";
-    check(
-        &rt,
-        rt.alloc(),
-        text,
-        b" main 0 .text 9999",
-        "an instruction",
-    )?;
-    check(&rt, rt.alloc(), b" \t# nothing", b"", "nothing")
+fn labels(rt: HostRuntime) {
+    for &row in LABELS.iter() {
+        check(&rt, rt.alloc(), row);
+    }
 }
 
+static STATEMENTS: [Row; 3] = [
+    (b"x: 1:", &[b"x", b"1"], Stated::Nothing),
+    (b"x: .globl 5,(", &[b"x"], Stated::Marker),
+    (b"1: .word 5", &[b"1"], Stated::SomethingElse),
+];
+
 #[test]
-fn statements(rt: HostRuntime) -> Result<(), Fail> {
-    let alloc = rt.alloc();
-    check(&rt, alloc, b"x: 1:", b" x 1", "nothing")?;
-    check(&rt, alloc, b"x: .globl 5,(", b" x", "a marker")?;
-    check(&rt, alloc, b"1: .word 5", b" 1", "something else")
+fn statements(rt: HostRuntime) {
+    for &row in STATEMENTS.iter() {
+        check(&rt, rt.alloc(), row);
+    }
 }
 
 const SYNTAX: &[u8] = b"\
@@ -180,19 +164,36 @@ foo \x01
 addi a0 \x80
 ";
 
+/// Lines that are refused, each text for one fault.
+static FAULTS: [(&[u8], LineFault); 4] = [
+    (SYNTAX, LineFault::Syntax),
+    (UNKNOWN_WORDS, LineFault::UnknownWord),
+    (BAD_OPERANDS, LineFault::BadOperands),
+    (BAD_BYTES, LineFault::BadByte),
+];
+
+/// Whether a line has this fault.
+fn has_fault(alloc: Global, line: &[u8], fault: LineFault) -> bool {
+    read(alloc, line).err() == Some(fault)
+}
+
+/// Checks that each line of a text has this fault.
+fn check_faults(rt: &impl Abort, alloc: Global, text: &[u8], fault: LineFault) {
+    for line in cut_lines(text) {
+        assert!(rt; has_fault(alloc, line, fault));
+    }
+}
+
 #[test]
 fn faults(rt: HostRuntime) {
-    let alloc = rt.alloc();
-    check_each_fault(&rt, alloc, SYNTAX, LineFault::Syntax);
-    check_each_fault(&rt, alloc, UNKNOWN_WORDS, LineFault::UnknownWord);
-    check_each_fault(&rt, alloc, BAD_OPERANDS, LineFault::BadOperands);
-    check_each_fault(&rt, alloc, BAD_BYTES, LineFault::BadByte);
+    for &(text, fault) in FAULTS.iter() {
+        check_faults(&rt, rt.alloc(), text, fault);
+    }
 }
 
 /// Returns the index of the first token of the value that the statement of a line waits for, and the number
 /// of its tokens.
-fn place(alloc: Global, text: &[u8]) -> Option<(usize, usize)> {
-    let line = read(alloc, text).ok()?;
+fn place_in(line: &Line<'_>) -> Option<(usize, usize)> {
     match line.statement() {
         Some(Statement::WithValue { value, .. }) => {
             let operand = value.operand();
@@ -202,10 +203,17 @@ fn place(alloc: Global, text: &[u8]) -> Option<(usize, usize)> {
     }
 }
 
+/// Lines, each with that place.
+static PLACES: [(&[u8], (usize, usize)); 3] = [
+    (b"lw a0,(sp)", (3, 3)),
+    (b"x: 1: addi a0,a1,%lo(y + 4)", (9, 6)),
+    (b"sw a0 , - 4(sp)", (3, 5)),
+];
+
 #[test]
 fn operands_keep_their_places(rt: HostRuntime) {
-    let alloc = rt.alloc();
-    assert!(rt; place(alloc, b"lw a0,(sp)") == Some((3, 3)));
-    assert!(rt; place(alloc, b"x: 1: addi a0,a1,%lo(y + 4)") == Some((9, 6)));
-    assert!(rt; place(alloc, b"sw a0 , - 4(sp)") == Some((3, 5)));
+    for &(text, place) in PLACES.iter() {
+        let read = line(&rt, rt.alloc(), text);
+        assert!(rt; place_in(&read) == Some(place));
+    }
 }

@@ -3,49 +3,58 @@ use rv_base::cut_lines;
 use rv_tokens::{Direction, LineFault, Place, Token, cut_line, place_of};
 use std::alloc::{AllocError, Global};
 use std::process::Abort;
-use std::test::Fail;
 
-/// Appends a number, with what stands before and after it.
-fn push_number(
-    alloc: Global,
-    out: &mut Vec<u8>,
-    (before, number, after): (&str, u32, &str),
-) -> Result<(), AllocError> {
-    out.extend_from_slice(format!(in alloc; "{before}{number}{after}")?.as_bytes())
-}
-
-/// Returns the letter of a direction.
-fn letter(direction: &Direction) -> &'static str {
-    match direction {
-        Direction::Backward => "b",
-        Direction::Forward => "f",
+/// Returns the spelling of a sign, and nothing of another token.
+fn sign(token: &Token) -> &'static [u8] {
+    match token {
+        Token::Comma => b",",
+        Token::Open => b"(",
+        Token::Close => b")",
+        Token::Plus => b"+",
+        Token::Minus => b"-",
+        Token::Colon => b":",
+        Token::At => b"@",
+        Token::High => b"%hi",
+        Token::Low => b"%lo",
+        _ => b"",
     }
 }
 
-/// Appends a token in few letters: a name or a sign as it is spelled, `5` for decimal digits, `#16` for
-/// another number, `5b` for a local reference, `'65` for a character, and a quote with the bytes of a string.
+/// Returns the number of a token, with what stands before and after it: nothing of decimal digits, `#` before
+/// another number, `'` before a character, `b` or `f` after a local reference.
+fn number(token: &Token) -> Option<(&'static str, u32, &'static str)> {
+    match token {
+        Token::Digits(n) => Some(("", u32::from(*n), "")),
+        Token::Number(n) => Some(("#", *n, "")),
+        Token::Character(b) => Some(("'", u32::from(*b), "")),
+        Token::Local { number, direction } => match direction {
+            Direction::Backward => Some(("", u32::from(*number), "b")),
+            Direction::Forward => Some(("", u32::from(*number), "f")),
+        },
+        _ => None,
+    }
+}
+
+/// Appends a number or a sign.
+fn push_other(alloc: Global, out: &mut Vec<u8>, token: &Token) -> Result<(), AllocError> {
+    match number(token) {
+        Some((before, n, after)) => {
+            out.extend_from_slice(format!(in alloc; "{before}{n}{after}")?.as_bytes())
+        }
+        None => out.extend_from_slice(sign(token)),
+    }
+}
+
+/// Appends a token in few letters: a name or a sign as it is spelled, a quote with the bytes of a string, or a
+/// number.
 fn push_token(alloc: Global, out: &mut Vec<u8>, token: &Token) -> Result<(), AllocError> {
     match token {
         Token::Name(name) => out.extend_from_slice(name.bytes()),
-        Token::Digits(n) => push_number(alloc, out, ("", u32::from(*n), "")),
-        Token::Number(n) => push_number(alloc, out, ("#", *n, "")),
-        Token::Local { number, direction } => {
-            push_number(alloc, out, ("", u32::from(*number), letter(direction)))
-        }
-        Token::Character(b) => push_number(alloc, out, ("'", u32::from(*b), "")),
         Token::Text(text) => {
             out.extend_from_slice(b"\"")?;
             text.append_to(out)
         }
-        Token::Comma => out.extend_from_slice(b","),
-        Token::Open => out.extend_from_slice(b"("),
-        Token::Close => out.extend_from_slice(b")"),
-        Token::Plus => out.extend_from_slice(b"+"),
-        Token::Minus => out.extend_from_slice(b"-"),
-        Token::Colon => out.extend_from_slice(b":"),
-        Token::At => out.extend_from_slice(b"@"),
-        Token::High => out.extend_from_slice(b"%hi"),
-        Token::Low => out.extend_from_slice(b"%lo"),
+        _ => push_other(alloc, out, token),
     }
 }
 
@@ -55,27 +64,30 @@ fn tokens(alloc: Global, line: &[u8]) -> Result<Vec<Token>, LineFault> {
     cut_line(alloc, line)
 }
 
-/// Returns tokens as a text, each with a blank before it.
-fn text_of(alloc: Global, tokens: &[Token]) -> Result<Vec<u8>, AllocError> {
-    let mut out = Vec::new(alloc);
+/// Returns the tokens of a line that has no fault.
+fn tokens_of<'a>(rt: &impl Abort, alloc: Global, line: &'a [u8]) -> Vec<Token<'a>> {
+    tokens(alloc, line).expect(rt, "a line is refused")
+}
+
+/// Appends tokens, each with a blank before it.
+fn push_tokens(alloc: Global, out: &mut Vec<u8>, tokens: &[Token]) -> Result<(), AllocError> {
     for token in tokens {
         out.extend_from_slice(b" ")?;
-        push_token(alloc, &mut out, token)?;
+        push_token(alloc, out, token)?;
     }
-    Ok(out)
+    Ok(())
 }
 
 /// Whether tokens have this text.
-fn have_text(alloc: Global, tokens: &[Token], text: &[u8]) -> Result<bool, AllocError> {
-    let found = text_of(alloc, tokens)?;
-    Ok(found.as_slice() == text)
+fn have_text(alloc: Global, tokens: &[Token], text: &[u8]) -> bool {
+    let mut out = Vec::new(alloc);
+    push_tokens(alloc, &mut out, tokens).is_ok() && out.as_slice() == text
 }
 
 /// Checks the tokens of a line, each with a blank before it.
-fn check(rt: &impl Abort, alloc: Global, line: &[u8], expected: &[u8]) -> Result<(), Fail> {
-    let tokens = tokens(alloc, line).ok().ok_or("a line is refused")?;
-    assert!(rt; have_text(alloc, tokens.as_slice(), expected)?);
-    Ok(())
+fn check(rt: &impl Abort, alloc: Global, line: &[u8], expected: &[u8]) {
+    let tokens = tokens_of(rt, alloc, line);
+    assert!(rt; have_text(alloc, tokens.as_slice(), expected));
 }
 
 /// Checks the fault of a line.
@@ -84,16 +96,18 @@ fn check_fault(rt: &impl Abort, alloc: Global, line: &[u8], fault: LineFault) {
 }
 
 /// Checks each pair of lines of the text: the second has the tokens of the first.
-fn check_each(rt: &impl Abort, alloc: Global, text: &[u8]) -> Result<(), Fail> {
-    let mut lines = cut_lines(text);
-    for _ in 0..text.len() {
-        let Some(line) = lines.next() else {
-            return Ok(());
-        };
-        let expected = lines.next().ok_or("a line without its tokens")?;
-        check(rt, alloc, line, expected)?;
+fn check_each(rt: &impl Abort, alloc: Global, text: &[u8]) {
+    let mut before: Option<&[u8]> = None;
+    for line in cut_lines(text) {
+        match before {
+            Some(first) => {
+                check(rt, alloc, first, line);
+                before = None;
+            }
+            None => before = Some(line),
+        }
     }
-    Ok(())
+    assert!(rt; before.is_none());
 }
 
 /// Checks that each line of the text has this fault.
@@ -285,12 +299,12 @@ static TOKENS: [&[u8]; 7] = [
 ];
 
 #[test]
-fn lines_have_their_tokens(rt: HostRuntime) -> Result<(), Fail> {
+fn lines_have_their_tokens(rt: HostRuntime) {
     for text in TOKENS.iter() {
-        check_each(&rt, rt.alloc(), text)?;
+        check_each(&rt, rt.alloc(), text);
     }
-    check(&rt, rt.alloc(), br#""\n\t\\\"\'""#, b" \"\n\t\\\"'")?;
-    check(&rt, rt.alloc(), b"# all \x80\x00\r", b"")
+    check(&rt, rt.alloc(), br#""\n\t\\\"\'""#, b" \"\n\t\\\"'");
+    check(&rt, rt.alloc(), b"# all \x80\x00\r", b"");
 }
 
 /// Lines that are refused, each text for one fault.
@@ -314,59 +328,64 @@ fn lines_are_refused(rt: HostRuntime) {
 }
 
 /// Returns a line that has the same byte `length` times.
-fn long_line(alloc: Global, byte: u8, length: usize) -> Result<Vec<u8>, AllocError> {
-    let mut line = Vec::new(alloc);
-    for _ in 0..length {
-        line.push(byte)?;
-    }
-    Ok(line)
+fn long_line(rt: &impl Abort, alloc: Global, byte: u8, length: usize) -> Vec<u8> {
+    let line = vec![in alloc; byte; length];
+    line.expect(rt, "no memory")
 }
 
 /// Checks that a line of 1025 such bytes is refused, whatever byte it is.
-fn check_too_long(rt: &impl Abort, alloc: Global, byte: u8) -> Result<(), Fail> {
-    let line = long_line(alloc, byte, 1025)?;
+fn check_too_long(rt: &impl Abort, alloc: Global, byte: u8) {
+    let line = long_line(rt, alloc, byte, 1025);
     check_fault(rt, alloc, line.as_slice(), LineFault::LineTooLong);
-    Ok(())
 }
 
 #[test]
-fn a_line_has_at_most_1024_bytes(rt: HostRuntime) -> Result<(), Fail> {
-    let alloc = rt.alloc();
-    check(&rt, alloc, long_line(alloc, b'#', 1024)?.as_slice(), b"")?;
-    check_too_long(&rt, alloc, b' ')?;
-    check_too_long(&rt, alloc, b'#')?;
-    check_too_long(&rt, alloc, 0x80)
-}
-
-#[test]
-fn a_line_has_up_to_1024_tokens(rt: HostRuntime) -> Result<(), Fail> {
-    let line = long_line(rt.alloc(), b',', 1024)?;
-    let commas = tokens(rt.alloc(), line.as_slice());
-    let commas = commas.ok().ok_or("the line is refused")?;
-    assert!(rt; commas.len() == 1024);
-    Ok(())
-}
-
-/// Returns where a token stands. It has no contract, as `tokens`.
-fn place(line: &[u8], index: usize) -> Option<Place> {
-    place_of(line, index)
-}
-
-/// Returns the column and the length of each token of a line, with a blank before them.
-fn places(alloc: Global, line: &[u8]) -> Result<Vec<u8>, AllocError> {
-    let mut out = Vec::new(alloc);
-    for index in 0..line.len() {
-        if let Some(Place { column, len }) = place(line, index) {
-            out.extend_from_slice(format!(in alloc; " {column}+{len}")?.as_bytes())?;
-        }
+fn a_line_has_at_most_1024_bytes(rt: HostRuntime) {
+    let longest = long_line(&rt, rt.alloc(), b'#', 1024);
+    check(&rt, rt.alloc(), longest.as_slice(), b"");
+    for byte in [b' ', b'#', 0x80] {
+        check_too_long(&rt, rt.alloc(), byte);
     }
-    Ok(out)
+}
+
+/// Returns the number of tokens of a line that has no fault.
+fn count_tokens(rt: &impl Abort, alloc: Global, line: &[u8]) -> usize {
+    tokens_of(rt, alloc, line).len()
 }
 
 #[test]
-fn tokens_stand_in_their_columns(rt: HostRuntime) -> Result<(), Fail> {
-    let seen = places(rt.alloc(), b"x:\taddi a0, a1,%lo(\"y z\") # c")?;
-    let columns = b" 0+1 1+1 3+4 8+2 10+1 12+2 14+1 15+3 18+1 19+5 24+1";
-    assert!(rt; seen.as_slice() == columns.as_slice());
-    Ok(())
+fn a_line_has_up_to_1024_tokens(rt: HostRuntime) {
+    let line = long_line(&rt, rt.alloc(), b',', 1024);
+    assert!(rt; count_tokens(&rt, rt.alloc(), line.as_slice()) == 1024);
+}
+
+/// Returns the column and the length of a token. It has no contract, as `tokens`.
+fn place(line: &[u8], index: usize) -> Option<(usize, usize)> {
+    let Place { column, len } = place_of(line, index)?;
+    Some((column, len))
+}
+
+/// A line.
+const PLACED: &[u8] = b"x:\taddi a0, a1,%lo(\"y z\") # c";
+
+/// The column and the length of each of its tokens.
+static PLACES: [(usize, usize); 11] = [
+    (0, 1),
+    (1, 1),
+    (3, 4),
+    (8, 2),
+    (10, 1),
+    (12, 2),
+    (14, 1),
+    (15, 3),
+    (18, 1),
+    (19, 5),
+    (24, 1),
+];
+
+#[test]
+fn tokens_stand_in_their_columns(rt: HostRuntime) {
+    for index in 0..PLACED.len() {
+        assert!(rt; place(PLACED, index) == PLACES.get(index).copied());
+    }
 }
