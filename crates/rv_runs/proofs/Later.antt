@@ -21,7 +21,7 @@ use Rattle.rv_recording.specs.declared.until.End.TheVariants.{Breakpoint, Halted
 use Rattle.rv_recording.specs.declared.until.Watched.{Watched}
 use Rattle.rv_runs.specs.Ends.{Stops, goal_after, guarded_ends, guards_after, plain_ends, run_ends}
 use Rattle.rv_runs.specs.Guards.{counted, counted_by, end_here, hits, is_break, is_hit, is_met, passing, stops}
-use Rattle.rv_runs.specs.Marks.{is_mark, is_marked, mark_ends}
+use Rattle.rv_runs.specs.Marks.{is_marked}
 use Rattle.rv_runs.specs.Support.Plain.{watched_ends}
 use Rattle.rv_runs.specs.Watches.{changes_at, differs, watching}
 use Rattle.rv_runs.specs.declared.goal.Goal.{Goal}
@@ -231,14 +231,6 @@ module _ (s : SessionState) (k : ℕ) (h : IsInTime s.timed) where
       ap (λ n. is_marked ms n (after mid.timed (suc j)).board) (open_later calls (suc j))
       ∙ ap (λ (t : TimedState). is_marked ms (open_at calls s.timed (k + suc j)) t.board) (later (suc j))
 
-  -- why the rest of a run up to a mark is over
-  pub mark_later : (ms : List ℕ) (calls : ℕ) → is_some (mark_ends ms calls s k) ≡ false → (i : ℕ)
-      → mark_ends ms (open_at calls s.timed k) mid i ≡ mark_ends ms calls s (k + i)
-  mark_later ms calls e i =
-      rest_is (λ n. is_marked ms (open_at calls s.timed n) (after s.timed n).board)
-      (λ n. is_marked ms (open_at (open_at calls s.timed k) mid.timed n) (after mid.timed n).board)
-      s.breakpoints.addresses (marked_later ms calls) e i
-
   -- why the rest of a run would be over without guards, after its first step
   plain_later : (ms : List ℕ) (g : Goal) (j : ℕ)
       → plain_ends ms (goal_after g s.timed k) mid (suc j) ≡ plain_ends ms g s (k + suc j)
@@ -304,15 +296,9 @@ module _ (s : SessionState) (k : ℕ) (h : IsInTime s.timed) where
       → run_ends (stops_after st g s k) (goal_after g s.timed k) mid i ≡ run_ends st g s (k + i)
   ends_later st goal.Count e i = guarded_later st.marks st.guards goal.Count e i
   ends_later st goal.Trace e i = guarded_later st.marks st.guards goal.Trace e i
-  ends_later st goal.Break e i = watched_later st goal.Break e i
-  ends_later st (goal.Out calls line) e i = watched_later st (goal.Out calls line) e i
-  ends_later st (goal.Mark calls) e i = watched_later st (goal.Mark calls) e i
-  ends_later st (goal.Until c) e i = watched_later st (goal.Until c) e i
+  ends_later st g e i = watched_later st g e i
 
   pub goal_later : (g : Goal) (i : ℕ) → goal_after (goal_after g s.timed k) mid.timed i ≡ goal_after g s.timed (k + i)
-  goal_later goal.Count i = refl
-  goal_later goal.Trace i = refl
-  goal_later goal.Break i = refl
   goal_later (goal.Out calls line) i = ap (λ n. goal.Out n line) (open_later calls i)
   goal_later (goal.Mark calls) i = ap goal.Mark (open_later calls i)
-  goal_later (goal.Until c) i = refl
+  goal_later _ i = refl

@@ -1,21 +1,19 @@
--- Runs up to a mark, past the other places out of calls.
-use Rattle.std.proofs.Common.{◌≡◌, ◌∙◌, ℕ, ◌+◌, ◌-◌, ◌<◌, Bool, true, false, List, refl, sym, ap, arith}
+-- Runs without guards by those that heed no mark.
+use Rattle.std.proofs.Common.{◌≡◌, ◌∙◌, ℕ, Bool, true, false, List, refl, ap}
 use Rattle.std.specs.FinSet as set
 use Rattle.std.specs.Prelude.{◌&&◌, nat_lt, if◌then◌else◌, option_and_then, Option, Some, None}
 use Rattle.rv_board.specs.Support.State.{halted_of, pc_of}
-use Rattle.rv_monitor.specs.State.{IsInTime, SessionState, after}
-use Rattle.rv_monitor.specs.Stops.{steps_between}
+use Rattle.rv_monitor.specs.State.{SessionState, after}
 use Rattle.rv_recording.specs.Out.{is_out, open_at, out_ends}
-use Rattle.rv_recording.specs.Recording.{RecordingState}
-use Rattle.rv_recording.specs.Refused.{IsRefusedIn, NoneEnds}
-use Rattle.rv_recording.specs.Until.{HasRun, steps_of}
+use Rattle.rv_recording.specs.Refused.{NoneEnds}
 use Rattle.rv_recording.specs.declared.until.End.{End}
 use Rattle.rv_recording.specs.declared.until.End.TheVariants.{Halted, Reached, Breakpoint, Limit, Stuck}
+use Rattle.rv_runs.specs.Ends.{plain_ends}
 use Rattle.rv_runs.specs.Marks.{is_mark, is_marked, mark_ends}
-use Rattle.rv_runs.specs.Support.Plain.{mark_here}
-use Rattle.rv_runs.proofs.Later.{end_is, mark_later, open_later, taken_after}
-use Rattle.rv_runs.proofs.Parts.{Rests, aims_at, taken_due}
-use Rattle.rv_runs.proofs.Sifting.{Sifts, fewer, goes_on, is_over, is_refused}
+use Rattle.rv_runs.specs.Support.Plain.{bare_ends, mark_here, plain_here}
+use Rattle.rv_runs.specs.declared.goal.Goal.{Goal}
+use Rattle.rv_runs.specs.declared.goal.Goal.TheVariants as goal
+use Rattle.rv_runs.proofs.Later.{end_is}
 
 -- ---- the ends of a run up to a mark by those of one out of its calls
 
@@ -46,15 +44,6 @@ here_is ms t (Some Breakpoint) = refl
 here_is ms t (Some Limit) = refl
 here_is ms t (Some Stuck) = refl
 
-abbrev pub bare_out : List ℕ → ℕ → SessionState → ℕ → Option End
-bare_out ms calls s = out_ends calls None s
-
-abbrev pub open_after_steps : ℕ → SessionState → ℕ → ℕ
-open_after_steps calls s n = open_at calls s.timed n
-
-abbrev pub here_of : List ℕ → ℕ → SessionState → End → Option End
-here_of ms calls s end = mark_here ms s end
-
 mark_at : (ms : List ℕ) (calls : ℕ) (s : SessionState) (n : ℕ)
     → mark_ends ms calls s n ≡ option_and_then (mark_here ms (record s { timed = after s.timed n })) (out_ends calls None s n)
 unfolding is_marked
@@ -64,64 +53,33 @@ mark_at ms calls s n =
     (set.contains s.breakpoints.addresses (pc_of b)) (nat_lt (after s.timed n).taken s.limit)
     ∙ here_is ms (record s { timed = after s.timed n }) (out_ends calls None s n)
 
-mark_law : (ms : List ℕ) → Sifts ℕ (mark_ends ms) (bare_out ms) open_after_steps (here_of ms)
-mark_law ms = record {
-  at = λ calls s n none. mark_at ms calls s n;
-  limit = λ calls s. refl;
-  first = λ calls s. refl;
-  rest = λ calls s k h e i. mark_later s k h ms calls e i;
-  aims = λ calls s k h i. open_later s k h calls i;
-}
+-- ---- the ends of a run without guards by those of one that heeds no mark
 
--- ---- a part of a run
+kept : (o : Option End) → o ≡ option_and_then (λ end. Some end) o
+kept None = refl
+kept (Some end) = refl
 
-module _ (ms : List ℕ) (c0 : ℕ) (r0 : RecordingState) (most : ℕ) (c : ℕ) (r : RecordingState) (left : ℕ)
-    (before : Rests ℕ (mark_ends ms) open_after_steps c0 r0 most c r left) where
-  pub mark_over : (t s : SessionState) (end said : End) (o : Option End) → HasRun (out_ends c None r.session) left r.session t end
-      → s ≡ t → o ≡ mark_here ms s end → o ≡ Some said → HasRun (mark_ends ms c0 r0.session) most r0.session t said
-  mark_over = is_over ℕ (mark_ends ms) (bare_out ms) open_after_steps (here_of ms) (mark_law ms) c0 r0 most c r left before
+pub plain_at : (ms : List ℕ) (g : Goal) (s : SessionState) (n : ℕ)
+    → plain_ends ms g s n ≡ option_and_then (plain_here ms g (record s { timed = after s.timed n })) (bare_ends g s n)
+plain_at ms (goal.Mark calls) s n = mark_at ms calls s n
+plain_at ms _ s n = kept _
 
-  pub mark_refused : (t : SessionState) → IsRefusedIn (out_ends c None r.session) left r.session t
-      → IsRefusedIn (mark_ends ms c0 r0.session) most r0.session t
-  mark_refused = is_refused ℕ (mark_ends ms) (bare_out ms) open_after_steps (here_of ms) (mark_law ms) c0 r0 most c r left before
+pub plain_none : (ms : List ℕ) (g : Goal) (s : SessionState) (n : ℕ) → NoneEnds (bare_ends g s) n
+    → NoneEnds (plain_ends ms g s) n
+plain_none ms g s n none i l =
+    plain_at ms g s i ∙ ap (option_and_then (plain_here ms g (record s { timed = after s.timed i }))) (none i l)
 
-  pub calls_by : (k d : ℕ) (t : SessionState) → t.timed.taken ≡ r.session.timed.taken + k
-      → d ≡ open_at c r.session.timed (steps_between r.session.timed t.timed)
-      → d ≡ open_at c0 r0.session.timed (steps_between r0.session.timed t.timed)
-  calls_by k d t took e =
-      let between : steps_between r.session.timed t.timed ≡ k = omega (arith, took) in
-      aims_at ℕ (mark_ends ms) open_after_steps c0 r0 most c r left before k d t took
-      (e ∙ ap (open_at c r.session.timed) between)
+-- before the first step none is over that didn't halt, and may go on
+pub plain_first : (ms : List ℕ) (g : Goal) (s : SessionState)
+    → plain_ends ms g s 0 ≡ end_is (halted_of (after s.timed 0).board) false false (nat_lt (after s.timed 0).taken s.limit)
+plain_first ms goal.Count s = refl
+plain_first ms _ s = refl
 
-  pub refused_calls : (d : ℕ) (t : SessionState) → IsRefusedIn (out_ends c None r.session) left r.session t
-      → d ≡ open_at c r.session.timed (steps_between r.session.timed t.timed)
-      → d ≡ open_at c0 r0.session.timed (steps_between r0.session.timed t.timed)
-  refused_calls d t out e =
-      let j = steps_between r.session.timed t.timed in
-      calls_by j d t (ap (λ (u : SessionState). u.timed.taken) out.state
-      ∙ (taken_due (after r.session.timed j) ∙ taken_after r.session.timed j)) e
+pub bare_first : (ms : List ℕ) (g : Goal) (s : SessionState) → plain_ends ms g s 0 ≡ bare_ends g s 0
+bare_first ms (goal.Mark calls) s = refl
+bare_first ms _ s = refl
 
-  module _ (q : RecordingState) (end : End) (run : HasRun (out_ends c None r.session) left r.session q.session end) (d : ℕ)
-      (calls : d ≡ open_at c r.session.timed (steps_between r.session.timed q.session.timed)) where
-    abbrev n : ℕ
-    n = steps_of (out_ends c None r.session) left
-
-    took : q.session.timed.taken ≡ r.session.timed.taken + n
-    took = ap (λ (u : SessionState). u.timed.taken) run.state ∙ taken_after r.session.timed n
-
-    pub mark_calls : d ≡ open_at c0 r0.session.timed (steps_between r0.session.timed q.session.timed)
-    mark_calls = calls_by n d q.session took calls
-
-    module _ (s : SessionState) (stands : s ≡ q.session) (o : Option End) (is : o ≡ mark_here ms s end) (none : o ≡ None)
-        (was now x less : ℕ) (first : was ≡ r.session.timed.taken) (last : now ≡ q.session.timed.taken)
-        (done : x ≡ now - was) (fewer_is : less ≡ left - x) where
-      pub mark_fewer : less < left
-      mark_fewer =
-          fewer ℕ (mark_ends ms) (bare_out ms) open_after_steps (here_of ms) (mark_law ms) c0 r0 most c r left before q s end o
-          run stands is none was now x less first last done fewer_is
-
-      pub mark_on : q ≡ record r { session = q.session } → Rests ℕ (mark_ends ms) open_after_steps c0 r0 most d q less
-      mark_on others =
-          let between : steps_between r.session.timed q.session.timed ≡ n = omega (arith, took) in
-          goes_on ℕ (mark_ends ms) (bare_out ms) open_after_steps (here_of ms) (mark_law ms) c0 r0 most c r left before q s end
-          o run stands is none was now x less first last done fewer_is d (calls ∙ ap (open_at c r.session.timed) between) others
+-- one that took all of its steps is over in no place
+pub limit_here : (ms : List ℕ) (g : Goal) (s : SessionState) → plain_here ms g s Limit ≡ Some Limit
+limit_here ms (goal.Mark calls) s = refl
+limit_here ms _ s = refl

@@ -1,6 +1,8 @@
 -- Runs by their parts: what is left of a run makes it whole.
 use Rattle.std.proofs.Common.{◌≡◌, ◌∙◌, ℕ, ◌+◌, ◌-◌, ◌≤◌, false, refl, sym, ap, subst, arith}
-use Rattle.std.specs.Prelude.{is_some, unwrap_or, OnErr, Option, None, Result, Ok, Err}
+use Rattle.std.proofs.lemmas.Bool.{false≢true}
+use Rattle.std.specs.Prelude.{is_some, unwrap_or, IfOk, IsErr, OnErr, Option, None, Result, Ok, Err}
+use Rattle.rv_base.specs.declared.memory.NoMemory.{NoMemory}
 use Rattle.rv_monitor.specs.State.{IsInTime, SessionState, TimedState, after, with_due}
 use Rattle.rv_monitor.specs.Stops.{steps_between}
 use Rattle.rv_monitor.proofs.Steps.{after_more, in_time_after}
@@ -10,6 +12,7 @@ use Rattle.rv_recording.specs.Until.{HasRun, steps_of}
 use Rattle.rv_recording.specs.declared.until.End.{End}
 use Rattle.rv_recording.specs.declared.until.End.TheVariants.{Limit}
 use Rattle.rv_recording.proofs.Counting.{all_steps, joins, same_steps}
+use Rattle.rv_runs.specs.Support.Plain.{Ran}
 use Rattle.rv_runs.proofs.Later.{taken_after}
 
 pub taken_due : (s : TimedState) → (with_due s).taken ≡ s.taken
@@ -19,6 +22,10 @@ taken_due s = refl
 pub on_err : {A E : Type 0} (r : Result A E) (P : Type 0) → P → OnErr r P
 on_err (Ok a) P p = tt
 on_err (Err e) P p = p
+
+if_err : {A E : Type 0} (r : Result A E) (P : A → Type 0) → IsErr r → IfOk r P
+if_err (Ok a) P is = absurd (false≢true is)
+if_err (Err e) P is = tt
 
 -- ---- the first steps of a run, which isn't over after them, and the rest
 
@@ -61,7 +68,7 @@ module _ (full rest : ℕ → Option End) (s : SessionState) (m k : ℕ) (h : Is
 -- ---- the whole run
 
 -- what is left of a run makes it whole, by why it is over from a session on, and by what it goes on with after some steps
-pub record Rests (A : Type 0) (ends : A → SessionState → ℕ → Option End) (later : A → SessionState → ℕ → A) (a0 : A)
+pub record Rests {A : Type 0} (ends : A → SessionState → ℕ → Option End) (later : A → SessionState → ℕ → A) (a0 : A)
     (r0 : RecordingState) (most : ℕ) (a : A) (r : RecordingState) (left : ℕ) : Type 0 where
   pub in_time : IsInTime r.session.timed
   pub others : r ≡ record r0 { session = r.session }
@@ -75,7 +82,7 @@ pub record Rests (A : Type 0) (ends : A → SessionState → ℕ → Option End)
 
 pub begins : (A : Type 0) (ends : A → SessionState → ℕ → Option End) (later : A → SessionState → ℕ → A) (a : A)
     (r : RecordingState) (most : ℕ) (s : SessionState) → s ≡ r.session → IsInTime s.timed
-    → Rests A ends later a r most a r most
+    → Rests ends later a r most a r most
 begins A ends later a r most s e h = record {
   in_time = subst (λ (x : SessionState). IsInTime x.timed) e h;
   others = refl;
@@ -90,21 +97,47 @@ begins A ends later a r most s e h = record {
     none_more n =
         let same : n ≡ steps_between r.session.timed r.session.timed + n = omega arith in ap (later a r.session) same
 
-module _ (A : Type 0) (ends : A → SessionState → ℕ → Option End) (later : A → SessionState → ℕ → A) (a0 : A)
-    (r0 : RecordingState) (most : ℕ) (a : A) (r : RecordingState) (left : ℕ)
-    (before : Rests A ends later a0 r0 most a r left) where
-  pub others_still : (q : RecordingState) → q ≡ record r { session = q.session } → q ≡ record r0 { session = q.session }
+module _ {A : Type 0} {ends : A → SessionState → ℕ → Option End} {later : A → SessionState → ℕ → A} {a0 : A}
+    {r0 : RecordingState} {most : ℕ} {a : A} {r : RecordingState} {left : ℕ} (before : Rests ends later a0 r0 most a r left) where
+  others_still : (q : RecordingState) → q ≡ record r { session = q.session } → q ≡ record r0 { session = q.session }
   others_still q e = e ∙ ap (λ (x : RecordingState). record x { session = q.session }) before.others
 
-  -- what it goes on with after k steps
-  pub aims_at : (k : ℕ) (b : A) (t : SessionState) → t.timed.taken ≡ r.session.timed.taken + k → b ≡ later a r.session k
+  -- what it goes on with after the steps to a later session
+  aims_at : (b : A) (t : SessionState) → r.session.timed.taken ≤ t.timed.taken
+      → b ≡ later a r.session (steps_between r.session.timed t.timed)
       → b ≡ later a0 r0.session (steps_between r0.session.timed t.timed)
-  aims_at k b t took e =
-      let all : steps_between r0.session.timed r.session.timed + k ≡ steps_between r0.session.timed t.timed =
-      omega (arith, before.rises, took) in
-      e ∙ (before.aims k ∙ ap (later a0 r0.session) all)
+  aims_at b t rises e =
+      let all : steps_between r0.session.timed r.session.timed + steps_between r.session.timed t.timed
+      ≡ steps_between r0.session.timed t.timed = omega (arith, before.rises, rises) in
+      e ∙ (before.aims (steps_between r.session.timed t.timed) ∙ ap (later a0 r0.session) all)
 
-  -- it isn't over after them
+  -- it is over after them, or memory runs out
+  module _ {b : A} {q : RecordingState} (aim : b ≡ later a r.session (steps_between r.session.timed q.session.timed))
+      (others : q ≡ record r { session = q.session }) where
+    pub over_with : (end : End) → HasRun (ends a r.session) left r.session q.session end
+        → Ran ends later most a0 b r0 q (Ok end)
+    over_with end run =
+        let took = ap (λ (u : SessionState). u.timed.taken) run.state in record {
+          ok = before.ran q.session end run;
+          err = tt;
+          aim = aims_at b q.session
+              (omega (arith, took, taken_after r.session.timed (steps_of (ends a r.session) left))) aim;
+          others = others_still q others;
+        }
+
+    pub short_with : (result : Result End NoMemory) → IsErr result
+        → IsRefusedIn (ends a r.session) left r.session q.session → Ran ends later most a0 b r0 q result
+    short_with result is out =
+        let k = steps_between r.session.timed q.session.timed in
+        let took = ap (λ (u : SessionState). u.timed.taken) out.state in record {
+          ok = if_err result (HasRun (ends a0 r0.session) most r0.session q.session) is;
+          err = on_err result (IsRefusedIn (ends a0 r0.session) most r0.session q.session) (before.refused q.session out);
+          aim = aims_at b q.session
+              (omega (arith, took, taken_due (after r.session.timed k), taken_after r.session.timed k)) aim;
+          others = others_still q others;
+        }
+
+  -- it isn't over after some
   module _ (k : ℕ) (within : k ≤ left) (none : NoneEnds (ends a r.session) k) (here : ends a r.session k ≡ None) where
     abbrev landing : SessionState
     landing = record r.session { timed = after r.session.timed k }
@@ -114,7 +147,7 @@ module _ (A : Type 0) (ends : A → SessionState → ℕ → Option End) (later 
       abbrev further : RecordingState
       further = record r { session = landing }
 
-      goes : Rests A ends later a0 r0 most (later a r.session k) further (left - k)
+      goes : Rests ends later a0 r0 most (later a r.session k) further (left - k)
       goes = record {
         in_time = in_time_after r.session.timed k before.in_time;
         others = ap (λ (x : RecordingState). record x { session = landing }) before.others;
@@ -134,10 +167,14 @@ module _ (A : Type 0) (ends : A → SessionState → ℕ → Option End) (later 
               omega (arith, before.rises, taken_after r.session.timed k) in
               aims i ∙ (before.aims (k + i) ∙ ap (later a0 r0.session) all)
 
-      pub goes_at : (q : RecordingState) (b : A) (less : ℕ) → q.session ≡ landing → b ≡ later a r.session k
-          → q ≡ record r { session = q.session } → less ≡ left - k → Rests A ends later a0 r0 most b q less
+      pub goes_at : (q : RecordingState) (b : A) (less : ℕ) → q.session ≡ landing
+          → b ≡ later a r.session (steps_between r.session.timed q.session.timed)
+          → q ≡ record r { session = q.session } → less ≡ left - k → Rests ends later a0 r0 most b q less
       goes_at q b less is aim others less_is =
+          let took = ap (λ (u : SessionState). u.timed.taken) is in
+          let between : steps_between r.session.timed q.session.timed ≡ k =
+          omega (arith, took, taken_after r.session.timed k) in
           let q_is : q ≡ further = others ∙ ap (λ (u : SessionState). record r { session = u }) is in
-          subst (λ (x : A). Rests A ends later a0 r0 most x q less) (sym aim)
-          (subst (λ (x : RecordingState). Rests A ends later a0 r0 most (later a r.session k) x less) (sym q_is)
-          (subst (λ (i : ℕ). Rests A ends later a0 r0 most (later a r.session k) further i) (sym less_is) goes))
+          subst (λ (x : A). Rests ends later a0 r0 most x q less) (sym (aim ∙ ap (later a r.session) between))
+          (subst (λ (x : RecordingState). Rests ends later a0 r0 most (later a r.session k) x less) (sym q_is)
+          (subst (λ (i : ℕ). Rests ends later a0 r0 most (later a r.session k) further i) (sym less_is) goes))

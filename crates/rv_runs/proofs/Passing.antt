@@ -1,28 +1,28 @@
--- Runs past the breakpoints that don't stop them.
-use Rattle.std.proofs.Common.{◌≡◌, ◌∙◌, ℕ, zero, suc, ◌+◌, ◌-◌, ◌<◌, ◌≤◌, Bool, true, false, List, [], ◌∷◌, refl, sym, ap, subst, arith, ⊎_elim}
-use Rattle.std.proofs.lemmas.Bool.{cases_lt, false≢true}
+-- Runs past the breakpoints that don't stop them, and past the places that are no marks.
+use Rattle.std.proofs.Common.{◌≡◌, ◌∙◌, ℕ, zero, suc, ◌+◌, ◌-◌, ◌<◌, Bool, true, false, List, [], ◌∷◌, refl, sym, ap, arith}
+use Rattle.std.proofs.lemmas.Bool.{false≢true}
 use Rattle.std.specs.FinSet as set
-use Rattle.std.specs.Prelude.{◌&&◌, map, nat_lt, pred, is_some, if◌then◌else◌, option_and_then, unwrap_or, Option, Some, None}
-use Rattle.rv_board.specs.BoardState.{BoardState}
+use Rattle.std.specs.Prelude.{◌&&◌, map, nat_lt, pred, if◌then◌else◌, option_and_then, unwrap_or, Option, Some, None, Ok, Err}
+use Rattle.std.specs.Option.{option_map_or}
+use Rattle.rv_base.specs.declared.memory.NoMemory.{NoMemory}
 use Rattle.rv_board.specs.Support.State.{halted_of, pc_of}
-use Rattle.rv_monitor.specs.State.{IsInTime, SessionState, TimedState, after, with_due}
+use Rattle.rv_monitor.specs.State.{IsInTime, SessionState, after}
 use Rattle.rv_monitor.specs.Stops.{steps_between}
 use Rattle.rv_monitor.proofs.Sets.{no_member}
 use Rattle.rv_recording.specs.Recording.{RecordingState}
-use Rattle.rv_recording.specs.Refused.{IsRefusedIn, NoneEnds}
-use Rattle.rv_recording.specs.Until.{HasRun, steps_of}
+use Rattle.rv_recording.specs.Refused.{NoneEnds}
+use Rattle.rv_recording.specs.Until.{steps_of}
 use Rattle.rv_recording.specs.declared.until.End.{End}
-use Rattle.rv_recording.specs.declared.until.End.TheVariants.{Halted, Reached, Breakpoint, Limit, Stuck}
-use Rattle.rv_recording.proofs.Counting.{steps_within}
-use Rattle.rv_runs.specs.Ends.{goal_after, guarded_ends, guards_after, plain_ends}
+use Rattle.rv_recording.specs.declared.until.End.TheVariants.{Breakpoint, Limit}
+use Rattle.rv_runs.specs.Ends.{guarded_ends, guards_after, plain_ends}
 use Rattle.rv_runs.specs.Guards.{counted, counted_by, end_here, hits, is_break, is_hit, is_met, passing}
-use Rattle.rv_runs.specs.Support.Plain.{hit_here, hit_once}
+use Rattle.rv_runs.specs.Support.Plain.{Aim, Ran, aim_after, bare_ends, goal_at, guards_here, hit_here, hit_once, past_ends, past_here, plain_here}
 use Rattle.rv_runs.specs.declared.goal.Goal.{Goal}
 use Rattle.rv_runs.specs.declared.goal.Goal.TheVariants as goal
 use Rattle.rv_runs.specs.declared.guard.Guard.{Guard}
 use Rattle.rv_runs.proofs.Later.{end_is, goal_later, guarded_later, guards_later, taken_after}
-use Rattle.rv_runs.proofs.Parts.{Rests, aims_at, taken_due}
-use Rattle.rv_runs.proofs.Sifting.{Sifts, fewer, goes_on, is_over, is_refused, none_before}
+use Rattle.rv_runs.proofs.Marking.{bare_first, limit_here, plain_at, plain_first, plain_none}
+use Rattle.rv_runs.proofs.Sifting.{Sifts, none_before}
 
 -- ---- the ends of a run by those of one without guards
 
@@ -47,10 +47,7 @@ is_passing : (ms : List ℕ) (gs : List Guard) (g : Goal) (s : SessionState) (n 
     → guarded_ends ms gs g s n ≡ passing gs s (plain_ends ms g s) n
 is_passing ms gs goal.Count s n = past_any ms gs s n
 is_passing ms gs goal.Trace s n = past_any ms gs s n
-is_passing ms gs goal.Break s n = refl
-is_passing ms gs (goal.Out calls line) s n = refl
-is_passing ms gs (goal.Mark calls) s n = refl
-is_passing ms gs (goal.Until c) s n = refl
+is_passing ms gs _ s n = refl
 
 -- none is a breakpoint before the first step
 first_by : (gs : List Guard) (t : SessionState) (h : Option ℕ) (l : Bool)
@@ -63,15 +60,6 @@ not_before : (h : Option ℕ) (l : Bool) → is_break (end_is h false false l) �
 not_before (Some code) l = refl
 not_before None true = refl
 not_before None false = refl
-
-plain_first : (ms : List ℕ) (g : Goal) (s : SessionState)
-    → plain_ends ms g s 0 ≡ end_is (halted_of (after s.timed 0).board) false false (nat_lt (after s.timed 0).taken s.limit)
-plain_first ms goal.Count s = refl
-plain_first ms goal.Trace s = refl
-plain_first ms goal.Break s = refl
-plain_first ms (goal.Out calls line) s = refl
-plain_first ms (goal.Mark calls) s = refl
-plain_first ms (goal.Until c) s = refl
 
 -- ---- the hits
 
@@ -146,24 +134,20 @@ module _ (s : SessionState) (ends : ℕ → Option End) where
       ∙ ap (λ (xs : List Guard). g ∷ xs) (no_hits_there gs n none e)
 
   -- the guards after the steps up to the first end
-  here_by : (gs hs : List Guard) (t : SessionState) (o : Option End) (end : End) → end ≡ unwrap_or o Limit
+  here_by : (gs hs : List Guard) (t : SessionState) (o : Option End)
       → (is_break o ≡ true → hs ≡ map (hit_once t.timed.board) gs) → (is_break o ≡ false → hs ≡ gs)
-      → hs ≡ hit_here gs t end
-  here_by gs hs t None end e is other = other refl ∙ ap (hit_here gs t) (sym e)
-  here_by gs hs t (Some Breakpoint) end e is other = is refl ∙ ap (hit_here gs t) (sym e)
-  here_by gs hs t (Some Halted) end e is other = other refl ∙ ap (hit_here gs t) (sym e)
-  here_by gs hs t (Some Reached) end e is other = other refl ∙ ap (hit_here gs t) (sym e)
-  here_by gs hs t (Some Limit) end e is other = other refl ∙ ap (hit_here gs t) (sym e)
-  here_by gs hs t (Some Stuck) end e is other = other refl ∙ ap (hit_here gs t) (sym e)
+      → hs ≡ option_map_or (hit_here gs t) o gs
+  here_by gs hs t (Some Breakpoint) is other = is refl
+  here_by gs hs t None is other = other refl
+  here_by gs hs t (Some _) is other = other refl
 
-  counted_here : (gs : List Guard) (n : ℕ) (end : End) → NoneEnds ends n → is_break (ends 0) ≡ false
-      → end ≡ unwrap_or (ends n) Limit
-      → counted gs s ends n ≡ hit_here gs (record s { timed = after s.timed n }) end
-  counted_here gs zero end none first e =
-      here_by gs (counted gs s ends 0) (record s { timed = after s.timed 0 }) (ends 0) end e
+  counted_here : (gs : List Guard) (n : ℕ) → NoneEnds ends n → is_break (ends 0) ≡ false
+      → counted gs s ends n ≡ option_map_or (hit_here gs (record s { timed = after s.timed n })) (ends n) gs
+  counted_here gs zero none first =
+      here_by gs (counted gs s ends 0) (record s { timed = after s.timed 0 }) (ends 0)
       (λ is. absurd (false≢true (sym first ∙ is))) (λ is. pred_same gs 0 none)
-  counted_here gs (suc n) end none first e =
-      here_by gs (counted gs s ends (suc n)) (record s { timed = after s.timed (suc n) }) (ends (suc n)) end e
+  counted_here gs (suc n) none first =
+      here_by gs (counted gs s ends (suc n)) (record s { timed = after s.timed (suc n) }) (ends (suc n))
       (hits_there gs n none) (no_hits_there gs n none)
 
 -- ---- steps past any breakpoint
@@ -189,24 +173,7 @@ traced_guards ms gs s n =
     (set.contains set.empty (pc_of (after s.timed i).board)) (halted_of (after s.timed i).board) (nat_lt 0 i)
     (nat_lt (after s.timed i).taken s.limit) (sym (no_member (pc_of (after s.timed i).board)))) n)
 
--- ---- the law of runs past breakpoints
-
--- what a run goes on with: the guards, and what it goes on for
-pub record Aim : Type 0 where
-  pub guards : List Guard
-  pub goal : Goal
-
-abbrev pub aim_after : List ℕ → Aim → SessionState → ℕ → Aim
-aim_after ms a s n = record { guards = guards_after ms a.guards a.goal s n; goal = goal_after a.goal s.timed n }
-
-abbrev pub past_ends : List ℕ → Aim → SessionState → ℕ → Option End
-past_ends ms a s = guarded_ends ms a.guards a.goal s
-
-abbrev pub bare_ends : List ℕ → Aim → SessionState → ℕ → Option End
-bare_ends ms a s = plain_ends ms a.goal s
-
-abbrev pub here_with : Aim → SessionState → End → Option End
-here_with a s end = end_here a.guards s end
+-- ---- the law of runs past breakpoints and places that are no marks
 
 pub aims_later : (ms : List ℕ) (a : Aim) (s : SessionState) (k : ℕ) → IsInTime s.timed → (i : ℕ)
     → aim_after ms (aim_after ms a s k) (record s { timed = after s.timed k }) i ≡ aim_after ms a s (k + i)
@@ -215,106 +182,114 @@ aims_later ms a s k h i =
     ap (λ (gs : List Guard). record later { guards = gs }) (guards_later s k h ms a.guards a.goal i)
     ∙ ap (λ (g : Goal). record (aim_after ms a s (k + i)) { goal = g }) (goal_later s k h a.goal i)
 
-past_at : (ms : List ℕ) (a : Aim) (s : SessionState) (n : ℕ) → NoneEnds (bare_ends ms a s) n
-    → past_ends ms a s n ≡ option_and_then (here_with a (record s { timed = after s.timed n })) (bare_ends ms a s n)
-past_at ms a s n none =
-    is_passing ms a.guards a.goal s n
-    ∙ ap (λ (gs : List Guard). option_and_then (end_here gs (record s { timed = after s.timed n })) (plain_ends ms a.goal s n))
-    (pred_same s (plain_ends ms a.goal s) a.guards n none)
+abbrev aim_bare : Aim → SessionState → ℕ → Option End
+aim_bare a s = bare_ends a.goal s
 
-past_first : (ms : List ℕ) (a : Aim) (s : SessionState) → past_ends ms a s 0 ≡ bare_ends ms a s 0
+in_turn : (f g : End → Option End) (o : Option End)
+    → option_and_then f (option_and_then g o) ≡ option_and_then (λ end. option_and_then f (g end)) o
+in_turn f g None = refl
+in_turn f g (Some end) = refl
+
+past_at : (ms : List ℕ) (a : Aim) (s : SessionState) (n : ℕ) → NoneEnds (aim_bare a s) n
+    → past_ends ms a s n ≡ option_and_then (past_here ms a (record s { timed = after s.timed n })) (aim_bare a s n)
+past_at ms a s n none =
+    let t : SessionState = record s { timed = after s.timed n } in
+    is_passing ms a.guards a.goal s n
+    ∙ (ap (λ (gs : List Guard). option_and_then (end_here gs t) (plain_ends ms a.goal s n))
+    (pred_same s (plain_ends ms a.goal s) a.guards n (plain_none ms a.goal s n none))
+    ∙ (ap (option_and_then (end_here a.guards t)) (plain_at ms a.goal s n)
+    ∙ in_turn (end_here a.guards t) (plain_here ms a.goal t) (bare_ends a.goal s n)))
+
+past_first : (ms : List ℕ) (a : Aim) (s : SessionState) → past_ends ms a s 0 ≡ aim_bare a s 0
 past_first ms a s =
     is_passing ms a.guards a.goal s 0
     ∙ (ap (option_and_then (end_here (counted a.guards s (plain_ends ms a.goal s) 0) (record s { timed = after s.timed 0 })))
     (plain_first ms a.goal s)
     ∙ (first_by (counted a.guards s (plain_ends ms a.goal s) 0) (record s { timed = after s.timed 0 })
     (halted_of (after s.timed 0).board) (nat_lt (after s.timed 0).taken s.limit)
-    ∙ sym (plain_first ms a.goal s)))
+    ∙ (sym (plain_first ms a.goal s) ∙ bare_first ms a.goal s)))
 
-past_law : (ms : List ℕ) → Sifts Aim (past_ends ms) (bare_ends ms) (aim_after ms) here_with
+pub past_law : (ms : List ℕ) → Sifts (past_ends ms) aim_bare (aim_after ms) (past_here ms)
 past_law ms = record {
   at = past_at ms;
-  limit = λ a s. refl;
+  limit = λ a s. ap (option_and_then (end_here a.guards s)) (limit_here ms a.goal s);
   first = past_first ms;
   rest = λ a s k h e i. guarded_later s k h ms a.guards a.goal e i;
   aims = aims_later ms;
 }
 
--- ---- a part of a run
+-- ---- what a part of a run goes on with after it
 
-module _ (ms : List ℕ) (a0 : Aim) (r0 : RecordingState) (most : ℕ) (gs : List Guard) (g : Goal) (r : RecordingState) (left : ℕ)
-    (before : Rests Aim (past_ends ms) (aim_after ms) a0 r0 most (record { guards = gs; goal = g }) r left) where
-  abbrev a : Aim
-  a = record { guards = gs; goal = g }
+-- the guards, by why it ended
+by_bare : (ms : List ℕ) (a : Aim) (t : SessionState) (o : Option End) (end : End) → end ≡ unwrap_or o Limit
+    → option_map_or (hit_here a.guards t) (option_and_then (plain_here ms a.goal t) o) a.guards ≡ guards_here ms a t end
+by_bare ms a t None end e =
+    ap (λ (x : Option End). option_map_or (hit_here a.guards t) x a.guards)
+    (sym (ap (plain_here ms a.goal t) e ∙ limit_here ms a.goal t))
+by_bare ms a t (Some x) end e = ap (guards_here ms a t) (sym e)
 
+guards_by : (ms : List ℕ) (a : Aim) (s : SessionState) (n : ℕ) (end : End) → NoneEnds (aim_bare a s) n
+    → end ≡ unwrap_or (aim_bare a s n) Limit
+    → guards_after ms a.guards a.goal s n ≡ guards_here ms a (record s { timed = after s.timed n }) end
+guards_by ms a s n end none e =
+    let t : SessionState = record s { timed = after s.timed n } in
+    let first : is_break (plain_ends ms a.goal s 0) ≡ false =
+    ap is_break (plain_first ms a.goal s) ∙ not_before (halted_of (after s.timed 0).board) _ in
+    counted_here s (plain_ends ms a.goal s) a.guards n (plain_none ms a.goal s n none) first
+    ∙ (ap (λ (o : Option End). option_map_or (hit_here a.guards t) o a.guards) (plain_at ms a.goal s n)
+    ∙ by_bare ms a t (bare_ends a.goal s n) end e)
+
+joined : (ms : List ℕ) (gs hs : List Guard) (g h : Goal) (s : SessionState) (k : ℕ) → hs ≡ guards_after ms gs g s k
+    → h ≡ goal_at g s k
+    → ◌≡◌ {A = Aim} (record { guards = hs; goal = h }) (aim_after ms (record { guards = gs; goal = g }) s k)
+joined ms gs hs g h s k counts aim =
+    ap (λ (x : List Guard). record { guards = x; goal = h }) counts
+    ∙ ap (λ (x : Goal). record { guards = guards_after ms gs g s k; goal = x }) aim
+
+-- what it goes on for after some steps heeds the same marks
+same_here : (ms : List ℕ) (g : Goal) (s : SessionState) (k : ℕ) → plain_here ms (goal_at g s k) ≡ plain_here ms g
+same_here ms (goal.Out calls line) s k = refl
+same_here ms (goal.Mark calls) s k = refl
+same_here ms _ s k = refl
+
+-- it came to an end
+module _ (ms : List ℕ) (gs : List Guard) {g h : Goal} {left : ℕ} {r q : RecordingState} {end : End}
+    (part : Ran bare_ends goal_at left g h r q (Ok end)) where
   abbrev n : ℕ
-  n = steps_of (plain_ends ms g r.session) left
+  n = steps_of (bare_ends g r.session) left
 
-  pub past_over : (t s : SessionState) (end said : End) (o : Option End) → HasRun (plain_ends ms g r.session) left r.session t end
-      → s ≡ t → o ≡ end_here gs s end → o ≡ Some said → HasRun (past_ends ms a0 r0.session) most r0.session t said
-  past_over = is_over Aim (past_ends ms) (bare_ends ms) (aim_after ms) here_with (past_law ms) a0 r0 most a r left before
+  same_marks : plain_here ms h ≡ plain_here ms g
+  same_marks =
+      ap (plain_here ms) part.aim ∙ same_here ms g r.session (steps_between r.session.timed q.session.timed)
 
-  pub past_refused : (t : SessionState) → IsRefusedIn (plain_ends ms g r.session) left r.session t
-      → IsRefusedIn (past_ends ms a0 r0.session) most r0.session t
-  past_refused = is_refused Aim (past_ends ms) (bare_ends ms) (aim_after ms) here_with (past_law ms) a0 r0 most a r left before
+  pub past_end : (s : SessionState) (o : Option End) → o ≡ past_here ms (record { guards = gs; goal = h }) s end
+      → o ≡ past_here ms (record { guards = gs; goal = g }) s end
+  past_end s o is =
+      is ∙ ap (λ (f : SessionState → End → Option End). option_and_then (end_here gs s) (f s end)) same_marks
 
-  -- the guards where memory ran out
-  pub refused_guards : (t : SessionState) → IsRefusedIn (plain_ends ms g r.session) left r.session t
-      → gs ≡ guards_after ms a0.guards a0.goal r0.session (steps_between r0.session.timed t.timed)
-  refused_guards t out =
-      let j = steps_between r.session.timed t.timed in
-      let took : t.timed.taken ≡ r.session.timed.taken + j =
-      ap (λ (u : SessionState). u.timed.taken) out.state
-      ∙ (taken_due (after r.session.timed j) ∙ taken_after r.session.timed j) in
-      let same : gs ≡ guards_after ms gs g r.session j =
-      sym (same_before r.session (plain_ends ms g r.session) gs n (none_before (plain_ends ms g r.session) left) j out.within) in
-      ap (λ (x : Aim). x.guards) (aims_at Aim (past_ends ms) (aim_after ms) a0 r0 most a r left before j
-      (record { guards = gs; goal = goal_after g r.session.timed j }) t took
-      (ap (λ (hs : List Guard). record { guards = hs; goal = goal_after g r.session.timed j }) same))
+  pub past_aim : (s : SessionState) → s ≡ q.session → (hs : List Guard)
+      → hs ≡ guards_here ms (record { guards = gs; goal = h }) s end
+      → ◌≡◌ {A = Aim} (record { guards = hs; goal = h }) (aim_after ms (record { guards = gs; goal = g }) r.session
+      (steps_between r.session.timed q.session.timed))
+  past_aim s stands hs counts =
+      let a : Aim = record { guards = gs; goal = g } in
+      let took : q.session.timed.taken ≡ r.session.timed.taken + n =
+      ap (λ (u : SessionState). u.timed.taken) part.ok.state ∙ taken_after r.session.timed n in
+      let between : n ≡ steps_between r.session.timed q.session.timed = omega (arith, took) in
+      joined ms gs hs g h r.session (steps_between r.session.timed q.session.timed)
+      (counts ∙ (ap (λ (f : SessionState → End → Option End). option_map_or (hit_here gs s) (f s end) gs) same_marks
+      ∙ (ap (λ (u : SessionState). guards_here ms a u end) (stands ∙ part.ok.state)
+      ∙ (sym (guards_by ms a r.session n end (none_before (bare_ends g r.session) left) part.ok.ended)
+      ∙ ap (guards_after ms gs g r.session) between)))) part.aim
 
-  -- what it goes on with after it
-  module _ (q : RecordingState) (s : SessionState) (end : End)
-      (run : HasRun (plain_ends ms g r.session) left r.session q.session end) (stands : s ≡ q.session)
-      (hs : List Guard) (h : Goal) (counts : hs ≡ hit_here gs s end)
-      (aim : h ≡ goal_after g r.session.timed (steps_between r.session.timed q.session.timed)) where
-    took : q.session.timed.taken ≡ r.session.timed.taken + n
-    took = ap (λ (u : SessionState). u.timed.taken) run.state ∙ taken_after r.session.timed n
-
-    next_is : ◌≡◌ {A = Aim} (record { guards = hs; goal = h }) (aim_after ms a r.session n)
-    next_is =
-        let between : steps_between r.session.timed q.session.timed ≡ n = omega (arith, took) in
-        let first : is_break (plain_ends ms g r.session 0) ≡ false =
-        ap is_break (plain_first ms g r.session) ∙ not_before (halted_of (after r.session.timed 0).board) _ in
-        let guards_are : hs ≡ guards_after ms gs g r.session n =
-        counts ∙ (ap (λ (u : SessionState). hit_here gs u end) (stands ∙ run.state)
-        ∙ sym (counted_here r.session (plain_ends ms g r.session) gs n end (none_before (plain_ends ms g r.session) left)
-        first run.ended)) in
-        let goal_is : h ≡ goal_after g r.session.timed n = aim ∙ ap (goal_after g r.session.timed) between in
-        ap (λ (x : List Guard). record { guards = x; goal = h }) guards_are
-        ∙ ap (λ (x : Goal). record { guards = guards_after ms gs g r.session n; goal = x }) goal_is
-
-    ends_with : ◌≡◌ {A = Aim} (record { guards = hs; goal = h })
-        (aim_after ms a0 r0.session (steps_between r0.session.timed q.session.timed))
-    ends_with =
-        aims_at Aim (past_ends ms) (aim_after ms) a0 r0 most a r left before n (record { guards = hs; goal = h }) q.session took
-        next_is
-
-    pub past_goal : h ≡ goal_after a0.goal r0.session.timed (steps_between r0.session.timed q.session.timed)
-    past_goal = ap (λ (x : Aim). x.goal) ends_with
-
-    pub past_guards : hs ≡ guards_after ms a0.guards a0.goal r0.session (steps_between r0.session.timed q.session.timed)
-    past_guards = ap (λ (x : Aim). x.guards) ends_with
-
-    module _ (o : Option End) (is : o ≡ end_here gs s end) (none : o ≡ None) (was now x less : ℕ)
-        (first : was ≡ r.session.timed.taken) (last : now ≡ q.session.timed.taken) (done : x ≡ now - was)
-        (fewer_is : less ≡ left - x) where
-      pub past_fewer : less < left
-      past_fewer =
-          fewer Aim (past_ends ms) (bare_ends ms) (aim_after ms) here_with (past_law ms) a0 r0 most a r left before q s end o
-          run stands is none was now x less first last done fewer_is
-
-      pub past_on : q ≡ record r { session = q.session }
-          → Rests Aim (past_ends ms) (aim_after ms) a0 r0 most (record { guards = hs; goal = h }) q less
-      past_on others =
-          goes_on Aim (past_ends ms) (bare_ends ms) (aim_after ms) here_with (past_law ms) a0 r0 most a r left before q s end
-          o run stands is none was now x less first last done fewer_is (record { guards = hs; goal = h }) next_is others
+-- memory ran out in it
+module _ (ms : List ℕ) (gs : List Guard) {g h : Goal} {left : ℕ} {r q : RecordingState} {e : NoMemory}
+    (part : Ran bare_ends goal_at left g h r q (Err e)) where
+  pub short_aim : ◌≡◌ {A = Aim} (record { guards = gs; goal = h }) (aim_after ms (record { guards = gs; goal = g })
+      r.session (steps_between r.session.timed q.session.timed))
+  short_aim =
+      let n = steps_of (bare_ends g r.session) left in
+      let none = plain_none ms g r.session n (none_before (bare_ends g r.session) left) in
+      joined ms gs gs g h r.session (steps_between r.session.timed q.session.timed)
+      (sym (same_before r.session (plain_ends ms g r.session) gs n none (steps_between r.session.timed q.session.timed)
+      part.err.within)) part.aim

@@ -8,7 +8,7 @@ use Rattle.rv_recording.specs.Until.{steps_of}
 use Rattle.rv_recording.specs.declared.until.End.{End}
 use Rattle.rv_recording.specs.declared.until.End.TheVariants.{Halted, Limit}
 use Rattle.rv_recording.proofs.Counting.{joins, joins_over, over_or_all, same_steps, steps_within}
-use Rattle.rv_runs.specs.Ends.{Stops, goal_after, guarded_ends, guards_after, run_ends}
+use Rattle.rv_runs.specs.Ends.{Stops, goal_after, guarded_ends, run_ends}
 use Rattle.rv_runs.specs.Support.Plain.{watched_ends}
 use Rattle.rv_runs.specs.Plans.{plan_after, rest_of, resumed_by, resumes_after, resumes_of}
 use Rattle.rv_runs.specs.Watches.{changes_at, watching}
@@ -33,10 +33,7 @@ never_heeding st g s n =
 never_run : (st : Stops) (g : Goal) (s : SessionState) (n : ℕ) → is_limit (run_ends st g s n) ≡ false
 never_run st goal.Count s n = never st.marks st.guards goal.Count s n
 never_run st goal.Trace s n = never st.marks st.guards goal.Trace s n
-never_run st goal.Break s n = never_heeding st goal.Break s n
-never_run st (goal.Out calls line) s n = never_heeding st (goal.Out calls line) s n
-never_run st (goal.Mark calls) s n = never_heeding st (goal.Mark calls) s n
-never_run st (goal.Until condition) s n = never_heeding st (goal.Until condition) s n
+never_run st g s n = never_heeding st g s n
 
 rest_by : (p : Plan) (g : Goal) (n : ℕ) (o : Option End) → is_limit o ≡ false
     → rest_of p g (unwrap_or o Limit) n

@@ -1,7 +1,8 @@
 -- Runs past some of the ends of another one.
 use Rattle.std.proofs.Common.{◌≡◌, ◌∙◌, ℕ, zero, suc, ◌+◌, ◌-◌, ◌<◌, Bool, true, false, refl, sym, ap, subst, arith, ⊎_elim}
 use Rattle.std.proofs.lemmas.Bool.{cases_lt, false≢true}
-use Rattle.std.specs.Prelude.{is_some, if◌then◌else◌, option_and_then, unwrap_or, Option, Some, None}
+use Rattle.std.specs.Prelude.{is_some, if◌then◌else◌, option_and_then, unwrap_or, Option, Some, None, Result, Ok, IsErr}
+use Rattle.rv_base.specs.declared.memory.NoMemory.{NoMemory}
 use Rattle.rv_monitor.specs.State.{IsInTime, SessionState, after}
 use Rattle.rv_monitor.specs.Stops.{steps_between}
 use Rattle.rv_recording.specs.Recording.{RecordingState}
@@ -10,8 +11,9 @@ use Rattle.rv_recording.specs.Until.{HasRun, steps_of}
 use Rattle.rv_recording.specs.declared.until.End.{End}
 use Rattle.rv_recording.specs.declared.until.End.TheVariants.{Limit}
 use Rattle.rv_recording.proofs.Counting.{all_steps, over_at, over_or_all, steps_within, takes_more}
+use Rattle.rv_runs.specs.Support.Plain.{Ran}
 use Rattle.rv_runs.proofs.Later.{none_of, taken_after}
-use Rattle.rv_runs.proofs.Parts.{Rests, goes_at}
+use Rattle.rv_runs.proofs.Parts.{Rests, goes_at, over_with, short_with}
 
 -- a run isn't over before the steps that it takes
 module _ (ends : ℕ → Option End) where
@@ -50,7 +52,7 @@ module _ (here : End → Option End) (limit : here Limit ≡ Some Limit) where
   open_by (Some x) end e is = ap here (sym e) ∙ is
 
 -- a run is over where another one is, but for the ends that it goes past
-pub record Sifts (A : Type 0) (ends plain : A → SessionState → ℕ → Option End) (later : A → SessionState → ℕ → A)
+pub record Sifts {A : Type 0} (ends plain : A → SessionState → ℕ → Option End) (later : A → SessionState → ℕ → A)
     (here : A → SessionState → End → Option End) : Type 0 where
   pub at : (a : A) (s : SessionState) (n : ℕ) → NoneEnds (plain a s) n
       → ends a s n ≡ option_and_then (here a (record s { timed = after s.timed n })) (plain a s n)
@@ -61,8 +63,8 @@ pub record Sifts (A : Type 0) (ends plain : A → SessionState → ℕ → Optio
   pub aims : (a : A) (s : SessionState) (k : ℕ) → IsInTime s.timed → (i : ℕ)
       → later (later a s k) (record s { timed = after s.timed k }) i ≡ later a s (k + i)
 
-module _ (A : Type 0) (ends plain : A → SessionState → ℕ → Option End) (later : A → SessionState → ℕ → A)
-    (here : A → SessionState → End → Option End) (law : Sifts A ends plain later here) where
+module _ {A : Type 0} {ends plain : A → SessionState → ℕ → Option End} {later : A → SessionState → ℕ → A}
+    {here : A → SessionState → End → Option End} (law : Sifts ends plain later here) where
   -- ---- a part of a run, up to where the other one is over
 
   module _ (a : A) (s : SessionState) (m : ℕ) where
@@ -129,33 +131,33 @@ module _ (A : Type 0) (ends plain : A → SessionState → ℕ → Option End) (
 
   -- ---- a part of the whole run
 
-  module _ (a0 : A) (r0 : RecordingState) (most : ℕ) (a : A) (r : RecordingState) (left : ℕ)
-      (before : Rests A ends later a0 r0 most a r left) where
-    pub is_over : (t s : SessionState) (end said : End) (o : Option End) → HasRun (plain a r.session) left r.session t end
-        → s ≡ t → o ≡ here a s end → o ≡ Some said → HasRun (ends a0 r0.session) most r0.session t said
-    is_over t s end said o run stands is some =
-        before.ran t said (finishes a r.session left t end said run
-        (subst (λ (u : SessionState). here a u end ≡ Some said) stands (sym is ∙ some)))
+  module _ {a0 : A} {r0 : RecordingState} {most : ℕ} {a : A} {r : RecordingState} {left : ℕ}
+      (before : Rests ends later a0 r0 most a r left) {b : A} {q : RecordingState}
+      (aim : b ≡ later a r.session (steps_between r.session.timed q.session.timed))
+      (others : q ≡ record r { session = q.session }) where
+    pub is_short : (result : Result End NoMemory) → IsErr result
+        → IsRefusedIn (plain a r.session) left r.session q.session → Ran ends later most a0 b r0 q result
+    is_short result is out = short_with before aim others result is (refuses a r.session left q.session out)
 
-    pub is_refused : (t : SessionState) → IsRefusedIn (plain a r.session) left r.session t
-        → IsRefusedIn (ends a0 r0.session) most r0.session t
-    is_refused t out = before.refused t (refuses a r.session left t out)
+    module _ {s : SessionState} {end : End} {o : Option End} (run : HasRun (plain a r.session) left r.session q.session end)
+        (stands : s ≡ q.session) (is : o ≡ here a s end) where
+      pub is_over : (said : End) → o ≡ Some said → Ran ends later most a0 b r0 q (Ok said)
+      is_over said some =
+          over_with before aim others said (finishes a r.session left q.session end said run
+          (subst (λ (u : SessionState). here a u end ≡ Some said) stands (sym is ∙ some)))
 
-    -- it goes on
-    module _ (q : RecordingState) (s : SessionState) (end : End) (o : Option End)
-        (run : HasRun (plain a r.session) left r.session q.session end) (stands : s ≡ q.session) (is : o ≡ here a s end)
-        (none : o ≡ None) where
-      abbrev n : ℕ
-      n = steps_of (plain a r.session) left
+      -- it goes on
+      module _ (none : o ≡ None) {was now x less : ℕ} (first : was ≡ r.session.timed.taken)
+          (last : now ≡ q.session.timed.taken) (done : x ≡ now - was) (fewer_is : less ≡ left - x) where
+        abbrev n : ℕ
+        n = steps_of (plain a r.session) left
 
-      abbrev landing : SessionState
-      landing = record r.session { timed = after r.session.timed n }
+        abbrev landing : SessionState
+        landing = record r.session { timed = after r.session.timed n }
 
-      none_there : here a landing end ≡ None
-      none_there = subst (λ (u : SessionState). here a u end ≡ None) (stands ∙ run.state) (sym is ∙ none)
+        none_there : here a landing end ≡ None
+        none_there = subst (λ (u : SessionState). here a u end ≡ None) (stands ∙ run.state) (sym is ∙ none)
 
-      module _ (was now x less : ℕ) (first : was ≡ r.session.timed.taken) (last : now ≡ q.session.timed.taken)
-          (done : x ≡ now - was) (fewer_is : less ≡ left - x) where
         x_is : x ≡ n
         x_is =
             let took : q.session.timed.taken ≡ r.session.timed.taken + n =
@@ -172,12 +174,10 @@ module _ (A : Type 0) (ends plain : A → SessionState → ℕ → Option End) (
               steps_within (plain a r.session) left,
             )
 
-        pub goes_on : (b : A) → b ≡ later a r.session n → q ≡ record r { session = q.session }
-            → Rests A ends later a0 r0 most b q less
-        goes_on b aim others =
+        pub goes_on : Rests ends later a0 r0 most b q less
+        goes_on =
             let less_is : less ≡ left - n = fewer_is ∙ ap (λ (i : ℕ). left - i) x_is in
             let over = open_here a r.session left end run.ended none_there in
-            goes_at A ends later a0 r0 most a r left before n (steps_within (plain a r.session) left)
-            (open_before a r.session left) over
+            goes_at before n (steps_within (plain a r.session) left) (open_before a r.session left) over
             (law.rest a r.session n before.in_time (ap is_some over)) (law.aims a r.session n before.in_time)
             q b less run.state aim others less_is

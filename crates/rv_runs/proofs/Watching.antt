@@ -3,7 +3,8 @@ use Rattle.std.proofs.Common.{◌≡◌, ◌∙◌, ℕ, ◌+◌, ◌-◌, ◌<�
 use Rattle.std.proofs.lemmas.Bool.{cases_lt, false≢true}
 use Rattle.std.proofs.lemmas.Bool.Decides.{nat_tests}
 use Rattle.std.specs.List.{list_any}
-use Rattle.std.specs.Prelude.{◌&&◌, min, nat_lt, pred, is_some, if◌then◌else◌, option_and_then, unwrap_or, IfOk, OnErr, Option, Some, None, Result}
+use Rattle.std.specs.Prelude.{◌&&◌, min, nat_lt, pred, is_some, if◌then◌else◌, option_and_then, unwrap_or, IfOk, OnErr, Option, Some, None, Result, Ok, Err, IsErr}
+use Rattle.rv_base.specs.declared.memory.NoMemory.{NoMemory}
 use Rattle.rv_board.specs.Support.State.{halted_of}
 use Rattle.rv_monitor.specs.State.{IsInTime, SessionState, TimedState, after}
 use Rattle.rv_monitor.specs.Stops.{steps_between}
@@ -15,16 +16,16 @@ use Rattle.rv_recording.specs.declared.until.End.{End}
 use Rattle.rv_recording.specs.declared.until.End.TheVariants.{Halted, Reached, Breakpoint, Limit, Stuck}
 use Rattle.rv_recording.specs.declared.until.Watched.{Watched}
 use Rattle.rv_recording.proofs.Counting.{all_steps, over_at, over_or_all, steps_within, takes_more}
-use Rattle.rv_runs.specs.Ends.{Stops, goal_after, guarded_ends, guards_after, heeds, plain_ends, run_ends}
+use Rattle.rv_runs.specs.Ends.{Stops, goal_after, guarded_ends, heeds, plain_ends, run_ends}
 use Rattle.rv_runs.specs.Guards.{counted, end_here, stops}
-use Rattle.rv_runs.specs.Support.Plain.{ends_with, goes_with, stop_here, watched_ends}
+use Rattle.rv_runs.specs.Support.Plain.{Aim, Ran, aim_after, ends_with, goes_with, past_ends, stop_here, watch_ends, watched_ends}
 use Rattle.rv_runs.specs.Watches.{changes_at, differs, watching}
 use Rattle.rv_runs.specs.declared.guard.Guard.{Guard}
 use Rattle.rv_runs.specs.declared.goal.Goal.{Goal}
 use Rattle.rv_runs.specs.declared.goal.Goal.TheVariants as goal
-use Rattle.rv_runs.proofs.Later.{end_is, no_change, none_of, open_part, stops_after, taken_after, watched_later}
-use Rattle.rv_runs.proofs.Parts.{Rests, aims_at, goes_at, taken_due}
-use Rattle.rv_runs.proofs.Passing.{Aim, aim_after, aims_later}
+use Rattle.rv_runs.proofs.Later.{end_is, no_change, none_of, open_part, stops_after, watched_later}
+use Rattle.rv_runs.proofs.Parts.{Rests, goes_at, over_with, short_with}
+use Rattle.rv_runs.proofs.Passing.{aims_later}
 use Rattle.rv_runs.proofs.Sifting.{none_before}
 
 -- ---- a run that isn't over ends for no limit
@@ -57,17 +58,8 @@ pub never : (ms : List ℕ) (gs : List Guard) (g : Goal) (s : SessionState) (n :
     → is_limit (guarded_ends ms gs g s n) ≡ false
 never ms gs goal.Count s n = never_by (halted_of (after s.timed n).board) _ _ _
 never ms gs goal.Trace s n = never_by (halted_of (after s.timed n).board) _ _ _
-never ms gs goal.Break s n =
-    never_past (counted gs s (plain_ends ms goal.Break s) (pred n)) (record s { timed = after s.timed n })
-    (halted_of (after s.timed n).board) _ _ _
-never ms gs (goal.Out calls line) s n =
-    never_past (counted gs s (plain_ends ms (goal.Out calls line) s) (pred n)) (record s { timed = after s.timed n })
-    (halted_of (after s.timed n).board) _ _ _
-never ms gs (goal.Mark calls) s n =
-    never_past (counted gs s (plain_ends ms (goal.Mark calls) s) (pred n)) (record s { timed = after s.timed n })
-    (halted_of (after s.timed n).board) _ _ _
-never ms gs (goal.Until condition) s n =
-    never_past (counted gs s (plain_ends ms (goal.Until condition) s) (pred n)) (record s { timed = after s.timed n })
+never ms gs g s n =
+    never_past (counted gs s (plain_ends ms g s) (pred n)) (record s { timed = after s.timed n })
     (halted_of (after s.timed n).board) _ _ _
 
 open_by : (o : Option End) → is_limit o ≡ false → Limit ≡ unwrap_or o Limit → o ≡ None
@@ -84,10 +76,7 @@ ended_is : (changes : Bool) (o : Option End) → unwrap_or (watching changes o) 
 ended_is false o = refl
 ended_is true None = refl
 ended_is true (Some Halted) = refl
-ended_is true (Some Reached) = refl
-ended_is true (Some Breakpoint) = refl
-ended_is true (Some Limit) = refl
-ended_is true (Some Stuck) = refl
+ended_is true (Some _) = refl
 
 stopped_by : (b : Bool) (e said : End) → (if b then None else Some e) ≡ Some said → (b ≡ false) × (e ≡ said)
 stopped_by true e said is = absurd cc
@@ -225,102 +214,51 @@ module _ (st : Stops) (g : Goal) (s : SessionState) (m : ℕ) (h : IsInTime s.ti
 
 -- ---- a step of the whole run
 
--- what stops a run that goes on with that
-abbrev pub stops_with : List Watched → List ℕ → Aim → Stops
+abbrev stops_with : List Watched → List ℕ → Aim → Stops
 stops_with ws ms a = record { guards = a.guards; watches = ws; marks = ms }
 
-abbrev pub watch_ends : List Watched → List ℕ → Aim → SessionState → ℕ → Option End
-watch_ends ws ms a s = watched_ends (stops_with ws ms a) a.goal s
+module _ (ws : List Watched) (ms : List ℕ) {a0 : Aim} {r0 : RecordingState} {most : ℕ} {a : Aim} {r : RecordingState} {left : ℕ}
+    (before : Rests (watch_ends ws ms) (aim_after ms) a0 r0 most a r left) {one : ℕ} (is_one : one ≡ min left 1)
+    {b : Aim} {q : RecordingState} where
+  -- memory ran out in it
+  pub watch_short : {e : NoMemory} (result : Result End NoMemory) → IsErr result
+      → Ran (past_ends ms) (aim_after ms) one a b r q (Err e)
+      → Ran (watch_ends ws ms) (aim_after ms) most a0 b r0 q result
+  watch_short result is part =
+      short_with before part.aim part.others result is (refuses (stops_with ws ms a) a.goal r.session left before.in_time q.session
+      (subst (λ (m : ℕ). IsRefusedIn (past_ends ms a r.session) m r.session q.session) is_one part.err))
 
-module _ (ws : List Watched) (ms : List ℕ) (a0 : Aim) (r0 : RecordingState) (most : ℕ) (gs : List Guard) (g : Goal)
-    (r : RecordingState) (left : ℕ)
-    (before : Rests Aim (watch_ends ws ms) (aim_after ms) a0 r0 most (record { guards = gs; goal = g }) r left)
-    (one : ℕ) (is_one : one ≡ min left 1) where
-  abbrev a : Aim
-  a = record { guards = gs; goal = g }
+  module _ {end : End} {c : Bool} (part : Ran (past_ends ms) (aim_after ms) one a b r q (Ok end))
+      (changed : c ≡ list_any (differs r.session.timed.board q.session.timed.board) ws)
+      {o : Option End} (here : o ≡ stop_here c end left) where
+    abbrev run : HasRun (past_ends ms a r.session) (min left 1) r.session q.session end
+    run = subst (λ (m : ℕ). HasRun (past_ends ms a r.session) m r.session q.session end) is_one part.ok
 
-  abbrev st : Stops
-  st = stops_with ws ms a
+    -- the run is over
+    pub watch_over : (said : End) → o ≡ Some said → Ran (watch_ends ws ms) (aim_after ms) most a0 b r0 q (Ok said)
+    watch_over said is =
+        over_with before part.aim part.others said
+        (finishes (stops_with ws ms a) a.goal r.session left before.in_time q.session end c run changed said (sym here ∙ is))
 
-  abbrev step_ends : ℕ → Option End
-  step_ends = guarded_ends ms gs g r.session
+    -- it goes on
+    module _ (is : o ≡ None) {less : ℕ} (fewer_is : less ≡ left - 1) where
+      on : stop_here c end left ≡ None
+      on = sym here ∙ is
 
-  abbrev n : ℕ
-  n = steps_of step_ends (min left 1)
+      pub watch_fewer : less < left
+      watch_fewer =
+          omega (arith, fewer_is, more_left (stops_with ws ms a) a.goal r.session left before.in_time q.session end c run changed on)
 
-  pub watch_refused : (t : SessionState) → IsRefusedIn step_ends one r.session t
-      → IsRefusedIn (watch_ends ws ms a0 r0.session) most r0.session t
-  watch_refused t out =
-      before.refused t (refuses st g r.session left before.in_time t
-      (subst (λ (m : ℕ). IsRefusedIn step_ends m r.session t) is_one out))
-
-  -- the guards where memory ran out
-  pub watch_refused_guards : (t : SessionState) (hs : List Guard) → IsRefusedIn step_ends one r.session t
-      → hs ≡ guards_after ms gs g r.session (steps_between r.session.timed t.timed)
-      → hs ≡ guards_after ms a0.guards a0.goal r0.session (steps_between r0.session.timed t.timed)
-  watch_refused_guards t hs out e =
-      let j = steps_between r.session.timed t.timed in
-      let took : t.timed.taken ≡ r.session.timed.taken + j =
-      ap (λ (u : SessionState). u.timed.taken) out.state
-      ∙ (taken_due (after r.session.timed j) ∙ taken_after r.session.timed j) in
-      ap (λ (x : Aim). x.guards) (aims_at Aim (watch_ends ws ms) (aim_after ms) a0 r0 most a r left before j
-      (record { guards = hs; goal = goal_after g r.session.timed j }) t took
-      (ap (λ (xs : List Guard). record { guards = xs; goal = goal_after g r.session.timed j }) e))
-
-  module _ (t : SessionState) (end : End) (c : Bool) (taken : HasRun step_ends one r.session t end)
-      (changed : c ≡ list_any (differs r.session.timed.board t.timed.board) ws) where
-    abbrev run : HasRun step_ends (min left 1) r.session t end
-    run = subst (λ (m : ℕ). HasRun step_ends m r.session t end) is_one taken
-
-    pub watch_over : (said : End) (o : Option End) → o ≡ stop_here c end left → o ≡ Some said
-        → HasRun (watch_ends ws ms a0 r0.session) most r0.session t said
-    watch_over said o here is =
-        before.ran t said (finishes st g r.session left before.in_time t end c run changed said (sym here ∙ is))
-
-    -- what it goes on with after it
-    module _ (hs : List Guard) (h : Goal)
-        (counts : hs ≡ guards_after ms gs g r.session (steps_between r.session.timed t.timed))
-        (aim : h ≡ goal_after g r.session.timed (steps_between r.session.timed t.timed)) where
-      took : t.timed.taken ≡ r.session.timed.taken + n
-      took = ap (λ (u : SessionState). u.timed.taken) run.state ∙ taken_after r.session.timed n
-
-      next_is : ◌≡◌ {A = Aim} (record { guards = hs; goal = h }) (aim_after ms a r.session n)
-      next_is =
-          let between : steps_between r.session.timed t.timed ≡ n = omega (arith, took) in
-          ap (λ (x : List Guard). record { guards = x; goal = h }) (counts ∙ ap (guards_after ms gs g r.session) between)
-          ∙ ap (λ (x : Goal). record { guards = guards_after ms gs g r.session n; goal = x })
-          (aim ∙ ap (goal_after g r.session.timed) between)
-
-      ends_so : ◌≡◌ {A = Aim} (record { guards = hs; goal = h })
-          (aim_after ms a0 r0.session (steps_between r0.session.timed t.timed))
-      ends_so =
-          aims_at Aim (watch_ends ws ms) (aim_after ms) a0 r0 most a r left before n (record { guards = hs; goal = h }) t took
-          next_is
-
-      pub watch_goal : h ≡ goal_after a0.goal r0.session.timed (steps_between r0.session.timed t.timed)
-      watch_goal = ap (λ (x : Aim). x.goal) ends_so
-
-      pub watch_guards : hs ≡ guards_after ms a0.guards a0.goal r0.session (steps_between r0.session.timed t.timed)
-      watch_guards = ap (λ (x : Aim). x.guards) ends_so
-
-      module _ (o : Option End) (here : o ≡ stop_here c end left) (is : o ≡ None) (less : ℕ) (fewer_is : less ≡ left - 1) where
-        on : stop_here c end left ≡ None
-        on = sym here ∙ is
-
-        pub watch_fewer : less < left
-        watch_fewer = omega (arith, fewer_is, more_left st g r.session left before.in_time t end c run changed on)
-
-        pub watch_on : (q : RecordingState) → t ≡ q.session → q ≡ record r { session = q.session }
-            → Rests Aim (watch_ends ws ms) (aim_after ms) a0 r0 most (record { guards = hs; goal = h }) q less
-        watch_on q at others =
-            let one_step = took_one st g r.session left before.in_time t end c run changed on in
-            goes_at Aim (watch_ends ws ms) (aim_after ms) a0 r0 most a r left before n
-            (omega (arith, within_one st g r.session left before.in_time))
-            (open_before st g r.session left before.in_time)
-            (open_here st g r.session left before.in_time t end c run changed on)
-            (same_rest st g r.session left before.in_time t end c run changed on)
-            (aims_later ms a r.session n before.in_time) q (record { guards = hs; goal = h }) less (sym at ∙ run.state) next_is
-            others (omega (arith, fewer_is, one_step))
+      pub watch_on : Rests (watch_ends ws ms) (aim_after ms) a0 r0 most b q less
+      watch_on =
+          let one_step = took_one (stops_with ws ms a) a.goal r.session left before.in_time q.session end c run changed on in
+          let n = steps_of (past_ends ms a r.session) (min left 1) in
+          goes_at before n (omega (arith, within_one (stops_with ws ms a) a.goal r.session left before.in_time))
+          (open_before (stops_with ws ms a) a.goal r.session left before.in_time)
+          (open_here (stops_with ws ms a) a.goal r.session left before.in_time q.session end c run changed on)
+          (same_rest (stops_with ws ms a) a.goal r.session left before.in_time q.session end c run changed on)
+          (aims_later ms a r.session n before.in_time) q b less run.state part.aim part.others
+          (omega (arith, fewer_is, one_step))
 
 -- ---- a run where nothing is watched, one of steps that are counted, and any other
 

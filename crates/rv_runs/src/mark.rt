@@ -1,17 +1,13 @@
 //! Runs up to a mark.
-ghost use Rattle.std.specs.Prelude.{◌≡◌, IfOk, OnErr};
-ghost use Rattle.rv_monitor.specs.Stops.{steps_between};
-ghost use Rattle.rv_recording.specs.Out.{open_at};
-ghost use Rattle.rv_recording.specs.Refused.{IsRefusedIn};
-ghost use Rattle.rv_recording.specs.Until.{HasRun};
-ghost use Rattle.rv_runs.specs.Marks.{is_mark, mark_ends};
-ghost use Rattle.rv_runs.specs.Support.Plain.{mark_here};
+ghost use Rattle.std.specs.Prelude.{◌≡◌};
+ghost use Rattle.rv_runs.specs.Marks.{is_mark};
+ghost use Rattle.rv_runs.specs.Support.Plain.{mark_here, plain_here};
 
-use rv_base::NoMemory;
+use crate::goal::Goal;
 use rv_cache::DecodeCache;
 use rv_monitor::Session;
 use rv_ram::PagedRam;
-use rv_recording::{End, Recording};
+use rv_recording::End;
 
 /// Returns whether an address is a mark.
 #[tactic(auto, unfolding(crate::specs::Marks::is_mark))]
@@ -41,32 +37,17 @@ fn mark_here(marks: &[u32], session: &Session<PagedRam, DecodeCache>, end: End) 
     Some(End::Stuck)
 }
 
-/// Takes steps until one after which none of `calls` open calls and handlers is open and pc is at a mark, at most `most`,
-/// and returns why it ended.
-#[tactic(auto, using(crate::proofs::Parts::begins, crate::proofs::Parts::others_still))]
-pub(crate) fn run_to_mark(
-    recording: &mut Recording,
+/// Returns why a run without guards is over where it would be if it heeded no mark, if it is.
+pub(crate) fn plain_here(
     marks: &[u32],
-    calls: &mut u64,
-    most: u64,
-) -> Result<End, NoMemory>
-    ensures ok { IfOk result (HasRun (mark_ends marks.now calls.old recording.old.session) most
-        recording.old.session recording.new.session) }
-    ensures err { OnErr result (IsRefusedIn (mark_ends marks.now calls.old recording.old.session) most
-        recording.old.session recording.new.session) }
-    ensures calls { calls.new ≡ open_at calls.old recording.old.session.timed
-        (steps_between recording.old.session.timed recording.new.session.timed) }
-    ensures others { recording.new ≡ record recording.old { session = recording.new.session } }
+    goal: &Goal,
+    session: &Session<PagedRam, DecodeCache>,
+    end: End,
+) -> Option<End>
+    ensures { result ≡ plain_here marks.now goal.now session.now end }
 {
-    // It tells that the inputs of all steps so far were given.
-    let _board = recording.session().board();
-    let mut left = most;
-    loop {
-        let before = recording.steps();
-        let end = recording.run_out(calls, None, left)?;
-        if let Some(last) = mark_here(marks, recording.session(), end) {
-            return Ok(last);
-        }
-        left = left.saturating_sub(recording.steps().saturating_sub(before));
+    match goal {
+        Goal::Mark(_) => mark_here(marks, session, end),
+        _ => Some(end),
     }
 }

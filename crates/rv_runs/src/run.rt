@@ -5,53 +5,52 @@ ghost use Rattle.std.specs.Option.{option_eq};
 ghost use Rattle.rv_monitor.specs.Stops.{steps_between};
 ghost use Rattle.rv_recording.specs.Refused.{IsRefusedIn};
 ghost use Rattle.rv_recording.specs.Until.{HasRun, watched_value};
-ghost use Rattle.rv_runs.specs.Ends.{goal_after, guarded_ends, guards_after, plain_ends, run_ends};
-ghost use Rattle.rv_runs.specs.Support.Plain.{stop_here, watched_ends};
+ghost use Rattle.rv_runs.specs.Ends.{goal_after, guards_after, run_ends};
+ghost use Rattle.rv_runs.specs.Support.Plain.{Ran, aim_after, bare_ends, ended, goal_at, guards_here, past_ends, past_here, stop_here, watch_ends};
 ghost use Rattle.rv_runs.specs.Watches.{differs};
 
 use crate::goal::Goal;
 use crate::guard::{Guard, end_here};
-use crate::mark::run_to_mark;
+use crate::mark::plain_here;
 use rv_base::NoMemory;
+use rv_cache::DecodeCache;
+use rv_monitor::Session;
+use rv_ram::PagedRam;
 use rv_recording::{End, Recording, Watched};
 
-/// Takes steps of a run, at most `most`, and returns why it is over or ended if no breakpoint has a condition. `goal` is
-/// what the run goes on for, before them and after them.
-fn run_for(
-    recording: &mut Recording,
-    marks: &[u32],
-    goal: &mut Goal,
-    most: u64,
-) -> Result<End, NoMemory>
-    ensures ok { IfOk result
-        (HasRun (plain_ends marks.now goal.old recording.old.session) most recording.old.session recording.new.session) }
-    ensures goal { OnOk result (goal.new ≡ goal_after goal.old recording.old.session.timed
-        (steps_between recording.old.session.timed recording.new.session.timed)) }
-    ensures err { OnErr result
-        (IsRefusedIn (plain_ends marks.now goal.old recording.old.session) most recording.old.session recording.new.session) }
-    ensures others { recording.new ≡ record recording.old { session = recording.new.session } }
+/// Takes steps of a run, at most `most`, and returns why it is over or ended if it heeded no mark, and no breakpoint had a
+/// guard. `goal` is what the run goes on for, before them and after them.
+fn run_for(recording: &mut Recording, goal: &mut Goal, most: u64) -> Result<End, NoMemory>
+    ensures { Ran bare_ends goal_at most goal.old goal.new recording.old recording.new result }
 {
-    match *goal {
+    match goal {
         Goal::Count | Goal::Trace => recording.run_steps(most),
         Goal::Break => recording.run_to_break(most),
-        Goal::Until(condition) => recording.run_until(condition, most),
-        Goal::Out(open, line) => {
-            let mut open = open;
-            let end = recording.run_out(&mut open, line, most)?;
-            *goal = Goal::Out(open, line);
-            Ok(end)
-        }
-        Goal::Mark(open) => {
-            let mut open = open;
-            let end = run_to_mark(recording, marks, &mut open, most)?;
-            *goal = Goal::Mark(open);
-            Ok(end)
-        }
+        Goal::Until(condition) => recording.run_until(*condition, most),
+        Goal::Out(calls, line) => recording.run_out(calls, *line, most),
+        Goal::Mark(calls) => recording.run_out(calls, None, most),
     }
 }
 
-/// Takes steps of a run as `run_for` does, and past each breakpoint whose condition doesn't hold.
-#[tactic(auto, using(crate::proofs::Parts::begins, crate::proofs::Parts::others_still))]
+/// Returns why a run is over where it would be if it heeded no mark, and no breakpoint had a guard, if it is, and counts
+/// the hits there.
+fn past_here(
+    guards: &mut Vec<Guard>,
+    marks: &[u32],
+    goal: &Goal,
+    session: &Session<PagedRam, DecodeCache>,
+    end: End,
+) -> Option<End>
+    ensures end { result ≡ past_here marks.now (record { guards = guards.old.items; goal = goal.now }) session.now end }
+    ensures hits { guards.new.items
+        ≡ guards_here marks.now (record { guards = guards.old.items; goal = goal.now }) session.now end }
+{
+    let end = plain_here(marks, goal, session, end)?;
+    end_here(guards, session, end)
+}
+
+/// Takes steps of a run as `run_for` does, and past each place where it doesn't stop.
+#[tactic(auto, using(crate::proofs::Parts::begins))]
 fn run_past(
     recording: &mut Recording,
     guards: &mut Vec<Guard>,
@@ -59,23 +58,17 @@ fn run_past(
     goal: &mut Goal,
     most: u64,
 ) -> Result<End, NoMemory>
-    ensures ok { IfOk result (HasRun (guarded_ends marks.now guards.old.items goal.old recording.old.session) most
-        recording.old.session recording.new.session) }
-    ensures goal { OnOk result (goal.new ≡ goal_after goal.old recording.old.session.timed
-        (steps_between recording.old.session.timed recording.new.session.timed)) }
-    ensures err { OnErr result (IsRefusedIn (guarded_ends marks.now guards.old.items goal.old recording.old.session) most
-        recording.old.session recording.new.session) }
-    ensures guards { guards.new.items ≡ guards_after marks.now guards.old.items goal.old recording.old.session
-        (steps_between recording.old.session.timed recording.new.session.timed) }
-    ensures others { recording.new ≡ record recording.old { session = recording.new.session } }
+    ensures { Ran (past_ends marks.now) (aim_after marks.now) most
+        (record { guards = guards.old.items; goal = goal.old }) (record { guards = guards.new.items; goal = goal.new })
+        recording.old recording.new result }
 {
     // It tells that the inputs of all steps so far were given.
     let _board = recording.session().board();
     let mut left = most;
     loop {
         let before = recording.steps();
-        let end = run_for(recording, marks, goal, left)?;
-        if let Some(last) = end_here(guards, recording.session(), end) {
+        let end = run_for(recording, goal, left)?;
+        if let Some(last) = past_here(guards, marks, goal, recording.session(), end) {
             return Ok(last);
         }
         left = left.saturating_sub(recording.steps().saturating_sub(before));
@@ -106,17 +99,11 @@ fn run_noting(
     goal: &mut Goal,
     most: u64,
 ) -> Result<(End, bool), NoMemory>
-    ensures ok { IfOk result (λ r. HasRun (guarded_ends marks.now guards.old.items goal.old recording.old.session) most
-        recording.old.session recording.new.session r.0) }
+    ensures ran { Ran (past_ends marks.now) (aim_after marks.now) most
+        (record { guards = guards.old.items; goal = goal.old }) (record { guards = guards.new.items; goal = goal.new })
+        recording.old recording.new (ended result) }
     ensures changes { IfOk result (λ r. r.1
         ≡ list_any (differs recording.old.session.timed.board recording.new.session.timed.board) watches.now) }
-    ensures goal { OnOk result (goal.new ≡ goal_after goal.old recording.old.session.timed
-        (steps_between recording.old.session.timed recording.new.session.timed)) }
-    ensures err { OnErr result (IsRefusedIn (guarded_ends marks.now guards.old.items goal.old recording.old.session) most
-        recording.old.session recording.new.session) }
-    ensures guards { guards.new.items ≡ guards_after marks.now guards.old.items goal.old recording.old.session
-        (steps_between recording.old.session.timed recording.new.session.timed) }
-    ensures others { recording.new ≡ record recording.old { session = recording.new.session } }
 {
     let [watched, rest @ ..] = watches else {
         return Ok((run_past(recording, guards, marks, goal, most)?, false));
@@ -141,7 +128,7 @@ fn stop_here(changes: bool, end: End, left: u64) -> Option<End>
 }
 
 /// Takes steps of a run as `run_past` does, up to the first that changes what is watched.
-#[tactic(auto, using(crate::proofs::Parts::begins, crate::proofs::Parts::others_still))]
+#[tactic(auto, using(crate::proofs::Parts::begins))]
 fn run_watching(
     recording: &mut Recording,
     guards: &mut Vec<Guard>,
@@ -150,15 +137,9 @@ fn run_watching(
     goal: &mut Goal,
     most: u64,
 ) -> Result<End, NoMemory>
-    ensures ok { IfOk result (HasRun (watched_ends (record { guards = guards.old.items; watches = watches.now; marks = marks.now }) goal.old recording.old.session) most
-        recording.old.session recording.new.session) }
-    ensures goal { OnOk result (goal.new ≡ goal_after goal.old recording.old.session.timed
-        (steps_between recording.old.session.timed recording.new.session.timed)) }
-    ensures err { OnErr result (IsRefusedIn (watched_ends (record { guards = guards.old.items; watches = watches.now; marks = marks.now }) goal.old recording.old.session) most
-        recording.old.session recording.new.session) }
-    ensures guards { guards.new.items ≡ guards_after marks.now guards.old.items goal.old recording.old.session
-        (steps_between recording.old.session.timed recording.new.session.timed) }
-    ensures others { recording.new ≡ record recording.old { session = recording.new.session } }
+    ensures { Ran (watch_ends watches.now marks.now) (aim_after marks.now) most
+        (record { guards = guards.old.items; goal = goal.old }) (record { guards = guards.new.items; goal = goal.new })
+        recording.old recording.new result }
 {
     // It tells that the inputs of all steps so far were given.
     let _board = recording.session().board();
