@@ -2,7 +2,7 @@
 use Rattle.std.proofs.Common.{◌≡◌, ◌∙◌, ℕ, zero, suc, ◌+◌, ◌-◌, ◌<◌, Bool, true, false, List, [], ◌∷◌, refl, sym, ap, arith}
 use Rattle.std.proofs.lemmas.Bool.{false≢true}
 use Rattle.std.specs.FinSet as set
-use Rattle.std.specs.Prelude.{◌&&◌, map, nat_lt, pred, if◌then◌else◌, option_and_then, unwrap_or, Option, Some, None, Ok, Err}
+use Rattle.std.specs.Prelude.{◌&&◌, map, nat_lt, pred, if◌then◌else◌, option_and_then, unwrap_or, Option, Some, None, Result, Ok, Err, IsErr}
 use Rattle.std.specs.Option.{option_map_or}
 use Rattle.rv_base.specs.declared.memory.NoMemory.{NoMemory}
 use Rattle.rv_board.specs.Support.State.{halted_of, pc_of}
@@ -22,7 +22,8 @@ use Rattle.rv_runs.specs.declared.goal.Goal.TheVariants as goal
 use Rattle.rv_runs.specs.declared.guard.Guard.{Guard}
 use Rattle.rv_runs.proofs.Later.{end_is, goal_later, guarded_later, guards_later, taken_after}
 use Rattle.rv_runs.proofs.Marking.{bare_first, limit_here, plain_at, plain_first, plain_none}
-use Rattle.rv_runs.proofs.Sifting.{Sifts, none_before}
+use Rattle.rv_runs.proofs.Parts.{Rests}
+use Rattle.rv_runs.proofs.Sifting.{Sifts, fewer, goes_on, is_over, is_short, none_before}
 
 -- ---- the ends of a run by those of one without guards
 
@@ -252,44 +253,59 @@ same_here ms (goal.Out calls line) s k = refl
 same_here ms (goal.Mark calls) s k = refl
 same_here ms _ s k = refl
 
--- it came to an end
-module _ (ms : List ℕ) (gs : List Guard) {g h : Goal} {left : ℕ} {r q : RecordingState} {end : End}
-    (part : Ran bare_ends goal_at left g h r q (Ok end)) where
-  abbrev n : ℕ
-  n = steps_of (bare_ends g r.session) left
+-- ---- a part of a run
 
-  same_marks : plain_here ms h ≡ plain_here ms g
-  same_marks =
-      ap (plain_here ms) part.aim ∙ same_here ms g r.session (steps_between r.session.timed q.session.timed)
+module _ (ms : List ℕ) {a0 : Aim} {r0 : RecordingState} {most : ℕ} {a : Aim} {r : RecordingState} {left : ℕ}
+    (before : Rests (past_ends ms) (aim_after ms) a0 r0 most a r left) {h : Goal} {q : RecordingState} where
+  -- memory ran out in it
+  pub past_short : {e : NoMemory} (result : Result End NoMemory) → IsErr result
+      → Ran bare_ends goal_at left a.goal h r q (Err e)
+      → Ran (past_ends ms) (aim_after ms) most a0 (record { guards = a.guards; goal = h }) r0 q result
+  past_short result is part =
+      let k = steps_between r.session.timed q.session.timed in
+      let none = plain_none ms a.goal r.session (steps_of (bare_ends a.goal r.session) left)
+      (none_before (bare_ends a.goal r.session) left) in
+      is_short (past_law ms) before (joined ms a.guards a.guards a.goal h r.session k
+      (sym (same_before r.session (plain_ends ms a.goal r.session) a.guards
+      (steps_of (bare_ends a.goal r.session) left) none k part.err.within)) part.aim)
+      part.others result is part.err
 
-  pub past_end : (s : SessionState) (o : Option End) → o ≡ past_here ms (record { guards = gs; goal = h }) s end
-      → o ≡ past_here ms (record { guards = gs; goal = g }) s end
-  past_end s o is =
-      is ∙ ap (λ (f : SessionState → End → Option End). option_and_then (end_here gs s) (f s end)) same_marks
+  -- it came to an end
+  module _ {end : End} (part : Ran bare_ends goal_at left a.goal h r q (Ok end)) {s : SessionState} (stands : s ≡ q.session)
+      {hs : List Guard} (counts : hs ≡ guards_here ms (record { guards = a.guards; goal = h }) s end)
+      {o : Option End} (here : o ≡ past_here ms (record { guards = a.guards; goal = h }) s end) where
+    same_marks : plain_here ms h ≡ plain_here ms a.goal
+    same_marks =
+        ap (plain_here ms) part.aim ∙ same_here ms a.goal r.session (steps_between r.session.timed q.session.timed)
 
-  pub past_aim : (s : SessionState) → s ≡ q.session → (hs : List Guard)
-      → hs ≡ guards_here ms (record { guards = gs; goal = h }) s end
-      → ◌≡◌ {A = Aim} (record { guards = hs; goal = h }) (aim_after ms (record { guards = gs; goal = g }) r.session
-      (steps_between r.session.timed q.session.timed))
-  past_aim s stands hs counts =
-      let a : Aim = record { guards = gs; goal = g } in
-      let took : q.session.timed.taken ≡ r.session.timed.taken + n =
-      ap (λ (u : SessionState). u.timed.taken) part.ok.state ∙ taken_after r.session.timed n in
-      let between : n ≡ steps_between r.session.timed q.session.timed = omega (arith, took) in
-      joined ms gs hs g h r.session (steps_between r.session.timed q.session.timed)
-      (counts ∙ (ap (λ (f : SessionState → End → Option End). option_map_or (hit_here gs s) (f s end) gs) same_marks
-      ∙ (ap (λ (u : SessionState). guards_here ms a u end) (stands ∙ part.ok.state)
-      ∙ (sym (guards_by ms a r.session n end (none_before (bare_ends g r.session) left) part.ok.ended)
-      ∙ ap (guards_after ms gs g r.session) between)))) part.aim
+    end_is_here : o ≡ past_here ms a s end
+    end_is_here =
+        here ∙ ap (λ (f : SessionState → End → Option End). option_and_then (end_here a.guards s) (f s end)) same_marks
 
--- memory ran out in it
-module _ (ms : List ℕ) (gs : List Guard) {g h : Goal} {left : ℕ} {r q : RecordingState} {e : NoMemory}
-    (part : Ran bare_ends goal_at left g h r q (Err e)) where
-  pub short_aim : ◌≡◌ {A = Aim} (record { guards = gs; goal = h }) (aim_after ms (record { guards = gs; goal = g })
-      r.session (steps_between r.session.timed q.session.timed))
-  short_aim =
-      let n = steps_of (bare_ends g r.session) left in
-      let none = plain_none ms g r.session n (none_before (bare_ends g r.session) left) in
-      joined ms gs gs g h r.session (steps_between r.session.timed q.session.timed)
-      (sym (same_before r.session (plain_ends ms g r.session) gs n none (steps_between r.session.timed q.session.timed)
-      part.err.within)) part.aim
+    aim_is : ◌≡◌ {A = Aim} (record { guards = hs; goal = h })
+        (aim_after ms a r.session (steps_between r.session.timed q.session.timed))
+    aim_is =
+        let n = steps_of (bare_ends a.goal r.session) left in
+        let took : q.session.timed.taken ≡ r.session.timed.taken + n =
+        ap (λ (u : SessionState). u.timed.taken) part.ok.state ∙ taken_after r.session.timed n in
+        let between : n ≡ steps_between r.session.timed q.session.timed = omega (arith, took) in
+        joined ms a.guards hs a.goal h r.session (steps_between r.session.timed q.session.timed)
+        (counts ∙ (ap (λ (f : SessionState → End → Option End). option_map_or (hit_here a.guards s) (f s end) a.guards)
+        same_marks ∙ (ap (λ (u : SessionState). guards_here ms a u end) (stands ∙ part.ok.state)
+        ∙ (sym (guards_by ms a r.session n end (none_before (bare_ends a.goal r.session) left) part.ok.ended)
+        ∙ ap (guards_after ms a.guards a.goal r.session) between)))) part.aim
+
+    pub past_over : (said : End) → o ≡ Some said
+        → Ran (past_ends ms) (aim_after ms) most a0 (record { guards = hs; goal = h }) r0 q (Ok said)
+    past_over = is_over (past_law ms) before aim_is part.others part.ok stands end_is_here
+
+    -- it goes on
+    module _ (none : o ≡ None) {was now x less : ℕ} (first : was ≡ r.session.timed.taken)
+        (last : now ≡ q.session.timed.taken) (done : x ≡ now - was) (fewer_is : less ≡ left - x) where
+      pub past_fewer : less < left
+      past_fewer =
+          fewer (past_law ms) before aim_is part.others part.ok stands end_is_here none first last done fewer_is
+
+      pub past_on : Rests (past_ends ms) (aim_after ms) a0 r0 most (record { guards = hs; goal = h }) q less
+      past_on =
+          goes_on (past_law ms) before aim_is part.others part.ok stands end_is_here none first last done fewer_is
