@@ -16,5 +16,5 @@ pub use rv_io::{
     FileIn, FileOut, InFailed, MemoryIn, MemoryOut, OutFailed, ReadFault, TextIn, TextName, TextOut,
 };
 pub use rv_options::{
-    Options, Origin, REFUSED, Words, print_refusal, read_words, refusal_status, run_with_words,
+    Options, Origin, REFUSED, Words, read_words, refusal_status, refuse_words, run_with_words,
 };

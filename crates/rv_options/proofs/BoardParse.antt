@@ -12,19 +12,14 @@ use Rattle.rv_options.specs.Read.{number_of}
 use Rattle.clap.specs.Lexer.{without_minus}
 use Rattle.clap.specs.declared.builder.value_parser.ValueParser.TheVariants.{Signed}
 use Rattle.clap.specs.Built.{IsParsedFrom}
-use Rattle.clap.specs.Words.{App, HasMatchesOf, Row, Text, app_of, first_of, first_value, found_of, is_simple, is_simple_and_free, matches_of, one_of, one_text}
+use Rattle.clap.specs.Words.{App, Row, Text, app_of, first_of, first_value, found_of, is_simple_and_free, matches_of, one_of, one_text, rows_of}
 use Rattle.clap.specs.declared.builder.command.Command.{Command}
 use Rattle.clap.specs.declared.parser.matches.ArgMatches.{ArgMatches}
 use Rattle.clap.proofs.SimpleLemmas.{plain_fields}
 use Rattle.rv_options.specs.Board.{board_app, source_rule}
-use Rattle.rv_options.specs.Support.Chain.{number_rule}
+use Rattle.rv_options.specs.Support.Arguments.{IsParseBy, number_rule}
 use Rattle.rv_options.specs.Support.Parse.{HasNumber, IsBoardParse}
 use Rattle.rv_options.proofs.Defaults.{HasDefaultAt, IsParseOf, are_simple_free, has_value, reads}
-
--- clap's meaning says the matches of the command
-pub board_simple : is_simple board_app ≡ true
-unfolding board_app
-board_simple = refl
 
 board_plain : board_app.top.is_plain ≡ true
 unfolding board_app
@@ -54,14 +49,15 @@ number c m k name default low high p at =
     (Signed (pos low) (pos high)) refl in
     record { text = got.0; one = got.1; accepted = got.2 }
 
-pub board_parse : (c : Command) (m : ArgMatches) (words : List Text) → app_of c ≡ board_app →
-    IsParsedFrom c m → HasMatchesOf (app_of c) words m
+pub board_parse : (app : App) (m : ArgMatches) (words : List Text) → app ≡ board_app → IsParseBy app m →
+    rows_of (found_of m) ≡ matches_of app words
     → IsBoardParse words m
 unfolding board_app
-board_parse c m words is parsed matches =
-    let p = parse_of c m is parsed in
+board_parse app m words is by matches =
+    let c = by.command in
+    let p = parse_of c m (by.is ∙ is) by.parsed in
     record {
-      rows = (matches (ap is_simple is ∙ board_simple)).0 ∙ ap (λ a. matches_of a words) is;
+      rows = matches ∙ ap (λ a. matches_of a words) is;
       source = has_value board_app.top.rules c m p 0 source_rule (search (rules, arith));
       steps = number c m 3 (codes "steps") (codes "1000000") 0 1000000000 p (search (rules, arith));
       pages = number c m 4 (codes "pages") (codes "256") 1 4096 p (search (rules, arith));

@@ -1,11 +1,10 @@
 -- The command `rvboard [SOURCE] [--input F] [--commands F] [--steps N] [--pages P] [--slots S]`, as the rules
 -- that `clap` parses words by.
 -- To audit: public contracts cite this.
-use Rattle.std.specs.Prelude.{◌≡◌, ℕ, pos, [], ◌∷◌, Option, Some, None, codes, false, fold}
-use Rattle.clap.specs.Words.{App, Rule, Text, new_app, new_rule, rule_of, with_rule}
-use Rattle.clap.specs.declared.builder.arg.Arg.{Arg}
-use Rattle.clap.specs.declared.builder.action.ArgAction.TheVariants.{Set}
+use Rattle.std.specs.Prelude.{ℕ, pos, [], ◌∷◌, Option, Some, None, codes, fold}
+use Rattle.clap.specs.Words.{App, Rule, Text, new_app, with_rule}
 use Rattle.clap.specs.declared.builder.value_parser.ValueParser.TheVariants.{Signed}
+use Rattle.rv_options.specs.Usage.{file_rule}
 
 -- ---- the options
 
@@ -34,10 +33,6 @@ range_of o = (option_row o).1
 
 -- ---- their rules
 
--- an option that takes the path of a file, with no default
-abbrev pub file_rule : Text → Rule
-file_rule name = record (new_rule name) { long = Some name; action = Some Set; value_names = 1 }
-
 -- the positional argument SOURCE, whose default is `-`
 abbrev pub source_rule : Rule
 source_rule = record (file_rule (codes "source")) { long = None; defaults = codes "-" ∷ [] }
@@ -51,23 +46,6 @@ rule_by name (Some r) =
 -- the rule of an option
 abbrev pub option_rule : OptionName → Rule
 option_rule o = rule_by (name_of o) (range_of o)
-
-abbrev pub input_rule : Rule
-input_rule = option_rule input
-
-abbrev pub pages_rule : Rule
-pages_rule = option_rule pages
-
-abbrev pub slots_rule : Rule
-slots_rule = option_rule slots
-
--- an argument that is not handed on to subcommands
-abbrev pub IsLocal : Arg → Type 0
-IsLocal arg = arg.global ≡ false
-
--- an argument that is local and has the rule
-abbrev pub HasRule : Arg → Rule → Type 0
-HasRule arg rule = (rule_of arg ≡ rule) × IsLocal arg
 
 -- the command: its name and its arguments in their order
 unfoldable pub board_app : App

@@ -1,3 +1,3 @@
 -- Definitions that aren't to audit: each file says why.
-pub mod Chain
+pub mod Arguments
 pub mod Parse

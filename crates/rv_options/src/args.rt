@@ -1,24 +1,30 @@
-//! The options that the programs share.
-ghost use Rattle.std.specs.Prelude.{[]};
-ghost use Rattle.rv_options.specs.Board.{file_rule, source_rule};
-ghost use Rattle.rv_options.specs.Support.Chain.{HasRule, input_rule, pages_rule, parsed_rule, slots_rule};
+//! The arguments of the programs, as `clap` takes them: a function for each variant of `Argument`.
+ghost use Rattle.rv_options.specs.Support.Arguments.{HasRule};
+ghost use Rattle.rv_options.specs.Usage.{argument_rule, file_rule};
+ghost use Rattle.rv_options.specs.declared.usage.Argument.TheVariants as argument;
 
 use clap::builder::ValueParser;
-use clap::{Arg, ArgAction, value_parser};
+use clap::{Arg, ArgAction};
 use std::alloc::Global;
 
-/// Returns the positional argument SOURCE.
-pub fn source_arg<'a>(alloc: Global, help: &'a str) -> Arg<'a>
-    ensures { HasRule result (record source_rule { defaults = [] }) }
+/// Returns the positional argument SOURCE, which must be given unless it has a default.
+pub(crate) fn source_arg<'a>(alloc: Global, help: &'a str, default: Option<&'a str>) -> Arg<'a>
+    ensures { HasRule result (argument_rule (argument.Source help.entry default.entry)) }
 {
-    Arg::new(alloc, "source")
+    let arg = Arg::new(alloc, "source")
         .value_name("SOURCE")
         .help(help)
-        .action(ArgAction::Set)
+        .action(ArgAction::Set);
+    match default {
+        Some(default) => arg.default_value(default),
+        None => arg.required(true),
+    }
 }
 
 /// Returns the option `--name`, which takes no value.
-pub fn flag_arg<'a>(alloc: Global, name: &'a str, help: &'a str) -> Arg<'a> {
+pub(crate) fn flag_arg<'a>(alloc: Global, name: &'a str, help: &'a str) -> Arg<'a>
+    ensures { HasRule result (argument_rule (argument.Flag name.entry help.entry)) }
+{
     Arg::new(alloc, name)
         .long(name)
         .help(help)
@@ -26,7 +32,7 @@ pub fn flag_arg<'a>(alloc: Global, name: &'a str, help: &'a str) -> Arg<'a> {
 }
 
 /// Returns the option `--name`, which takes a value that the help calls `value_name`.
-pub fn option_arg<'a>(alloc: Global, name: &'a str, value_name: &'a str, help: &'a str) -> Arg<'a>
+fn option_arg<'a>(alloc: Global, name: &'a str, value_name: &'a str, help: &'a str) -> Arg<'a>
     ensures { HasRule result (file_rule name.entry.now) }
 {
     Arg::new(alloc, name)
@@ -36,6 +42,37 @@ pub fn option_arg<'a>(alloc: Global, name: &'a str, value_name: &'a str, help: &
         .action(ArgAction::Set)
 }
 
+/// Returns the option `--name`, or its letter if it has one, which takes a text.
+pub(crate) fn text_arg<'a>(
+    alloc: Global,
+    name: &'a str,
+    letter: Option<char>,
+    value_name: &'a str,
+    help: &'a str,
+) -> Arg<'a>
+    ensures { HasRule result (argument_rule (argument.Text name.entry letter value_name.entry help.entry)) }
+{
+    let arg = option_arg(alloc, name, value_name, help);
+    match letter {
+        Some(letter) => arg.short(letter),
+        None => arg,
+    }
+}
+
+/// Returns the option `--name`, which takes one of some texts.
+pub(crate) fn choice_arg<'a>(
+    alloc: Global,
+    name: &'a str,
+    value_name: &'a str,
+    help: &'a str,
+    choices: &'a [&'a str],
+) -> Arg<'a>
+    ensures { HasRule result
+        (argument_rule (argument.Choice name.entry value_name.entry help.entry choices.entry)) }
+{
+    option_arg(alloc, name, value_name, help).value_parser(ValueParser::Names(choices))
+}
+
 /// Returns the option `--name`, which takes a number in a range and has a default.
 pub(crate) fn number_arg<'a>(
     alloc: Global,
@@ -43,37 +80,14 @@ pub(crate) fn number_arg<'a>(
     value_name: &'a str,
     help: &'a str,
     default: &'a str,
-    range: ValueParser<'a>,
+    least: u32,
+    most: u32,
 ) -> Arg<'a>
-    ensures { HasRule result (parsed_rule name.entry.now default.entry.now range.entry) }
+    ensures { HasRule result (argument_rule
+        (argument.Number name.entry value_name.entry help.entry default.entry least most)) }
 {
+    let range = ValueParser::Signed(i64::from(least), i64::from(most));
     option_arg(alloc, name, value_name, help)
         .default_value(default)
         .value_parser(range)
-}
-
-/// Returns the option `--input`, the path of a timed list.
-pub fn input_arg<'a>(alloc: Global) -> Arg<'a>
-    ensures { HasRule result input_rule }
-{
-    let help = "the timed serial bytes and interrupt lines, a file";
-    option_arg(alloc, "input", "F", help)
-}
-
-/// Returns the option `--pages`, a number of pages.
-pub fn pages_arg<'a>(alloc: Global) -> Arg<'a>
-    ensures { HasRule result pages_rule }
-{
-    let help = "the pages of RAM of 4096 bytes each, 1 to 4096";
-    let range = value_parser!(u16).range(1..=4096);
-    number_arg(alloc, "pages", "P", help, "256", range)
-}
-
-/// Returns the option `--slots`, a number of slots.
-pub fn slots_arg<'a>(alloc: Global) -> Arg<'a>
-    ensures { HasRule result slots_rule }
-{
-    let help = "the slots of the instruction cache, a power of two from 64 to 4096";
-    let range = value_parser!(u16).range(64..=4096);
-    number_arg(alloc, "slots", "S", help, "1024", range)
 }

@@ -1,14 +1,15 @@
-//! The words of the command line, read with `clap`:
+//! The words of the programs' command lines, read with `clap` by a table of each program's arguments, and what the
+//! programs do with their words and files. Of `rvboard` what the words say is proved:
 //! `rvboard [SOURCE] [--input F] [--commands F] [--steps N] [--pages P] [--slots S]`.
 #![tactic(auto)]
 
-ghost use Rattle.std.specs.Prelude.{◌≡◌, All, codes, IfErr, IfOk, false, map, true};
-ghost use Rattle.clap.specs.Words.{FailsBy, app_of, fault_of, kind_of, matches_of, rule_of, takes};
+ghost use Rattle.std.specs.Prelude.{◌≡◌, IfErr, IfOk, true};
+ghost use Rattle.clap.specs.Words.{FailsBy, fault_of, kind_of, matches_of, takes};
 ghost use Rattle.clap.specs.Walk.{texts};
 ghost use Rattle.rv_options.specs.Board.{board_app};
-ghost use Rattle.rv_options.specs.Support.Chain.{IsLocal, board_rules};
 ghost use Rattle.rv_options.specs.Support.Parse.{IsBoardParse};
 ghost use Rattle.rv_options.specs.Read.{IsReadFrom};
+ghost use Rattle.rv_options.specs.Usage.{usage_app};
 
 mod args;
 mod laws;
@@ -16,17 +17,20 @@ mod opening;
 mod origin;
 mod program;
 mod status;
+mod usage;
 
-use args::number_arg;
-pub use args::{flag_arg, input_arg, option_arg, pages_arg, slots_arg, source_arg};
 use clap::error::ErrorKind;
-use clap::{Arg, ArgMatches, Command, Error, value_parser};
-pub use laws::{help_is_answered, words_have_a_meaning};
+use clap::{ArgMatches, Error};
+pub use laws::{help_is_answered, usages_have_a_meaning, words_have_a_meaning};
 pub use opening::{Opening, opening_of};
 pub use origin::Origin;
-pub use program::{current_folder, print_refusal, read_file, run_with_words};
-pub use status::{REFUSED, refusal_status};
-use std::alloc::{AllocError, Global};
+pub use program::{
+    current_folder, fail, read_file, refuse_words, run_program, run_with_words, with_texts,
+};
+pub use status::{FAILED, REFUSED, refusal_status};
+use std::alloc::Global;
+use usage::parse;
+pub use usage::{Argument, INPUT, PAGES, SLOTS, Usage, parse_words};
 
 /// The limit of a run, and the sizes of its board's memory and decoded cache.
 #[derive(Clone, Copy, Debug, PartialEq, Eq)]
@@ -53,44 +57,52 @@ pub struct Words<'a> {
     pub options: Options,
 }
 
-/// Returns the arguments of the command, in their order.
-fn board_args<'a>(alloc: Global) -> Result<Vec<Arg<'a>>, AllocError>
-    ensures rules { IfOk result (λ args. map rule_of args.items ≡ board_rules) }
-    ensures local { IfOk result (λ args. All IsLocal args.items) }
+/// The usage of `rvboard`.
+const BOARD: Usage<'static> = Usage {
+    name: "rvboard",
+    about: "assembles a program and runs it on a small RISC-V board",
+    version: None,
+    arguments: &[
+        Argument::Source {
+            help: "the assembly source, or - for the standard input",
+            default: Some("-"),
+        },
+        INPUT,
+        Argument::Text {
+            name: "commands",
+            letter: None,
+            value_name: "F",
+            help: "the monitor's commands, a file",
+        },
+        Argument::Number {
+            name: "steps",
+            value_name: "N",
+            help: "the most steps, 0 to 1000000000",
+            default: "1000000",
+            least: 0,
+            most: 1_000_000_000,
+        },
+        PAGES,
+        SLOTS,
+    ],
+};
+
+/// Returns the usage of `rvboard`.
+#[tactic(auto, unfolding(crate::specs::Usage::usage_app, crate::specs::Board::board_app))]
+fn board_usage() -> Usage<'static>
+    ensures { usage_app result ≡ board_app }
 {
-    let source = "the assembly source, or - for the standard input";
-    let commands = "the monitor's commands, a file";
-    let steps = "the most steps, 0 to 1000000000";
-    let most_steps = value_parser!(u32).range(0..=1_000_000_000);
-    Ok(vec![in alloc;
-        source_arg(alloc, source).default_value("-"),
-        input_arg(alloc),
-        option_arg(alloc, "commands", "F", commands),
-        number_arg(alloc, "steps", "N", steps, "1000000", most_steps),
-        pages_arg(alloc),
-        slots_arg(alloc),
-    ]?)
+    BOARD
 }
 
-/// Returns the command that the words are parsed by.
-fn board_command<'a>(alloc: Global) -> Result<Command<'a>, AllocError>
-    ensures { IfOk result (λ c. app_of c ≡ board_app) }
-{
-    let args = board_args(alloc)?;
-    Command::new(alloc, "rvboard")
-        .about("assembles a program and runs it on a small RISC-V board")
-        .args(args)
-}
-
-/// Parses the words by the command.
-fn parse<'a>(alloc: Global, words: &'a [&'a str]) -> Result<ArgMatches<'a>, Error>
+/// Parses the words of `rvboard`.
+fn parse_board<'a>(alloc: Global, words: &'a [&'a str]) -> Result<ArgMatches<'a>, Error>
     ensures parsed { IfOk result (IsBoardParse (texts words.entry.now)) }
     ensures takes { IfErr result (λ e. takes board_app (texts words.entry.now) ≡ true
         → kind_of e ≡ ErrorKind.OutOfMemory) }
     ensures faults { FailsBy (fault_of board_app (texts words.entry.now)) result }
 {
-    let command = board_command(alloc)?;
-    command.try_get_matches_from(words)
+    parse(alloc, board_usage(), words)
 }
 
 /// Reads the words, of which the first is the program's name.
@@ -111,7 +123,7 @@ pub fn read_words<'a>(alloc: Global, words: &'a [&'a str]) -> Result<Words<'a>, 
     // The error of words that it refuses is of a kind that the command gives them.
     ensures faults { FailsBy (fault_of board_app (texts words.entry.now)) result }
 {
-    let matches = parse(alloc, words)?;
+    let matches = parse_board(alloc, words)?;
     let source = matches.get_str("source").unwrap();
     let input = matches.get_str("input");
     let commands = matches.get_str("commands");

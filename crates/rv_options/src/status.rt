@@ -9,6 +9,9 @@ use clap::error::ErrorKind;
 /// The exit status of words that are refused.
 pub const REFUSED: u8 = 3;
 
+/// The exit status where a file can't be read or written, or memory ran out.
+pub const FAILED: u8 = 4;
+
 /// Returns the exit status that an error of `read_words` gives: 0 after help, 3 for refused words, 4 where
 /// memory ran out.
 pub fn refusal_status(error: &Error) -> u8
@@ -16,7 +19,7 @@ pub fn refusal_status(error: &Error) -> u8
 {
     match error.kind() {
         ErrorKind::DisplayHelp => 0,
-        ErrorKind::OutOfMemory => 4,
+        ErrorKind::OutOfMemory => FAILED,
         _ => REFUSED,
     }
 }

@@ -8,23 +8,20 @@ mod form;
 mod words;
 
 use crate::form::{Form, form_of};
-use crate::words::{Words, read_words};
-use clap::error::ErrorKind;
+use crate::words::{USAGE, Words, words_of};
 use rv_asm::{AsmFault, FaultKind, Listing, list};
 use rv_base::{NoMemory, TEXT_LIMIT};
 use rv_diagnosis::{append_report, diagnose};
 use rv_ihex::hex_file;
 use rv_object::{ElfFault, elf_file, listing_text};
-use rv_options::{current_folder, print_refusal, read_file, run_with_words};
+use rv_options::{FAILED, REFUSED, current_folder, fail, read_file, run_program};
+use std::alloc::Global;
 use std::fs;
 use std::io::Write;
 use std::process::ExitCode;
 
-/// The exit status where the source or the words are refused.
-const REFUSED: u8 = 3;
-
-/// The exit status where a file can't be read or written, or memory ran out.
-const FAILED: u8 = 4;
+/// What is told where memory ran out.
+const NO_MEMORY: &str = "error: out of memory\n";
 
 /// Writes the parts of a line to the standard error.
 fn report(rt: &HostRuntime, parts: &[&str]) {
@@ -35,19 +32,26 @@ fn report(rt: &HostRuntime, parts: &[&str]) {
 
 /// Says that memory ran out, and returns the exit status.
 fn no_memory(rt: &HostRuntime) -> u8 {
-    report(rt, &["error: out of memory\n"]);
-    FAILED
+    fail(rt, NO_MEMORY)
+}
+
+/// Appends what is wrong with each faulty line of a rejected source.
+fn append_faults(
+    alloc: Global,
+    path: &str,
+    source: &[u8],
+    text: &mut Vec<u8>,
+) -> Result<(), NoMemory> {
+    let all = diagnose(alloc, source)?;
+    append_report(alloc, path, source, &all, text)
 }
 
 /// Reports each faulty line of a rejected source, and returns the exit status.
 fn refuse_source(rt: &HostRuntime, path: &str, source: &[u8]) -> u8 {
     let mut text = Vec::new(rt.alloc());
-    let reported = match diagnose(rt.alloc(), source) {
-        Ok(all) => append_report(rt.alloc(), path, source, &all, &mut text),
-        Err(NoMemory) => Err(NoMemory),
-    };
+    let appended = append_faults(rt.alloc(), path, source, &mut text);
     let _ = rt.stderr().write_all(&text);
-    match reported {
+    match appended {
         Ok(()) => REFUSED,
         Err(NoMemory) => no_memory(rt),
     }
@@ -176,26 +180,12 @@ fn run(rt: &HostRuntime, words: &Words<'_>) -> u8 {
     }
 }
 
-/// Prints the help or the version that was asked for, or why the words are refused, and returns the exit status.
-fn refuse_words(rt: &HostRuntime, error: &clap::Error) -> u8 {
-    match error.kind() {
-        ErrorKind::OutOfMemory => no_memory(rt),
-        ErrorKind::DisplayVersion => {
-            let _ = print_refusal(rt, error);
-            0
-        }
-        _ => print_refusal(rt, error),
-    }
-}
-
-/// Reads the words, does what they ask for, and returns the exit status.
-fn run_words(rt: &HostRuntime, words: &[&str]) -> u8 {
-    match read_words(rt.alloc(), words) {
-        Ok(words) => run(rt, &words),
-        Err(error) => refuse_words(rt, &error),
-    }
-}
-
 fn main(rt: HostRuntime) -> ExitCode {
-    ExitCode::from(run_with_words(&rt, |words| run_words(&rt, words)).unwrap_or(FAILED))
+    let status = run_program(
+        &rt,
+        USAGE,
+        NO_MEMORY,
+        |matches| run(&rt, &words_of(matches)),
+    );
+    ExitCode::from(status)
 }

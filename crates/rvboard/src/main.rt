@@ -6,10 +6,9 @@
 
 ghost use Rattle.std.specs.Prelude.{◌≡◌, IfOk, IfSome, false};
 
-use clap::error::ErrorKind;
 use rv_cli::{
     CliFault, Ending, FileIn, FileOut, MemoryIn, Options, Origin, TextIn, TextName, Words,
-    exit_status, fault_line, file_or_fault, print_refusal, read_words, run_text, run_with_words,
+    exit_status, fault_line, file_or_fault, read_words, refuse_words, run_text, run_with_words,
 };
 use std::alloc::AllocError;
 use std::fs::File;
@@ -91,26 +90,23 @@ fn finish(rt: &HostRuntime, outcome: &Result<Ending, CliFault>) -> u8 {
     exit_status(outcome)
 }
 
-/// Prints the help that was asked for, or why the words are refused, and returns the exit status.
-fn refuse_words(rt: &HostRuntime, error: &clap::Error) -> u8 {
-    if error.kind() == ErrorKind::OutOfMemory {
-        return finish(rt, &Err(CliFault::OutOfMemory));
-    }
-    print_refusal(rt, error)
+/// Reports that memory ran out, and returns the exit status.
+fn no_memory(rt: &HostRuntime) -> u8 {
+    finish(rt, &Err(CliFault::OutOfMemory))
 }
 
 /// Reads the words, makes the run that they ask for, and returns the exit status.
 fn run_words(rt: &HostRuntime, words: &[&str]) -> u8 {
     match read_words(rt.alloc(), words) {
         Ok(words) => finish(rt, &run(rt, &words)),
-        Err(error) => refuse_words(rt, &error),
+        Err(error) => refuse_words(rt, &error, || no_memory(rt)),
     }
 }
 
 fn main(rt: HostRuntime) -> ExitCode {
     let status = match run_with_words(&rt, |words| run_words(&rt, words)) {
         Ok(status) => status,
-        Err(AllocError) => finish(&rt, &Err(CliFault::OutOfMemory)),
+        Err(AllocError) => no_memory(&rt),
     };
     ExitCode::from(status)
 }

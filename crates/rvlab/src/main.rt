@@ -16,30 +16,21 @@ mod words;
 use crate::json::talk_json;
 use crate::reload::SourceFile;
 use crate::talk::{TalkFault, print, print_answer, talk};
-use crate::words::{Words, read_words};
-use clap::error::ErrorKind;
+use crate::words::{USAGE, Words, words_of};
 use rv_base::TEXT_LIMIT;
 use rv_json::source_json;
 use rv_lab::{Lab, LabFault, Printer, append_diagnosis};
-use rv_options::{print_refusal, read_file, run_with_words};
+use rv_options::{FAILED, REFUSED, fail, run_program, with_texts};
 use std::io::Write;
 use std::process::ExitCode;
 
-/// The exit status where the source, the timed list or the words are refused.
-const REFUSED: u8 = 3;
-
-/// The exit status where a file can't be read or written, or memory ran out.
-const FAILED: u8 = 4;
-
-/// Writes a line to the standard error.
-fn report(rt: &HostRuntime, line: &[u8]) {
-    let _ = rt.stderr().write_all(line);
-}
+/// What is told where memory ran out.
+const NO_MEMORY: &str = "out of memory\n";
 
 /// Writes the line of JSON that says what is wrong with a source, and returns the exit status.
 fn refuse_by_line(rt: &HostRuntime, source: &[u8]) -> u8 {
     let Ok(line) = source_json(rt.alloc(), source) else {
-        return fail(rt, b"out of memory\n");
+        return fail(rt, NO_MEMORY);
     };
     let printed = print(rt, line.as_bytes());
     if printed.is_ok() && print(rt, b"\n").is_ok() {
@@ -56,17 +47,11 @@ fn refuse(rt: &HostRuntime, words: &Words<'_>, source: &[u8], fault: LabFault) -
     }
     let mut text = Printer::new(rt.alloc());
     append_diagnosis(words.opening.source, source, fault, &mut text);
-    report(rt, text.bytes());
+    let _ = rt.stderr().write_all(text.bytes());
     match fault {
         LabFault::OutOfMemory => FAILED,
         _ => REFUSED,
     }
-}
-
-/// Reports why the program can't go on, and returns the exit status.
-fn fail(rt: &HostRuntime, line: &[u8]) -> u8 {
-    report(rt, line);
-    FAILED
 }
 
 /// Greets, and talks until no command follows.
@@ -94,7 +79,7 @@ fn talk_as_asked(rt: &HostRuntime, words: &Words<'_>, lab: &mut Lab) -> Result<(
 fn run_lab(rt: &HostRuntime, words: &Words<'_>, lab: &mut Lab) -> u8 {
     match talk_as_asked(rt, words, lab) {
         Ok(()) => 0,
-        Err(TalkFault::Read) => fail(rt, b"cannot read commands\n"),
+        Err(TalkFault::Read) => fail(rt, "cannot read commands\n"),
         Err(TalkFault::Write) => FAILED,
     }
 }
@@ -107,41 +92,19 @@ fn open(rt: &HostRuntime, words: &Words<'_>, source: &[u8], inputs: &[u8]) -> u8
     }
 }
 
-/// Reads the timed list, if the words name one, and talks. Returns the exit status.
-fn run_source(rt: &HostRuntime, words: &Words<'_>, source: &[u8]) -> u8 {
-    let Some(path) = words.opening.input else {
-        return open(rt, words, source, b"");
-    };
-    match read_file(rt, path, TEXT_LIMIT) {
-        Some(inputs) => open(rt, words, source, inputs.as_slice()),
-        None => fail(rt, b"cannot read input\n"),
-    }
-}
-
 /// Reads the files that the words name, and talks. Returns the exit status.
 fn run(rt: &HostRuntime, words: &Words<'_>) -> u8 {
-    match read_file(rt, words.opening.source, TEXT_LIMIT) {
-        Some(source) => run_source(rt, words, source.as_slice()),
-        None => fail(rt, b"cannot read source\n"),
-    }
-}
-
-/// Prints the help that was asked for, or why the words are refused, and returns the exit status.
-fn refuse_words(rt: &HostRuntime, error: &clap::Error) -> u8 {
-    if error.kind() == ErrorKind::OutOfMemory {
-        return fail(rt, b"out of memory\n");
-    }
-    print_refusal(rt, error)
-}
-
-/// Reads the words, does what they ask for, and returns the exit status.
-fn run_words(rt: &HostRuntime, words: &[&str]) -> u8 {
-    match read_words(rt.alloc(), words) {
-        Ok(words) => run(rt, &words),
-        Err(error) => refuse_words(rt, &error),
-    }
+    with_texts(rt, &words.opening, TEXT_LIMIT, |source, inputs| {
+        open(rt, words, source, inputs)
+    })
 }
 
 fn main(rt: HostRuntime) -> ExitCode {
-    ExitCode::from(run_with_words(&rt, |words| run_words(&rt, words)).unwrap_or(FAILED))
+    let status = run_program(
+        &rt,
+        USAGE,
+        NO_MEMORY,
+        |matches| run(&rt, &words_of(matches)),
+    );
+    ExitCode::from(status)
 }
