@@ -10,7 +10,6 @@ use Rattle.rv_runs.specs.Ends.{Stops, guards_after, run_ends}
 use Rattle.rv_runs.specs.Plans.{plan_after, resumes_after, tells_last}
 use Rattle.rv_runs.specs.declared.plan.Plan.{Plan}
 use Rattle.rv_runs.specs.declared.goal.Goal.{Goal}
-use Rattle.rv_runs.specs.declared.goal.Goal.TheVariants as goal
 use Rattle.rv_runs.specs.declared.guard.Guard.{Guard}
 use Rattle.rv_runs.proofs.Later.{guards_later}
 use Rattle.rv_runs.proofs.Plans.{all_taken, kept, rest_steps, resumes_later}

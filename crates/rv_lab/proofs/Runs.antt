@@ -15,7 +15,7 @@ use Rattle.rv_recording.specs.declared.until.End.{End}
 use Rattle.rv_recording.specs.declared.until.End.TheVariants.{Halted, Limit, Stuck}
 use Rattle.rv_timeline.specs.declared.input.Input.{Input}
 use Rattle.rv_lab.specs.State.{LabState, sent, timed}
-use Rattle.rv_lab.specs.Commands.{gone_on, guards_by, stepped, stops_of, with_inputs, with_piece, with_session, with_steps}
+use Rattle.rv_lab.specs.Commands.{gone_on, guards_by, stepped, stops_of, with_inputs, with_piece, with_steps}
 use Rattle.rv_runs.specs.Plans.{plan_after, rest_of, resumes_after, resumes_of, tells_last}
 use Rattle.rv_runs.specs.Ends.{goal_after, run_ends}
 use Rattle.rv_lab.specs.Support.Short.{Traced, end_now, ran_to, stepped_by}

@@ -16,10 +16,10 @@ use Rattle.rv_runs.specs.declared.plan.Plan.{Plan}
 use Rattle.rv_lab.specs.declared.trail.Trail.{Trail}
 
 -- a source with the places of its lines, the rows of its frames, the places of the C source and the recording of its
--- program; the conditions of breakpoints, and what is watched; the registers and the number of steps before the last command that moved the board,
--- and the bytes of the console that were told; what an empty line repeats, the steps of the last `s`, and the last line
--- of the last `l`; the run that isn't over; what `c` goes on for; what `why` alone goes on with; and the most steps of a
--- call
+-- program; the conditions of breakpoints, and what is watched; the registers and the number of steps before the last
+-- command that moved the board, and the bytes of the console that were told; what an empty line repeats, the steps of
+-- the last `s`, and the last line of the last `l`; the run that isn't over; what `c` goes on for; what `why` alone goes
+-- on with; and the most steps of a call
 pub record LabState : Type 0 where
   pub source : List ℕ
   pub places : Located

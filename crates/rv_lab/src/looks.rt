@@ -1,10 +1,9 @@
 //! What the commands that only look answer, as values.
-ghost use Rattle.std.specs.Prelude.{◌≡◌, ◌≤◌, ◌+◌, ◌∷◌, [], ◌++◌, ◌^◌, drop, map, unwrap_or, IfOk, OnOk};
+ghost use Rattle.std.specs.Prelude.{◌≡◌, ◌≤◌, ◌+◌, ◌++◌, drop, map, IfOk, OnOk};
 ghost use Rattle.std.specs.List.{range_with_len};
 ghost use Rattle.rv_base.specs.Words.{words};
 ghost use Rattle.rv_asm.specs.Seen.{seen};
 ghost use Rattle.rv_monitor.specs.Views.{byte_at_offset};
-ghost use Rattle.rv_operands.specs.Operands.{only_of};
 ghost use Rattle.rv_backtrace.specs.Backtrace.{backtrace};
 ghost use Rattle.rv_lab.specs.Answers as spec;
 ghost use Rattle.rv_lab.specs.Answers.{behind_last, breakpoints, cells_of, control_answer, copied_steps, edges_answer, instruction_answer, look_answer, memory_answer, refused, register_file, registers_answer, rows_answer, standing, trap_runs};

@@ -1,5 +1,5 @@
 //! The text of a reply.
-ghost use Rattle.std.specs.Prelude.{◌≡◌, ◌≤◌, drop, min, take};
+ghost use Rattle.std.specs.Prelude.{◌≡◌, ◌≤◌, drop, take};
 ghost use Rattle.rv_answers.specs.declared.answer.Answer.TheVariants as answers;
 ghost use Rattle.rv_lab.specs.State.{board};
 

@@ -24,7 +24,6 @@ use Rattle.rv_lab.specs.State.{LabState, timed}
 use Rattle.rv_recording.specs.declared.until.End.{End}
 use Rattle.rv_recording.specs.declared.until.End.TheVariants.{Halted, Limit, Stuck}
 use Rattle.rv_runs.specs.declared.goal.Goal.{Goal}
-use Rattle.rv_runs.specs.declared.goal.Goal.TheVariants as goal
 use Rattle.rv_runs.specs.declared.plan.Plan.{Plan}
 
 -- ---- orders
