@@ -16,7 +16,7 @@ use Rattle.rv_recording.specs.declared.until.Watched.{Watched}
 use Rattle.rv_why.specs.Origins.{last_sought}
 use Rattle.rv_why.specs.Taken.{first_state}
 use Rattle.rv_why.specs.declared.writes.Sought.TheVariants as sought
-use Rattle.rv_operands.specs.Operands.{address, break_address, break_place, bytes_inputs, followed, leading, line_number, operand_text, passes, trimmed, without_last}
+use Rattle.rv_operands.specs.Operands.{address, break_address, break_place, bytes_inputs, followed, leading, line_number, operand_text, trimmed, without_last}
 use Rattle.rv_answers.specs.Commands.{command_named}
 use Rattle.rv_answers.specs.declared.answer.Answer.{Answer}
 use Rattle.rv_answers.specs.declared.answer.Answer.TheVariants as answers
@@ -30,7 +30,7 @@ use Rattle.rv_lab.specs.Commands.{planned, ready}
 use Rattle.rv_lab.specs.Lines.{line_at}
 use Rattle.rv_lab.specs.State.{LabState, board, listing, timed}
 use Rattle.rv_runs.specs.Watches.{is_same}
-use Rattle.rv_lab.specs.Words.{count_of, line_command, most_steps, usual_steps}
+use Rattle.rv_lab.specs.Words.{count_of, line_command, most_steps, passes, usual_steps}
 use Rattle.rv_runs.specs.declared.guard.Guard.{Guard}
 use Rattle.rv_lab.specs.declared.order.Order.{Order}
 use Rattle.rv_lab.specs.declared.order.Order.TheVariants as orders

@@ -1,6 +1,7 @@
 -- To audit: public contracts cite this.
 -- The command of a line (this project's own: docs/LAB.md).
-use Rattle.std.specs.Prelude.{ℕ, List, [], ◌∷◌, length, nat_lt, if◌then◌else◌, unwrap_or, Option, Some, None}
+use Rattle.std.specs.Prelude.{ℕ, ◌-◌, ◌==◌, List, [], ◌∷◌, codes, length, nat_lt, if◌then◌else◌, unwrap_or, Option, Some, None, option_and_then}
+use Rattle.std.specs.Str.{bytes_eq}
 use Rattle.rv_base.specs.Limits.{line_limit}
 use Rattle.rv_base.specs.Numbers.{number_in}
 use Rattle.rv_base.specs.Words.{begins_comment, words}
@@ -33,6 +34,14 @@ abbrev pub count_of : ℕ → ℕ → List (List ℕ) → Option ℕ
 count_of usual most [] = Some usual
 count_of usual most (word ∷ []) = number_in 10 most word
 count_of usual most _ = None
+
+-- how many hits a breakpoint passes before one stops a run, by the words that follow its place or its condition: N - 1
+-- of `after N`, and none where there are no words
+unfoldable pub passes : List (List ℕ) → Option ℕ
+passes [] = Some 0
+passes (word ∷ n ∷ []) = if bytes_eq word (codes "after")
+    then option_and_then (λ n. if n == 0 then None else Some (n - 1)) (number_in 10 1000000000 n) else None
+passes _ = None
 
 -- the steps of a run where no number is given, and the most of a command
 abbrev pub usual_steps : ℕ

@@ -12,7 +12,7 @@ ghost use Rattle.rv_lab.specs.declared.order.Order.TheVariants as orders;
 
 use crate::command::CommandLine;
 use crate::lab::Lab;
-use crate::operands::count_or;
+use crate::operands::{count_or, passes};
 use crate::places::line_at;
 use crate::run::{MOST_STEPS, MOST_TRACED, USUAL_STEPS, USUAL_TRACED};
 use crate::source::{Excerpt, MOST_LINES, USUAL_LINES};
@@ -21,7 +21,7 @@ use crate::watch::MOST_WATCHED;
 use rv_answers::{Answer, Command, Many, Move, Why, command_named, push};
 use rv_base::{NoMemory, first_word, has_word};
 use rv_operands::{
-    Leading, line_number, only_word, operands_of, passes, read_bytes_inputs, trimmed, without_last,
+    Leading, line_number, only_word, operands_of, read_bytes_inputs, trimmed, without_last,
 };
 use rv_recording::{Condition, LAST_STEP, Span, Watched};
 use rv_runs::{Goal, Guard, Plan, place_of};

@@ -4,7 +4,6 @@
 use Rattle.std.specs.Prelude.{ℕ, ◌+◌, ◌-◌, ◌%◌, ◌^◌, ◌==◌, ◌||◌, Bool, true, false, List, [], ◌∷◌, length, map, take, drop, find, codes, if◌then◌else◌, nat_eq, nat_lt, not, slice_index, Option, Some, None, option_and_then}
 use Rattle.std.specs.List.{ends_with, position_or_len, prefix_len, range_with_len, suffix_len}
 use Rattle.std.specs.Option.{option_map, option_map_or, option_or}
-use Rattle.std.specs.Str.{bytes_eq}
 use Rattle.rv_base.specs.Numbers.{number_in}
 use Rattle.rv_base.specs.Tables.{lookup}
 use Rattle.rv_base.specs.Words.{is_blank, words}
@@ -141,16 +140,6 @@ leading l b [] = (None, [])
 leading l b (word ∷ []) = (word_condition l b word, [])
 leading l b (word ∷ second ∷ more) = option_map_or (λ r. (compared l b word r more, drop 1 more))
     (lookup second relations) (word_condition l b word, second ∷ more)
-
--- ---- passed hits
-
--- how many hits a breakpoint passes before one stops a run, by the words that follow its place or its condition: N - 1
--- of `after N`, and none where there are no words
-unfoldable pub passes : List (List ℕ) → Option ℕ
-passes [] = Some 0
-passes (word ∷ n ∷ []) = if bytes_eq word (codes "after")
-    then option_and_then (λ n. if n == 0 then None else Some (n - 1)) (number_in 10 1000000000 n) else None
-passes _ = None
 
 -- ---- inputs
 

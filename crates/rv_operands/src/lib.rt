@@ -11,4 +11,4 @@ mod word;
 pub use condition::Leading;
 pub use input::read_bytes_inputs;
 pub use place::{Scope, line_with_bytes};
-pub use word::{line_number, number, only_word, operands_of, passes, trimmed, without_last};
+pub use word::{line_number, number, only_word, operands_of, trimmed, without_last};

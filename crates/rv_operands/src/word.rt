@@ -1,11 +1,10 @@
 //! Texts, words and numbers.
-ghost use Rattle.std.specs.Prelude.{◌≡◌, ◌-◌, ◌==◌, if◌then◌else◌, None, Some, drop, length, not, option_and_then, take};
+ghost use Rattle.std.specs.Prelude.{◌≡◌, ◌-◌, None, drop, length, not, take};
 ghost use Rattle.std.specs.Option.{option_map};
 ghost use Rattle.std.specs.List.{position_or_len, prefix_len, suffix_len};
-ghost use Rattle.rv_base.specs.Numbers.{number_in};
 ghost use Rattle.rv_base.specs.Words.{is_blank, words};
 ghost use Rattle.rv_commands.specs.Addresses.{address_of};
-ghost use Rattle.rv_operands.specs.Operands.{line_number, only_of, plain_number, operand_text, passes, trimmed, without_last};
+ghost use Rattle.rv_operands.specs.Operands.{line_number, only_of, plain_number, operand_text, trimmed, without_last};
 
 use rv_base::{decimal, first_word, has_word, is_blank, low_word};
 use rv_commands::hexadecimal;
@@ -104,34 +103,6 @@ pub fn without_last(text: &[u8]) -> &[u8]
     ensures { result.now ≡ without_last text.now }
 {
     to_blank(without_blanks_after(text))
-}
-
-/// The most that `N` of `after N` may be.
-const MOST_HITS: u64 = 1_000_000_000;
-
-/// Returns how many hits are passed before the one with a number, from 1.
-fn passes_before(word: &[u8]) -> Option<u64>
-    ensures { result ≡ option_and_then (λ n. if n == 0 then None else Some (n - 1)) (number_in 10 1000000000 word.now) }
-{
-    match decimal(MOST_HITS, word)? {
-        0 => None,
-        number => Some(number - 1),
-    }
-}
-
-/// Returns how many hits a breakpoint passes before one stops a run: `N - 1` of a text `after N`, and none of a text
-/// without words.
-#[tactic(auto, unfolding(crate::specs::Operands::passes))]
-pub fn passes(text: &[u8]) -> Option<u64>
-    ensures { result ≡ passes (words text.now) }
-{
-    let Some((word, rest)) = first_word(text) else {
-        return Some(0);
-    };
-    if word != b"after".as_slice() {
-        return None;
-    }
-    passes_before(only_word(rest)?)
 }
 
 /// Returns a text without the blanks at its ends.
