@@ -1,12 +1,12 @@
 -- The frames that are read back from their table, and its size.
-use Rattle.std.proofs.Common.{◌≡◌, ◌∙◌, ℕ, zero, suc, ◌+◌, ◌-◌, ◌%◌, ◌^◌, ◌<◌, ◌≤◌, ◌==◌, Bool, true, false, List, [], ◌∷◌, ◌++◌, drop, length, map, refl, sym, ap, ap₂, arith, length-append}
+use Rattle.std.proofs.Common.{rules, ◌≡◌, ◌∙◌, ℕ, zero, suc, ◌+◌, ◌-◌, ◌%◌, ◌^◌, ◌<◌, ◌≤◌, ◌==◌, Bool, true, false, List, [], ◌∷◌, ◌++◌, drop, length, map, refl, sym, ap, ap₂, arith, length-append}
 use Rattle.std.specs.Prelude.{filter, not, if◌then◌else◌}
 use Rattle.std.specs.List.{flat_map}
 use Rattle.std.proofs.lemmas.Nat.{from_le_bytes-to_le_bytes_4}
 use Rattle.std.proofs.lemmas.List.{drop-drop, length-replicate}
 use Rattle.std.proofs.Math.Seq.{drop-append_seam, take-append_seam}
 use Rattle.rv_elf.specs.Elf.{word_at}
-use Rattle.rv_elf.specs.Frames.{Description, column_at, description, description_of, descriptions, entries_from}
+use Rattle.rv_elf.specs.Frames.{column_at, description, description_of, descriptions, entries_from}
 use Rattle.rv_elf.specs.LineNumbers.{leb}
 use Rattle.rv_elf.specs.Size.{frames_size}
 use Rattle.rv_elf.specs.declared.frames.Function.{Function}
@@ -18,20 +18,11 @@ use Rattle.rv_elf.specs.Support.Written.{word}
 pub body_has : (f : Function) → length (body_bytes f)
     ≡ 12 + (length f.instructions.items + (4 - length f.instructions.items % 4) % 4)
 unfolding body_bytes
-body_has f = omega (
-  arith,
-  length-append f.instructions.items (padding (length f.instructions.items)),
-  length-replicate {A = ℕ} ((4 - length f.instructions.items % 4) % 4) 0,
-)
+body_has f = search (rules, length-append, length-replicate)
 
 entries_have : (fs : List Function) → length (flat_map entry_bytes fs) + 40 ≡ frames_size fs
 entries_have [] = refl
-entries_have (f ∷ fs) = omega (
-  arith,
-  length-append (entry_bytes f) (flat_map entry_bytes fs),
-  body_has f,
-  entries_have fs,
-)
+entries_have (f ∷ fs) = search (rules, length-append, body_has, entries_have fs)
 
 table_has : (fs : List Function) → length (frames_bytes fs) ≡ frames_size fs
 table_has fs = omega (arith, length-append common_bytes (flat_map entry_bytes fs), entries_have fs)
@@ -88,15 +79,10 @@ all_back fs short =
     let m = length (frames_bytes fs) - (2 + length fs) in
     let n : length (frames_bytes fs) ≡ suc (suc (length fs + m)) =
     omega (arith, length-append common_bytes (flat_map entry_bytes fs), entries_length fs) in
-    ap (λ (k : ℕ). entries_from k (frames_bytes fs)) n
-    ∙ common_back (length fs + m) (flat_map entry_bytes fs)
+    ap (λ (k : ℕ). entries_from k (frames_bytes fs)) n ∙ common_back (length fs + m) (flat_map entry_bytes fs)
     ∙ ap (λ (x : List (List ℕ)). first ∷ second ∷ x) (entries_back m fs short)
 
 -- ---- what entries say
-
-common_low : (b : Bool) → (if b then 20 else 0) < 2 ^ 32
-common_low true = omega arith
-common_low false = omega arith
 
 is_own : (b : Bool) → not ((if b then 20 else 0) == 0xffffffff) ≡ true
 is_own true = refl
@@ -104,7 +90,7 @@ is_own false = refl
 
 own_entry : (f : Function) → not (word_at (body_bytes f) 0 == 0xffffffff) ≡ true
 unfolding body_bytes
-own_entry f = rw (from_le_bytes-to_le_bytes_4 (if f.is_handler then 20 else 0) (common_low f.is_handler)) (is_own f.is_handler)
+own_entry f = search rules
 
 own_entries : (fs : List Function) → filter (λ e. not (word_at e 0 == 0xffffffff)) (map body_bytes fs) ≡ map body_bytes fs
 own_entries [] = refl
@@ -122,27 +108,16 @@ fields_back : (section : List ℕ) (f : Function) → IsShort f → description 
   instructions = f.instructions.items ++ padding (length f.instructions.items);
 }
 unfolding body_bytes
-fields_back section f short = rw (
-  from_le_bytes-to_le_bytes_4 (if f.is_handler then 20 else 0) (common_low f.is_handler),
-  from_le_bytes-to_le_bytes_4 f.start short.start,
-  from_le_bytes-to_le_bytes_4 f.size short.size,
-) refl
+fields_back section f short = search rules
 
 one_back : (section : List ℕ) (f : Function) → IsShort f → column_at section 0 ≡ 1 → column_at section 20 ≡ 4096 + 0x341 →
     description section (body_bytes f) ≡ description_of f
-one_back section f short one two = fields_back section f short
-    ∙ ap (λ (c : ℕ). record {
-      column = c;
-      start = f.start;
-      size = f.size;
-      instructions = f.instructions.items ++ padding (length f.instructions.items);
-    }) (columns f.is_handler section one two)
+one_back section f short one two = search (rules, fields_back, columns)
 
 each_back : (section : List ℕ) (fs : List Function) → AreShort fs → column_at section 0 ≡ 1 →
     column_at section 20 ≡ 4096 + 0x341 → map (description section) (map body_bytes fs) ≡ map description_of fs
 each_back section [] short one two = refl
-each_back section (f ∷ fs) short one two = ap₂ (λ (d : Description) (ds : List Description). d ∷ ds)
-    (one_back section f short.0 one two) (each_back section fs short.1 one two)
+each_back section (f ∷ fs) short one two = search (rules, ap₂, one_back, each_back section fs)
 
 first_column : (fs : List Function) → column_at (frames_bytes fs) 0 ≡ 1
 unfolding leb
@@ -154,12 +129,7 @@ second_column fs = refl
 
 table_back : (fs : List Function) → AreShort fs → descriptions (frames_bytes fs) ≡ map description_of fs
 unfolding descriptions
-table_back fs short =
-    let s = frames_bytes fs in
-    let p = λ (e : List ℕ). not (word_at e 0 == 0xffffffff) in
-    ap (λ (x : List (List ℕ)). map (description s) (filter p x)) (all_back fs short)
-    ∙ ap (λ (x : List (List ℕ)). map (description s) x) (own_entries fs)
-    ∙ each_back s fs short (first_column fs) (second_column fs)
+table_back fs short = search (rules, all_back, own_entries, each_back, first_column, second_column)
 
 pub frames_read : (table : List ℕ) (fs : List Function) → table ≡ frames_bytes fs → AreShort fs →
     descriptions table ≡ map description_of fs

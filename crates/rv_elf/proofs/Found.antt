@@ -1,5 +1,5 @@
 -- The tables of a file that are found by the names of its sections.
-use Rattle.std.proofs.Common.{◌≡◌, ◌∙◌, ℕ, List, Some, length, refl, ap}
+use Rattle.std.proofs.Common.{rules, ◌≡◌, ◌∙◌, ℕ, List, Some, length, refl}
 use Rattle.std.specs.Prelude.{codes, Option}
 use Rattle.std.specs.Option.{option_map}
 use Rattle.rv_elf.specs.Elf.{Section, sections, half_at, contents, contents_in, text}
@@ -34,8 +34,7 @@ module _ (file attributes abbreviations image : List ℕ) (t : Tables) (frames m
   in_sections name = rw (last, is) refl
 
   pub info_found : (n : ℕ) → length t.info.items ≡ n → option_map length (contents file (codes ".debug_info")) ≡ Some n
-  info_found n e = ap (λ (o : Option (List ℕ)). option_map length o) (in_sections (codes ".debug_info") ∙ in_it.info)
-      ∙ ap (λ (k : ℕ). Some k) e
+  info_found n e = search (rules, in_sections, in_it)
 
   pub frames_found : contents file (codes ".debug_frame") ≡ Some frames
   frames_found = in_sections (codes ".debug_frame") ∙ in_it.frames
@@ -45,9 +44,7 @@ module _ (file attributes abbreviations image : List ℕ) (t : Tables) (frames m
 
   pub symbols_found : (all : List Symbol) → symbols t.symbols.strings.items t.symbols.table.items ≡ all →
       symbols_of file ≡ Some all
-  symbols_found all e =
-      rw (in_sections (codes ".symtab"), in_it.table, in_sections (codes ".strtab"), in_it.strings)
-      (ap (λ (x : List Symbol). Some x) e)
+  symbols_found all e = search (rules, in_sections, in_it)
 
   pub lines_found : (all : Option (List Row)) → rows t.lines.items ≡ all → lines_of file ≡ all
   lines_found all e = rw (in_sections (codes ".debug_line"), in_it.lines) e

@@ -1,5 +1,5 @@
 -- Numbers of variable length.
-use Rattle.std.proofs.Common.{◌≡◌, ◌∙◌, ℕ, zero, suc, ◌+◌, ◌*◌, ◌/◌, ◌%◌, ◌^◌, ◌<◌, ◌≤◌, List, [], ◌∷◌, ◌++◌, sym, ap, arith, append_assoc, ⊎_elim}
+use Rattle.std.proofs.Common.{rules, ◌≡◌, ℕ, zero, suc, ◌+◌, ◌*◌, ◌/◌, ◌%◌, ◌^◌, ◌<◌, ◌≤◌, List, [], ◌∷◌, ◌++◌, sym, arith, append_assoc}
 use Rattle.std.proofs.lemmas.Bool.{cases_lt}
 use Rattle.std.proofs.lemmas.Bool.Decides.{nat_tests}
 use Rattle.rv_elf.specs.Support.LineBytes.{leb_bytes}
@@ -20,20 +20,12 @@ top (suc k) limit = 128 * top k limit
 enough : (k limit n : ℕ) → n < top k limit → leb_bytes k limit n ≡ leb_bytes (suc k) limit n
 unfolding leb_bytes
 enough zero limit n below = sym (last zero limit n below)
-enough (suc k) limit n below = ⊎_elim
-    (λ l. last k limit n l ∙ sym (last (suc k) limit n l))
-    (λ l. next k limit n l ∙ ap (λ (x : List ℕ). (n % 128 + 128) ∷ x) (enough k limit (n / 128) (omega arith)) ∙ sym (next (suc k) limit n l))
-    (cases_lt n limit)
+enough (suc k) limit n below = search (rules, next, cases_lt, enough k limit (n / 128))
 
 pub leb_one : (limit n : ℕ) → n < limit → leb_bytes 4 limit n ≡ n ∷ []
 leb_one limit n below = last 3 limit n below
 
-pub leb_more : (limit n : ℕ) → limit ≤ n → 64 ≤ limit → n < 2 ^ 32 → leb_bytes 4 limit n ≡ (n % 128 + 128) ∷ leb_bytes 4 limit (n / 128)
-leb_more limit n above low small = next 3 limit n above ∙ ap (λ (x : List ℕ). (n % 128 + 128) ∷ x) (enough 3 limit (n / 128) (omega arith))
-
 -- the same after a text
 pub leb_after : (text longer : List ℕ) (limit n : ℕ) → limit ≤ n → 64 ≤ limit → n < 2 ^ 32 →
     longer ≡ (text ++ (n % 128 + 128) ∷ []) ++ leb_bytes 4 limit (n / 128) → longer ≡ text ++ leb_bytes 4 limit n
-leb_after text longer limit n above low small is =
-    is ∙ append_assoc text ((n % 128 + 128) ∷ []) (leb_bytes 4 limit (n / 128))
-    ∙ ap (λ (x : List ℕ). text ++ x) (sym (leb_more limit n above low small))
+leb_after text longer limit n above low small is = search (rules, append_assoc, next, enough)

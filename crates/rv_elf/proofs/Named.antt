@@ -1,5 +1,5 @@
 -- Symbols that are read back from a symbol table and its strings.
-use Rattle.std.proofs.Common.{◌≡◌, ◌∙◌, ℕ, suc, ◌+◌, ◌*◌, ◌/◌, ◌^◌, ◌<◌, ◌==◌, Bool, true, false, cond, List, [], ◌∷◌, ◌++◌, drop, length, map, refl, sym, ap, arith, append_assoc, length-append}
+use Rattle.std.proofs.Common.{rules, ◌≡◌, ◌∙◌, ℕ, suc, ◌+◌, ◌*◌, ◌/◌, ◌^◌, ◌<◌, List, [], ◌∷◌, ◌++◌, drop, length, map, refl, sym, ap, arith, append_assoc, length-append}
 use Rattle.std.proofs.lemmas.Nat.{from_le_bytes-to_le_bytes_2, from_le_bytes-to_le_bytes_4}
 use Rattle.std.proofs.lemmas.List.{drop-drop}
 use Rattle.std.proofs.Math.Seq.{drop-append_seam}
@@ -7,15 +7,11 @@ use Rattle.rv_elf.specs.Elf.{text}
 use Rattle.rv_elf.specs.Symbols.{Symbol, symbol, symbols, symbols_from, named, null_symbol}
 use Rattle.rv_elf.specs.Support.Tables.{entry, entries, names, table_of, strings_of, IsSmall, AreSmall, Within}
 
-text_if : (b : Bool) (x : ℕ) (xs ys : List ℕ) → xs ≡ ys → cond b [] (x ∷ xs) ≡ cond b [] (x ∷ ys)
-text_if true x xs ys e = refl
-text_if false x xs ys e = ap (λ (l : List ℕ). x ∷ l) e
-
 -- a text ends at a null byte
 text_ends : (xs rest : List ℕ) → text (xs ++ 0 ∷ rest) ≡ text xs
 unfolding text
 text_ends [] rest = refl
-text_ends (x ∷ xs) rest = text_if (x == 0) x (text (xs ++ 0 ∷ rest)) (text xs) (text_ends xs rest)
+text_ends (x ∷ xs) rest = search (rules, text_ends xs rest)
 
 entry_over : (at : ℕ) (s : Symbol) (rest : List ℕ) → drop 16 (entry at s ++ rest) ≡ rest
 unfolding entry
@@ -25,14 +21,7 @@ symbol_back : (at : ℕ) (s : Symbol) (rest strings more : List ℕ) → IsSmall
     drop at strings ≡ s.name ++ 0 ∷ more → symbol strings (entry at s ++ rest) ≡ named s
 unfolding entry
 symbol_back at s rest strings more h low is =
-    let name : text (drop at strings) ≡ text s.name = ap text is ∙ text_ends s.name more in
-    rw (
-      from_le_bytes-to_le_bytes_4 s.value h.value,
-      from_le_bytes-to_le_bytes_4 s.size h.size,
-      from_le_bytes-to_le_bytes_2 s.section h.section,
-      from_le_bytes-to_le_bytes_4 at low,
-      name,
-    ) refl
+    search (rules, text_ends, from_le_bytes-to_le_bytes_4, from_le_bytes-to_le_bytes_2)
 
 symbols_back : (at : ℕ) (ss : List Symbol) (strings : List ℕ) → AreSmall ss → Within at ss →
     drop at strings ≡ names ss → symbols_from (length ss) strings (entries at ss) ≡ map named ss
@@ -41,11 +30,9 @@ symbols_back at [] strings small within is = refl
 symbols_back at (s ∷ ss) strings small within is =
     let here : drop at strings ≡ s.name ++ 0 ∷ names ss = is ∙ append_assoc s.name (0 ∷ []) (names ss) in
     let size : length (s.name ++ 0 ∷ []) ≡ length s.name + 1 = length-append s.name (0 ∷ []) in
-    let there : drop (at + (length s.name + 1)) strings ≡ names ss =
-    ap (λ (n : ℕ). drop (at + n) strings) (sym size)
+    let there : drop (at + (length s.name + 1)) strings ≡ names ss = ap (λ (n : ℕ). drop (at + n) strings) (sym size)
     ∙ sym (drop-drop (length (s.name ++ 0 ∷ [])) at strings)
-    ∙ ap (λ (x : List ℕ). drop (length (s.name ++ 0 ∷ [])) x) is
-    ∙ drop-append_seam (s.name ++ 0 ∷ []) (names ss) in
+    ∙ ap (λ (x : List ℕ). drop (length (s.name ++ 0 ∷ [])) x) is ∙ drop-append_seam (s.name ++ 0 ∷ []) (names ss) in
     rw (
       symbol_back at s (entries (at + (length s.name + 1)) ss) strings (names ss) small.0 within.0 here,
       entry_over at s (entries (at + (length s.name + 1)) ss),
@@ -67,8 +54,7 @@ table_back : (ss : List Symbol) → AreSmall ss → Within 1 ss →
 table_back ss small within =
     let e : length (table_of ss) ≡ 16 + 16 * length ss = omega (arith, length_entries 1 ss) in
     let count : length (table_of ss) / 16 ≡ suc (length ss) = omega arith in
-    ap (λ (n : ℕ). symbols_from n (strings_of ss) (table_of ss)) count
-    ∙ first_back (length ss) ss (names ss)
+    ap (λ (n : ℕ). symbols_from n (strings_of ss) (table_of ss)) count ∙ first_back (length ss) ss (names ss)
     ∙ ap (λ (x : List Symbol). null_symbol ∷ x) (symbols_back 1 ss (strings_of ss) small within refl)
 
 -- the same of tables that were made

@@ -1,9 +1,9 @@
 -- What is read of the bytes that are written.
-use Rattle.std.proofs.Common.{◌≡◌, ◌∙◌, ℕ, suc, ◌+◌, ◌*◌, ◌-◌, ◌^◌, ◌<◌, List, [], ◌∷◌, ◌++◌, take, drop, length, get_or, refl, sym, ap, arith, append_assoc, append-nil, length-append, drop-cons, Some}
+use Rattle.std.proofs.Common.{rules, ◌≡◌, ◌∙◌, ℕ, suc, ◌+◌, ◌*◌, ◌-◌, ◌^◌, ◌<◌, List, [], ◌∷◌, ◌++◌, take, drop, length, get_or, refl, sym, ap, arith, append_assoc, append-nil, length-append, drop-cons, Some}
 use Rattle.std.proofs.lemmas.Grind.{flat_map-append}
 use Rattle.rv_base.specs.Limits.{ram_base}
 use Rattle.rv_elf.proofs.Places.{part_fits}
-use Rattle.std.proofs.lemmas.Nat.{from_le_bytes-to_le_bytes_2, from_le_bytes-to_le_bytes_4}
+use Rattle.std.proofs.lemmas.Nat.{from_le_bytes-to_le_bytes_2}
 use Rattle.std.proofs.lemmas.List.{drop-drop, take-append-drop}
 use Rattle.std.proofs.Math.Seq.{drop-append_seam, take-append_seam}
 use Rattle.rv_elf.specs.Elf.{half_at, word_at, section, Section, sections_from, sections, Segment, segment, segments_from, loaded, no_section, image_at}
@@ -12,18 +12,7 @@ use Rattle.rv_elf.specs.Support.Written.{section_header, section_headers, bodies
 fields_back : (at : ℕ) (s : Section) (rest file : List ℕ) → IsSmall s → at < 2 ^ 32 → length s.contents < 2 ^ 32 →
     section file (section_header at s ++ rest) ≡ record s { contents = take (length s.contents) (drop at file) }
 unfolding section_header
-fields_back at s rest file h low short = rw (
-  from_le_bytes-to_le_bytes_4 s.name h.name,
-  from_le_bytes-to_le_bytes_4 s.kind h.kind,
-  from_le_bytes-to_le_bytes_4 s.flags h.flags,
-  from_le_bytes-to_le_bytes_4 s.address h.address,
-  from_le_bytes-to_le_bytes_4 s.link h.link,
-  from_le_bytes-to_le_bytes_4 s.info h.info,
-  from_le_bytes-to_le_bytes_4 s.alignment h.alignment,
-  from_le_bytes-to_le_bytes_4 s.entry_size h.entry_size,
-  from_le_bytes-to_le_bytes_4 at low,
-  from_le_bytes-to_le_bytes_4 (length s.contents) short,
-) refl
+fields_back at s rest file h low short = search rules
 
 header_over : (at : ℕ) (s : Section) (rest : List ℕ) → drop 40 (section_header at s ++ rest) ≡ rest
 unfolding section_header
@@ -32,8 +21,7 @@ header_over at s rest = refl
 -- a section whose bytes are there
 section_back : (at : ℕ) (s : Section) (rest file more : List ℕ) → IsSmall s → at + length s.contents < 2 ^ 32 →
     drop at file ≡ s.contents ++ more → section file (section_header at s ++ rest) ≡ s
-section_back at s rest file more h low is =
-    fields_back at s rest file h (omega arith) (omega arith)
+section_back at s rest file more h low is = fields_back at s rest file h (omega arith) (omega arith)
     ∙ ap (λ (c : List ℕ). record s { contents = c })
     (ap (λ (x : List ℕ). take (length s.contents) x) is ∙ take-append_seam s.contents more)
 
@@ -106,8 +94,7 @@ segment_fields : (at size : ℕ) (rest file : List ℕ) → at < 2 ^ 32 → size
     segment file (program_header at size ++ rest)
     ≡ record { kind = 1; address = ram_base; contents = take size (drop at file); size = size; flags = 7 }
 unfolding program_header
-segment_fields at size rest file low short =
-    rw (from_le_bytes-to_le_bytes_4 at low, from_le_bytes-to_le_bytes_4 size short) refl
+segment_fields at size rest file low short = search rules
 
 -- the bytes of a section are where its offset says
 part_at : (k : ℕ) (ss : List Section) → k < length ss → take (length (get_or ss k no_section).contents)

@@ -1,5 +1,5 @@
 -- The rows that are read back from a line table.
-use Rattle.std.proofs.Common.{◌≡◌, ◌∙◌, ℕ, zero, suc, ◌+◌, ◌-◌, ◌*◌, ◌/◌, ◌%◌, ◌^◌, ◌<◌, ◌≤◌, List, [], ◌∷◌, ◌++◌, drop, length, ℤ, pos, negsuc, Some, refl, sym, ap, ap₂, arith, append_assoc, length-append, ⊎_elim}
+use Rattle.std.proofs.Common.{rules, ◌≡◌, ◌∙◌, ℕ, zero, suc, ◌+◌, ◌-◌, ◌*◌, ◌/◌, ◌%◌, ◌^◌, ◌<◌, ◌≤◌, List, [], ◌∷◌, ◌++◌, drop, length, pos, negsuc, Some, refl, sym, ap, ap₂, arith, append_assoc, length-append, ⊎_elim}
 use Rattle.std.specs.Prelude.{◌+ℤ◌}
 use Rattle.std.proofs.lemmas.Bool.{cases_lt}
 use Rattle.std.proofs.lemmas.Bool.Decides.{nat_tests}
@@ -7,7 +7,7 @@ use Rattle.std.proofs.lemmas.Nat.{from_le_bytes-to_le_bytes_4}
 use Rattle.std.proofs.lemmas.List.{drop-drop}
 use Rattle.std.proofs.Math.Seq.{drop-append_seam, take-length}
 use Rattle.rv_elf.specs.Elf.{word_at}
-use Rattle.rv_elf.specs.LineNumbers.{Leb, leb, signed, Registers, initial, Row, row, end_row, Header, header, program, effect, run, rows, Rises, row_of, rows_after}
+use Rattle.rv_elf.specs.LineNumbers.{Leb, leb, Registers, initial, Row, row, end_row, Header, header, program, effect, run, rows, Rises, row_of, rows_after}
 use Rattle.rv_elf.specs.declared.lines.PlacedLine.{PlacedLine}
 use Rattle.rv_elf.specs.Support.LineBytes.{leb_bytes, line_step, set_address, row_bytes, rows_bytes, end_bytes, program_bytes, header_bytes, table_bytes, AreSmall}
 use Rattle.rv_elf.proofs.Leb.{top, last, next}
@@ -34,22 +34,14 @@ one_back n rest bytes below is = rw (is, leb_last n rest (omega arith)) (record 
 
 more_back : (n : ℕ) (rest bytes more : List ℕ) → bytes ≡ (n % 128 + 128) ∷ more → IsBack (n / 128) rest (leb (more ++ rest))
     → IsBack n rest (leb (bytes ++ rest))
-more_back n rest bytes more is h = rw (is, leb_next (n % 128 + 128) (more ++ rest) (omega arith)) (record {
-  value = omega (arith, h.value);
-  half = omega (arith, h.half);
-  rest = h.rest;
-})
+more_back n rest bytes more is h = search (rules, leb_next)
 
 number_back : (k n : ℕ) (rest : List ℕ) → n < top k 64 → IsBack n rest (leb (leb_bytes k 64 n ++ rest))
 unfolding leb_bytes
 number_back zero n rest below = one_back n rest (n ∷ []) below refl
-number_back (suc k) n rest below = ⊎_elim
-    (λ l. one_back n rest (leb_bytes (suc k) 64 n) l (last k 64 n l))
+number_back (suc k) n rest below = ⊎_elim (λ l. one_back n rest (leb_bytes (suc k) 64 n) l (last k 64 n l))
     (λ l. more_back n rest (leb_bytes (suc k) 64 n) (leb_bytes k 64 (n / 128)) (next k 64 n l) (number_back k (n / 128) rest (omega arith)))
     (cases_lt n 64)
-
-signed_back : (n : ℕ) (rest : List ℕ) (l : Leb) → IsBack n rest l → signed l ≡ pos n
-signed_back n rest l h = let v = h.value in let b = h.half in grind (arith, nat_tests)
 
 -- ---- opcodes
 
@@ -70,23 +62,15 @@ address_runs f a r rest small = rw (from_le_bytes-to_le_bytes_4 a small) refl
 line_runs : (f n : ℕ) (r : Registers) (rest : List ℕ) → n < 2 ^ 32 →
     run (suc f) head r (3 ∷ (line_step n ++ rest)) ≡ run f head (record r { line = r.line +ℤ pos n }) rest
 unfolding run effect
-line_runs f n r rest small =
-    let h = number_back 4 n rest (omega arith) in
-    ap₂ (λ (z : ℤ) (x : List ℕ). run f head (record r { line = r.line +ℤ z }) x)
-    (signed_back n rest (leb (line_step n ++ rest)) h) h.rest
+line_runs f n r rest small = search (rules, number_back)
 
 copy_runs : (f : ℕ) (r : Registers) (rest : List ℕ) → run (suc f) head r (1 ∷ rest) ≡ row r ∷ run f head r rest
 unfolding run effect
 copy_runs f r rest = refl
 
-none_runs : (f : ℕ) (r : Registers) → run f head r [] ≡ []
-unfolding run
-none_runs zero r = refl
-none_runs (suc f) r = refl
-
 end_runs : (f : ℕ) (r : Registers) → run (suc f) head r (0 ∷ 1 ∷ 1 ∷ []) ≡ end_row r ∷ []
 unfolding run effect leb
-end_runs f r = ap (λ (x : List Row). end_row r ∷ x) (none_runs f initial)
+end_runs f r = search rules
 
 -- ---- rows
 
@@ -95,16 +79,7 @@ at_line address line = record { address = address; file = 1; line = pos line }
 
 row_runs : (f a from : ℕ) (l : PlacedLine) (rest : List ℕ) → from ≤ l.line → l.line < 2 ^ 32 → l.address < 2 ^ 32 →
     run (suc (suc (suc f))) head (at_line a from) (row_bytes from l ++ rest) ≡ row_of l ∷ run f head (at_line l.address l.line) rest
-row_runs f a from l rest rises small low =
-    let step = line_step (l.line - from) in
-    let parts : row_bytes from l ++ rest ≡ set_address l.address ++ (3 ∷ (step ++ 1 ∷ rest)) =
-    ap (λ (x : List ℕ). set_address l.address ++ (3 ∷ x)) (append_assoc step (1 ∷ []) rest) in
-    let line : pos from +ℤ pos (l.line - from) ≡ pos l.line = ap pos (omega arith) in
-    ap (λ (x : List ℕ). run (suc (suc (suc f))) head (at_line a from) x) parts
-    ∙ address_runs (suc (suc f)) l.address (at_line a from) (3 ∷ (step ++ 1 ∷ rest)) low
-    ∙ line_runs (suc f) (l.line - from) (at_line l.address from) (1 ∷ rest) (omega arith)
-    ∙ ap (λ (z : ℤ). run (suc f) head (record { address = l.address; file = 1; line = z }) (1 ∷ rest)) line
-    ∙ copy_runs f (at_line l.address l.line) rest
+row_runs f a from l rest rises small low = search (rules, append_assoc, [], pos, address_runs, line_runs, copy_runs)
 
 rows_run : (m a from end : ℕ) (ls : List PlacedLine) → Rises from ls → AreSmall ls → end < 2 ^ 32 →
     run (3 * length ls + (2 + m)) head (at_line a from) (rows_bytes from ls ++ end_bytes end) ≡ rows_after from ls end
@@ -175,6 +150,4 @@ pub table_read : (table name : List ℕ) (end : ℕ) (ls : List PlacedLine) → 
     Rises 1 ls → AreSmall ls → end < 2 ^ 32 → length (table_bytes name end ls) < 4 + 2 ^ 32 →
     rows table ≡ Some (rows_after 1 ls end)
 table_read table name end ls is rises small low within =
-    ap rows is ∙ table_back name end ls within
-    ∙ ap₂ (λ (h : Header) (p : List ℕ). Some (run (length p) h initial p)) (header_back name end ls) (program_back name end ls within)
-    ∙ ap (λ (x : List Row). Some x) (program_runs end ls rises small low)
+    search (rules, table_back, ap₂, header_back, program_back, program_runs)

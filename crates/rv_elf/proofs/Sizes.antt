@@ -1,14 +1,16 @@
 -- How many bytes are written.
-use Rattle.std.proofs.Common.{◌≡◌, ◌∙◌, ℕ, ◌+◌, ◌-◌, ◌*◌, ◌/◌, ◌^◌, ◌<◌, ◌≤◌, List, [], ◌∷◌, ◌++◌, length, map, refl, ap, arith, length-append, lt-ltb, le-ltb, ⊎_elim}
+use Rattle.std.proofs.lemmas.Grind.{common_steps}
+use Rattle.std.proofs.lemmas.Bool.Decides.{nat_tests}
+use Rattle.std.proofs.Common.{rules, ◌≡◌, ◌∙◌, ℕ, ◌+◌, ◌*◌, ◌^◌, ◌<◌, ◌≤◌, List, [], ◌∷◌, length, map, refl, ap, arith, length-append}
 use Rattle.std.proofs.lemmas.Bool.{cases_lt}
 use Rattle.std.proofs.lemmas.List.Concat.{length-flat_map}
 use Rattle.rv_elf.specs.Elf.{Section, sections}
 use Rattle.rv_elf.specs.Symbols.{Symbol}
 use Rattle.rv_elf.specs.Size.{step_size, rows_size, lines_size, symbols_size, info_size, file_size}
 use Rattle.rv_elf.specs.declared.lines.PlacedLine.{PlacedLine}
-use Rattle.rv_elf.specs.Support.LineBytes.{leb_bytes, line_step, row_bytes, rows_bytes, end_bytes, program_bytes, header_bytes, table_bytes}
+use Rattle.rv_elf.specs.Support.LineBytes.{leb_bytes, line_step, rows_bytes, table_bytes}
 use Rattle.rv_elf.specs.declared.object.Tables.{Tables}
-use Rattle.rv_elf.specs.Support.Sections.{Parts, parts, section_names, sections_of}
+use Rattle.rv_elf.specs.Support.Sections.{Parts, parts, sections_of}
 use Rattle.rv_elf.specs.Support.Tables.{names, table_of, strings_of}
 use Rattle.rv_elf.specs.Support.Written.{AreSmall, section_header, section_headers, bodies, bodies_from, file_header, program_header, file_of}
 use Rattle.rv_elf.proofs.Named.{length_entries}
@@ -18,59 +20,15 @@ use Rattle.rv_elf.proofs.Reading.{file_sections}
 
 step_has : (n : ℕ) → length (line_step n) ≡ step_size n
 unfolding leb_bytes
-step_has n = ⊎_elim
-    (λ a. rw (lt-ltb n 64 a) refl)
-    (λ a. ⊎_elim
-    (λ b. rw (le-ltb n 64 a, lt-ltb n 8192 b, lt-ltb (n / 128) 64 (omega arith)) refl)
-    (λ b. ⊎_elim
-    (λ d. rw (
-      le-ltb n 64 a,
-      le-ltb n 8192 b,
-      lt-ltb n 1048576 d,
-      le-ltb (n / 128) 64 (omega arith),
-      lt-ltb (n / 128 / 128) 64 (omega arith),
-    ) refl)
-    (λ d. ⊎_elim
-    (λ e. rw (
-      le-ltb n 64 a,
-      le-ltb n 8192 b,
-      le-ltb n 1048576 d,
-      lt-ltb n 134217728 e,
-      le-ltb (n / 128) 64 (omega arith),
-      le-ltb (n / 128 / 128) 64 (omega arith),
-      lt-ltb (n / 128 / 128 / 128) 64 (omega arith),
-    ) refl)
-    (λ e. rw (
-      le-ltb n 64 a,
-      le-ltb n 8192 b,
-      le-ltb n 1048576 d,
-      le-ltb n 134217728 e,
-      le-ltb (n / 128) 64 (omega arith),
-      le-ltb (n / 128 / 128) 64 (omega arith),
-      le-ltb (n / 128 / 128 / 128) 64 (omega arith),
-    ) refl)
-    (cases_lt n 134217728))
-    (cases_lt n 1048576))
-    (cases_lt n 8192))
-    (cases_lt n 64)
-
-row_has : (from : ℕ) (l : PlacedLine) → length (row_bytes from l) ≡ 9 + step_size (l.line - from)
-row_has from l = omega (arith, length-append (line_step (l.line - from)) (1 ∷ []), step_has (l.line - from))
+step_has n = search rules
 
 rows_have : (from : ℕ) (ls : List PlacedLine) → length (rows_bytes from ls) ≡ rows_size from ls
 rows_have from [] = refl
-rows_have from (l ∷ ls) =
-    omega (arith, length-append (row_bytes from l) (rows_bytes l.line ls), row_has from l, rows_have l.line ls)
+rows_have from (l ∷ ls) = search (rules, length-append, step_has, rows_have l.line ls)
 
 table_size : (name : List ℕ) (end : ℕ) (ls : List PlacedLine) → length (table_bytes name end ls) ≡ lines_size name ls
 unfolding table_bytes
-table_size name end ls = omega (
-  arith,
-  length-append (header_bytes name) (program_bytes end ls),
-  length-append name (0 ∷ 0 ∷ 0 ∷ 0 ∷ 0 ∷ []),
-  length-append (rows_bytes 1 ls) (end_bytes end),
-  rows_have 1 ls,
-)
+table_size name end ls = search (rules, length-append, [], rows_have)
 
 pub table_has : (table name : List ℕ) (end : ℕ) (ls : List PlacedLine) → table ≡ table_bytes name end ls →
     length table ≡ lines_size name ls
@@ -84,12 +42,7 @@ table_exceeds name end ls h = rw (← table_size name end ls) h
 
 names_have : (ss : List Symbol) → 16 * length ss + length (names ss) ≡ symbols_size (map (λ (s : Symbol). s.name) ss)
 names_have [] = refl
-names_have (s ∷ ss) = omega (
-  arith,
-  length-append (s.name ++ 0 ∷ []) (names ss),
-  length-append s.name (0 ∷ []),
-  names_have ss,
-)
+names_have (s ∷ ss) = search (rules, length-append, [], names_have ss)
 
 pub tables_have : (strings table : List ℕ) (ss : List Symbol) → strings ≡ strings_of ss → table ≡ table_of ss →
     length table + length strings ≡ 17 + symbols_size (map (λ (s : Symbol). s.name) ss)
@@ -104,19 +57,11 @@ strings_exceed image ss lines name h = omega (arith, names_have ss)
 headers_have : (at : ℕ) (ss : List Section) → length (section_headers at ss) ≡ 40 * length ss
 unfolding section_header
 headers_have at [] = refl
-headers_have at (s ∷ ss) = omega (
-  arith,
-  length-append (section_header at s) (section_headers (at + length s.contents) ss),
-  headers_have (at + length s.contents) ss,
-)
+headers_have at (s ∷ ss) = search (rules, length-append, headers_have (at + length s.contents) ss)
 
 file_length : (k : ℕ) (ss : List Section) → length (file_of k ss) ≡ bodies_from (length ss) + length (bodies ss)
 unfolding file_of file_header program_header
-file_length k ss = omega (
-  arith,
-  length-append (section_headers (bodies_from (length ss)) ss) (bodies ss),
-  headers_have (bodies_from (length ss)) ss,
-)
+file_length k ss = search (rules, length-append, headers_have)
 
 pub file_within : (k : ℕ) (ss : List Section) → bodies_from (length ss) + length (bodies ss) < 2 ^ 32 →
     length (file_of k ss) < 2 ^ 32
@@ -129,19 +74,7 @@ file_has k ss small few low = rw (file_sections k ss small few low) (file_length
 
 parts_are : (p : Parts) (count : ℕ) → length (bodies (sections_of p count)) ≡ length p.table + length p.image
     + length p.strings + length p.attributes + length p.abbreviations + length p.info + length p.lines + length p.ranges + length p.frames + length p.macros + 130
-parts_are p count =
-    let names : length section_names ≡ 130 = refl in
-    omega (arith, names, length-flat_map (λ (s : Section). s.contents) (sections_of p count))
-
-object_size : (n : ℕ) (attributes abbreviations image : List ℕ) (t : Tables) (frames macros : List ℕ) (count : ℕ) (names : List (List ℕ))
-    (symbols : List Symbol) (lines : List PlacedLine) (name folder : List ℕ) →
-    n ≡ 84 + 40 * length (sections_of (parts attributes abbreviations image t frames macros) count) + length (bodies (sections_of (parts attributes abbreviations image t frames macros) count)) →
-    length attributes ≡ 52 → length abbreviations ≡ 58 →
-    length t.symbols.table.items + length t.symbols.strings.items ≡ 17 + symbols_size names →
-    length t.info.items ≡ info_size name folder symbols → length t.lines.items ≡ lines_size name lines →
-    length t.ranges.items ≡ 32 → n ≡ file_size image names lines name + info_size name folder symbols + length frames + length macros
-object_size n attributes abbreviations image t frames macros count names symbols lines name folder h a b s i l r =
-    omega (arith, h, a, b, s, i, l, r, parts_are (parts attributes abbreviations image t frames macros) count)
+parts_are p count = search (rules, length-flat_map)
 
 pub object_has : (file attributes abbreviations image : List ℕ) (t : Tables) (frames macros : List ℕ) (count : ℕ) (names : List (List ℕ))
     (symbols : List Symbol) (lines : List PlacedLine) (name folder : List ℕ) → sections file ≡ sections_of (parts attributes abbreviations image t frames macros) count →
@@ -151,8 +84,7 @@ pub object_has : (file attributes abbreviations image : List ℕ) (t : Tables) (
     length t.info.items ≡ info_size name folder symbols → length t.lines.items ≡ lines_size name lines →
     length t.ranges.items ≡ 32 → length file ≡ file_size image names lines name + info_size name folder symbols + length frames + length macros
 object_has file attributes abbreviations image t frames macros count names symbols lines name folder is h a b =
-    object_size (length file) attributes abbreviations image t frames macros count names symbols lines name folder
-    (h ∙ ap (λ (ss : List Section). 84 + 40 * length ss + length (bodies ss)) is) a b
+    grind (arith, nat_tests, common_steps, parts_are)
 
 -- each symbol has 17 bytes at least
 pub symbols_have : (ss : List Symbol) → 17 * length ss ≤ symbols_size (map (λ (s : Symbol). s.name) ss)
@@ -161,7 +93,4 @@ symbols_have (s ∷ ss) = omega (arith, symbols_have ss)
 
 pub symbols_exceed : (image : List ℕ) (ss : List Symbol) (lines : List PlacedLine) (name : List ℕ) →
     (1 + length ss < 2 ^ 32 → ⊥) → 2 ^ 32 ≤ file_size image (map (λ (s : Symbol). s.name) ss) lines name
-symbols_exceed image ss lines name h = ⊎_elim
-    (λ l. absurd (h l))
-    (λ l. omega (arith, symbols_have ss))
-    (cases_lt (1 + length ss) (2 ^ 32))
+symbols_exceed image ss lines name h = search (rules, symbols_have, cases_lt)

@@ -1,6 +1,7 @@
-use Rattle.std.proofs.Common.{◌∙◌, ℕ, Some, ap, map, refl}
+use Rattle.std.proofs.lemmas.Grind.{common_steps}
+use Rattle.std.proofs.lemmas.Bool.Decides.{nat_tests}
+use Rattle.std.proofs.Common.{arith, ◌∙◌, ℕ, Some, ap}
 use Rattle.rv_elf.specs.LineNumbers.{rows_after}
-use Rattle.rv_elf.specs.declared.info.TheConstants.{ABBREVIATIONS, ATTRIBUTES}
 use Rattle.rv_elf.proofs.Found.{symbols_found, lines_found, info_found, frames_found, macros_found}
 use Rattle.rv_elf.proofs.Sizes.{object_has}
 use Rattle.rv_elf.proofs.object.write_object.Goals as goal
@@ -27,9 +28,4 @@ returns-clause-macros c = macros_found c.in_ok-file.file.items _ _ _ c.in_ok-tab
     c.in_ok-file.ensures.names
 
 pub returns-clause-size : goal.returns-clause-size
-returns-clause-size c = object_has c.in_ok-file.file.items ATTRIBUTES.now ABBREVIATIONS.now
-    c.args.object.now.image.now c.in_ok-tables.tables c.args.object.now.frames.now c.args.object.now.macros.now
-    c.in-Some-entries_of.count (map (λ s. s.name) c.args.object.now.symbols.now) c.args.object.now.symbols.now
-    c.args.object.now.lines.now c.args.object.now.name.now c.args.object.now.folder.now
-    c.in_ok-file.ensures.sections c.in_ok-file.ensures.size refl refl c.in_ok-tables.ensures.names
-    c.in_ok-tables.ensures.info c.in_ok-tables.ensures.rows c.in_ok-tables.ensures.ranges
+returns-clause-size c = grind (arith, nat_tests, common_steps, object_has)
