@@ -57,8 +57,7 @@ module _ (ps : List ℕ) (t s v : ℕ) (above : Sources) (is : sources_above ps 
   above_lowered under = removed above _ s (it false (le-ltb t v under)) others
 
 -- ---- the external line
-in_notified : (plic : PlicState) (above : Sources) (q : ℕ)
-    → sources_above plic.priorities plic.threshold ≡ above
+in_notified : (plic : PlicState) (above : Sources) (q : ℕ) → sources_above plic.priorities plic.threshold ≡ above
     → contains (intersection (intersection plic.pending plic.enabled) above) q
     ≡ (is_waiting plic q && is_above plic.priorities plic.threshold q)
 in_notified plic above q is = search (rules, contains-intersection, nat_cmp_total, contains-above)
@@ -67,14 +66,12 @@ with_range : (w : Bool) (ps : List ℕ) (t q : ℕ) → 1 ≤ q → q < 32
     → (w && nat_lt t (slice_index ps q)) ≡ (w && is_above ps t q)
 with_range w ps t q low high = search rules
 
-pub none_notified : (plic : PlicState) (above : Sources)
-    → sources_above plic.priorities plic.threshold ≡ above
+pub none_notified : (plic : PlicState) (above : Sources) → sources_above plic.priorities plic.threshold ≡ above
     → intersection (intersection plic.pending plic.enabled) above ≡ empty → is_notified plic ≡ false
 unfolding is_notified sources
 none_notified plic above is none =
     none-range (λ s. is_waiting plic s && nat_lt plic.threshold (slice_index plic.priorities s)) 1 31
-    (λ q low high.
-    with_range (is_waiting plic q) plic.priorities plic.threshold q low high
+    (λ q low high. with_range (is_waiting plic q) plic.priorities plic.threshold q low high
     ∙ sym (in_notified plic above q is) ∙ ap (λ u. contains u q) none ∙ contains-empty nat_cmp q)
 
 some_other : (plic : PlicState) (above : Sources) → sources_above plic.priorities plic.threshold ≡ above
@@ -90,8 +87,7 @@ some_other plic above is quiet =
         && nat_lt plic.threshold (slice_index plic.priorities s)) 1 31 q range.0 range.1
         (with_range (is_waiting plic q) plic.priorities plic.threshold q range.0 range.1 ∙ one)))
 
-pub some_notified : (plic : PlicState) (above : Sources)
-    → sources_above plic.priorities plic.threshold ≡ above
+pub some_notified : (plic : PlicState) (above : Sources) → sources_above plic.priorities plic.threshold ≡ above
     → intersection (intersection plic.pending plic.enabled) above ≢ empty → is_notified plic ≡ true
 some_notified plic above is some = search (rules, some_other)
 
@@ -103,8 +99,7 @@ HasThoseBelow number ps t s = (q : ℕ) → contains s q ≡ (nat_lt q number &&
 pub starts_empty : (ps : List ℕ) (t : ℕ) (s : Sources) → s ≡ empty → HasThoseBelow 1 ps t s
 starts_empty ps t s none q = search (rules, contains-empty, nat_tests, and_unless, and_left, ltb-true)
 
-at_number : (ps : List ℕ) (t n : ℕ) (b : Bool) → 0 < n → n < 32 → nat_lt t (slice_index ps n) ≡ b
-    → is_above ps t n ≡ b
+at_number : (ps : List ℕ) (t n : ℕ) (b : Bool) → 0 < n → n < 32 → nat_lt t (slice_index ps n) ≡ b → is_above ps t n ≡ b
 at_number ps t n b low high is = search rules
 
 next_number : (q n : ℕ) → (q ≡ n → ⊥) → nat_lt q n ≡ nat_lt q (n + 1)

@@ -1,7 +1,7 @@
 -- The best source by its property, and the search for it.
 use Rattle.std.proofs.lemmas.Bool.Decides.{nat_tests}
 use Rattle.std.proofs.lemmas.Grind.{common_steps}
-use Rattle.std.proofs.Common.{rules, ◌≡◌, ℕ, zero, suc, ◌+◌, ◌<◌, ◌≤◌, Bool, true, false, refl, sym, ◌∙◌, ap, subst, arith}
+use Rattle.std.proofs.Common.{rules, ◌≡◌, ℕ, zero, suc, ◌+◌, ◌<◌, ◌≤◌, Bool, true, false, refl, sym, ◌∙◌, ap, arith}
 use Rattle.std.specs.Prelude.{◌&&◌, not, nat_lt, slice_index, Option, Some, None}
 use Rattle.std.specs.List.{range_with_len, find, list_any}
 use Rattle.std.specs.FinSet.{contains, intersection, empty, contains-empty, contains-intersection}
@@ -50,18 +50,15 @@ module _ (waits : ℕ → Bool) (priority : ℕ → ℕ) where
 
   module _ (n : ℕ) where
     abbrev is_unbeaten : ℕ → Bool
-    is_unbeaten source =
-        above 0 source && not (list_any (above (priority source)) (range_with_len 1 n))
+    is_unbeaten source = above 0 source && not (list_any (above (priority source)) (range_with_len 1 n))
 
-    best_is_unbeaten : (source : ℕ) → IsBestBelow (1 + n) (above 0) priority (Some source)
-        → is_unbeaten source ≡ true
+    best_is_unbeaten : (source : ℕ) → IsBestBelow (1 + n) (above 0) priority (Some source) → is_unbeaten source ≡ true
     best_is_unbeaten source is = search (rules, and_from, not_from_false, none-range, not_above)
 
     lower_is_beaten : (source other : ℕ) → IsBestBelow (1 + n) (above 0) priority (Some source) → 1 ≤ other
         → other < source → is_unbeaten other ≡ false
     lower_is_beaten source other is low lower =
-        and_unless (above 0 other) _ (λ passes.
-        ap not (any-range (above (priority other)) 1 n source is.0 is.1
+        and_unless (above 0 other) _ (λ passes. ap not (any-range (above (priority other)) 1 n source is.0 is.1
         (above_lower source other (is.3 other low (omega (arith, is.1)) passes) lower (and_parts _ _ is.2).0)))
 
     search_finds_best : (found : Option ℕ) → IsBestBelow (1 + n) (above 0) priority found
@@ -79,8 +76,7 @@ pub best_of_intersection : (plic : PlicState) (found : Option ℕ)
 best_of_intersection plic found is = search (rules, contains, intersection, contains-intersection)
 
 pub best_of_empty : (plic : PlicState) → intersection plic.pending plic.enabled ≡ empty → IsBest plic None
-best_of_empty plic none =
-    λ t low high. and_left (is_waiting plic t) _ (sym
+best_of_empty plic none = λ t low high. and_left (is_waiting plic t) _ (sym
     (contains-intersection nat_cmp_total plic.pending plic.enabled t) ∙ ap (λ s. contains s t) none
     ∙ contains-empty nat_cmp t)
 

@@ -19,15 +19,13 @@ unfolding changed
 nothing_changed f s a [] none = refl
 nothing_changed f s a (n ∷ ns) none = grind (arith, nat_tests, common_steps, nothing_changed f s (a + 1) ns)
 
-pub length-changed : (f : ℕ → ℕ) (s : Sources) (a : ℕ) (edges : Edges)
-    → length (changed f s a edges) ≡ length edges
+pub length-changed : (f : ℕ → ℕ) (s : Sources) (a : ℕ) (edges : Edges) → length (changed f s a edges) ≡ length edges
 unfolding changed
 length-changed f s a [] = refl
 length-changed f s a (n ∷ ns) = ap suc (length-changed f s (a + 1) ns)
 
 get_or-changed : (f : ℕ → ℕ) (s : Sources) (a : ℕ) (edges : Edges) (k d : ℕ) → k < length edges
-    → get_or (changed f s a edges) k d ≡ (if contains s (a + k) then f (get_or edges k d)
-    else get_or edges k d)
+    → get_or (changed f s a edges) k d ≡ (if contains s (a + k) then f (get_or edges k d) else get_or edges k d)
 unfolding changed
 get_or-changed f s a [] k d in_list = absurd (omega arith)
 get_or-changed f s a (n ∷ ns) zero d in_list = search rules
@@ -41,8 +39,7 @@ again_same n is = search rules
 less : (b : Bool) (m n : ℕ) → m ≡ n → m - (if b then 1 else 0) ≡ (if b then one_less n else n)
 less b m n same = search rules
 
-taken-from : (s : Sources) (all edges : Edges) (a : ℕ)
-    → ((k : ℕ) → edges_of all (a + k) ≡ slice_index edges k)
+taken-from : (s : Sources) (all edges : Edges) (a : ℕ) → ((k : ℕ) → edges_of all (a + k) ≡ slice_index edges k)
     → map (λ q. edges_of all q - (if contains s q then 1 else 0)) (range_with_len a (length edges))
     ≡ changed one_less s a edges
 unfolding changed
@@ -57,41 +54,34 @@ unfolding taken
 taken-changed s edges = search (rules, taken-from, le-leb)
 
 -- ---- giving an edge to each source of a set, as the definition says it
-more-from : (s : Sources) (all edges : Edges) (a : ℕ)
-    → ((k : ℕ) → edges_of all (a + k) ≡ slice_index edges k)
+more-from : (s : Sources) (all edges : Edges) (a : ℕ) → ((k : ℕ) → edges_of all (a + k) ≡ slice_index edges k)
     → map (λ q. if contains s q then one_more (edges_of all q) else edges_of all q) (range_with_len a (length edges))
     ≡ changed one_more s a edges
 unfolding changed
 more-from s all [] a each = refl
-more-from s all (n ∷ ns) a each =
-    λ i. ap (λ count. if contains s a then one_more count else count)
-    (ap (edges_of all) (sym (add-zero a)) ∙ each 0) i
-    ∷ more-from s all ns (a + 1)
+more-from s all (n ∷ ns) a each = λ i. ap (λ count. if contains s a then one_more count else count)
+    (ap (edges_of all) (sym (add-zero a)) ∙ each 0) i ∷ more-from s all ns (a + 1)
     (λ k. let place : a + 1 + k ≡ a + suc k = omega arith in ap (edges_of all) place ∙ each (suc k)) i
 
 pub more-changed : (s : Sources) (edges : Edges) → with_more_edges edges s ≡ changed one_more s 24 edges
 unfolding with_more_edges
 more-changed s edges = search (rules, more-from, le-leb)
 
-pub taken_and_given : (s : Sources) (a : ℕ) (edges : Edges)
-    → ((k : ℕ) → k < length edges → contains s (a + k) ≡ true
+pub taken_and_given : (s : Sources) (a : ℕ) (edges : Edges) → ((k : ℕ) → k < length edges → contains s (a + k) ≡ true
     → (0 < slice_index edges k) × (slice_index edges k < 2 ^ 32))
     → changed one_more s a (changed one_less s a edges) ≡ edges
 unfolding changed
 taken_and_given s a [] each = refl
-taken_and_given s a (n ∷ ns) each =
-    λ i. first (contains s a) refl i ∷ taken_and_given s (a + 1) ns
+taken_and_given s a (n ∷ ns) each = λ i. first (contains s a) refl i ∷ taken_and_given s (a + 1) ns
     (λ k in_list is. let same : a + suc k ≡ a + 1 + k = omega arith
     in each (suc k) (omega arith) (ap (contains s) same ∙ is)) i
   where
-    first : (b : Bool) → contains s a ≡ b
-        → (if contains s a then one_more (if contains s a then one_less n else n)
+    first : (b : Bool) → contains s a ≡ b → (if contains s a then one_more (if contains s a then one_less n else n)
         else (if contains s a then one_less n else n)) ≡ n
     first true is = ap (λ b. if b then one_more (if b then one_less n else n)
         else (if b then one_less n else n)) is ∙ again_same n (let same : a + 0 ≡ a = omega arith
         in each zero (omega arith) (ap (contains s) same ∙ is))
-    first false is =
-        ap (λ b. if b then one_more (if b then one_less n else n) else (if b then one_less n else n)) is
+    first false is = ap (λ b. if b then one_more (if b then one_less n else n) else (if b then one_less n else n)) is
 
 -- ---- one source after the other
 -- the counts of the sources below `number` are changed, and the others are as before

@@ -35,69 +35,49 @@ priority_row : ℕ → ℕ × Register PlicState
 priority_row s = (4 * s, register (λ p. priority_of p s) (λ p word. record p { priorities = slice_set p.priorities s (word % 8) }))
 
 found_from : (off s a n : ℕ) (rest : List (ℕ × Register PlicState)) → off ≡ 4 * s → a ≤ s → s < a + n
-    → find (λ r. off == r.0) (map priority_row (range_with_len a n) ++ rest)
-    ≡ Some (priority_row s)
+    → find (λ r. off == r.0) (map priority_row (range_with_len a n) ++ rest) ≡ Some (priority_row s)
 unfolding priority_row
 found_from off s a zero rest is low high = absurd (omega arith)
 found_from off s a (suc n) rest is low high = grind (arith, nat_tests, common_steps, priority_row, eqb-true, found_from off s (a + 1) n rest is)
 
 none_from : (off a n : ℕ) (rest : List (ℕ × Register PlicState)) → ((s : ℕ) → a ≤ s → s < a + n → off ≢ 4 * s)
-    → find (λ r. off == r.0) (map priority_row (range_with_len a n) ++ rest)
-    ≡ find (λ r. off == r.0) rest
+    → find (λ r. off == r.0) (map priority_row (range_with_len a n) ++ rest) ≡ find (λ r. off == r.0) rest
 unfolding priority_row
 none_from off a zero rest none = refl
 none_from off a (suc n) rest none =
     go (off == 4 * a) refl (none_from off (a + 1) n rest (λ s low high. none s (omega arith) (omega arith)))
   where
-    go : (b : Bool) → (off == 4 * a) ≡ b
-        → find (λ r. off == r.0) (map priority_row (range_with_len (a + 1) n) ++ rest)
-        ≡ find (λ r. off == r.0) rest
-        → cond b (Some (priority_row a))
-        (find (λ r. off == r.0) (map priority_row (range_with_len (a + 1) n) ++ rest))
-        ≡ find (λ r. off == r.0) rest
+    go : (b : Bool) → (off == 4 * a) ≡ b → find (λ r. off == r.0) (map priority_row (range_with_len (a + 1) n) ++ rest)
+        ≡ find (λ r. off == r.0) rest → cond b (Some (priority_row a))
+        (find (λ r. off == r.0) (map priority_row (range_with_len (a + 1) n) ++ rest)) ≡ find (λ r. off == r.0) rest
     go true here later = absurd (none a (omega arith) (omega arith) (eqb-true off (4 * a) here))
     go false apart later = later
 
 -- ---- each register
 
 after : List (ℕ × Register PlicState)
-after =
-    (0x1000, register (λ p. word_of p.pending) (λ p word. p))
+after = (0x1000, register (λ p. word_of p.pending) (λ p word. p))
     ∷ (0x2000, register (λ p. word_of p.enabled) (λ p word. record p { enabled = sources_of word }))
     ∷ (0x200000, register (λ p. p.threshold) (λ p word. record p { threshold = word % 8 }))
-    ∷ (0x200004, record { word = λ p. unwrap_or (best p) 0; loaded = claimed; stored = completed })
-    ∷ []
+    ∷ (0x200004, record { word = λ p. unwrap_or (best p) 0; loaded = claimed; stored = completed }) ∷ []
 
-others : (plic : PlicState) (off : ℕ)
-    → Agrees plic (find (λ r. off == r.0) after)
-    (if off == 0x1000 then Some Pending
+others : (plic : PlicState) (off : ℕ) → Agrees plic (find (λ r. off == r.0) after) (if off == 0x1000 then Some Pending
     else (if off == 0x2000 then Some Enables
     else (if off == 0x200000 then Some Threshold else (if off == 0x200004 then Some Claim else None))))
 unfolding after
-others plic off =
-    more plic (off == 0x1000) _ Pending _ _ (record { word = refl; loaded = refl; stored = λ word. refl })
-    (more plic (off == 0x2000) _ Enables _ _ (record { word = refl; loaded = refl; stored = λ word. refl })
-    (more plic (off == 0x200000) _ Threshold _ _ (record { word = refl; loaded = refl; stored = λ word. refl })
-    (more plic (off == 0x200004) _ Claim _ _ (record { word = refl; loaded = refl; stored = λ word. refl })
-    (record { word = refl; loaded = refl; stored = λ word. refl }))))
+others plic off = search rules
 
-same : (plic : PlicState) (off : ℕ) → off % 4 ≡ 0
-    → Agrees plic (find (λ r. off == r.0) registers) (reg_at off)
+same : (plic : PlicState) (off : ℕ) → off % 4 ≡ 0 → Agrees plic (find (λ r. off == r.0) registers) (reg_at off)
 unfolding registers reg_at sources priority_row after
 same plic off aligned = go (nat_le 4 off && nat_lt off 128) refl where
-  go : (b : Bool) → (nat_le 4 off && nat_lt off 128) ≡ b
-      → Agrees plic
-      (find (λ r. off == r.0) (map priority_row (range_with_len 1 31) ++ after))
-      (if b then Some (Priority (off / 4))
-      else (if off == 0x1000 then Some Pending
-      else (if off == 0x2000 then Some Enables
+  go : (b : Bool) → (nat_le 4 off && nat_lt off 128) ≡ b → Agrees plic
+      (find (λ r. off == r.0) (map priority_row (range_with_len 1 31) ++ after)) (if b then Some (Priority (off / 4))
+      else (if off == 0x1000 then Some Pending else (if off == 0x2000 then Some Enables
       else (if off == 0x200000 then Some Threshold else (if off == 0x200004 then Some Claim else None)))))
   go true within =
       rw (found_from off (off / 4) 1 31 after (omega arith) (grind (arith, nat_tests)) (grind (arith, nat_tests)))
       (record { word = refl; loaded = refl; stored = λ word. refl })
-  go false out =
-      rw (none_from off 1 31 after (λ s low high is. absurd (grind (arith, nat_tests))))
-      (others plic off)
+  go false out = rw (none_from off 1 31 after (λ s low high is. absurd (grind (arith, nat_tests)))) (others plic off)
 
 -- ---- loads and stores by the register at the offset
 

@@ -43,20 +43,16 @@ removed s t n it others = search (rules, nat_tests, same_sources, remove, cases_
 
 -- ---- the operations of sets as those of words
 pub or_word : (a b : ℕ) → IsSourceWord a → IsSourceWord b → IsSourceWord (bit_or a b)
-or_word a b is also =
-    record {
-      fits = or_lt 32 a b is.fits also.fits;
-      no_zero =
-          omega (arith, bit_at_lowest a, bit_at_lowest b, bit_at_lowest (bit_or a b), bit_at_or a b 0);
-    }
+or_word a b is also = record {
+  fits = or_lt 32 a b is.fits also.fits;
+  no_zero = omega (arith, bit_at_lowest a, bit_at_lowest b, bit_at_lowest (bit_or a b), bit_at_or a b 0);
+}
 
 pub and_word : (a b : ℕ) → IsSourceWord a → IsSourceWord (bit_and a b)
-and_word a b is =
-    record {
-      fits = omega (arith, and_le_l a b, is.fits);
-      no_zero =
-          omega (arith, bit_at_lowest a, bit_at_lowest b, bit_at_lowest (bit_and a b), bit_at_and a b 0);
-    }
+and_word a b is = record {
+  fits = omega (arith, and_le_l a b, is.fits);
+  no_zero = omega (arith, bit_at_lowest a, bit_at_lowest b, bit_at_lowest (bit_and a b), bit_at_and a b 0);
+}
 
 -- two functions of bits that are equal at each pair of bits
 same_at_bits : (f g : ℕ → ℕ → Bool) → f 0 0 ≡ g 0 0 → f 0 1 ≡ g 0 1 → f 1 0 ≡ g 1 0 → f 1 1 ≡ g 1 1
@@ -79,28 +75,22 @@ union_word a b is also = search (rules, same_sources, contains-sources_of, bit_o
 pub intersection_word : (a b : ℕ) → IsSourceWord a → IsSourceWord b
     → sources_of (bit_and a b) ≡ intersection (sources_of a) (sources_of b)
 intersection_word a b is also =
-    same_sources _ _ (λ q.
-    contains-sources_of (bit_and a b) q (and_word a b is)
-    ∙ ap (λ n. n == 1) (bit_at_and a b q)
+    same_sources _ _ (λ q. contains-sources_of (bit_and a b) q (and_word a b is) ∙ ap (λ n. n == 1) (bit_at_and a b q)
     ∙ min_one _ _ (bit_at-lt a q) (bit_at-lt b q)
     ∙ sym (contains-intersection nat_cmp_total (sources_of a) (sources_of b) q
     ∙ (λ i. contains-sources_of a q is i && contains-sources_of b q also i)))
 
 without_bit : (a b q : ℕ) → IsSourceWord a → IsSourceWord b
     → bit_at (bit_and a (bit_not w32 b)) q ≡ min (bit_at a q) (1 - bit_at b q)
-without_bit a b q is also =
-    bit_at_and a (bit_not w32 b) q
-    ∙ elim (cases_lt q 32) [
-      | inl below ↦ ap (λ n. min (bit_at a q) n) (bit_at_not w32 b q also.fits below)
-      | inr above ↦ omega (arith, bit_at_above a 32 q is.fits above)
-    ]
+without_bit a b q is also = bit_at_and a (bit_not w32 b) q ∙ elim (cases_lt q 32) [
+  | inl below ↦ ap (λ n. min (bit_at a q) n) (bit_at_not w32 b q also.fits below)
+  | inr above ↦ omega (arith, bit_at_above a 32 q is.fits above)
+]
 
 pub difference_word : (a b : ℕ) → IsSourceWord a → IsSourceWord b
     → sources_of (bit_and a (bit_not w32 b)) ≡ difference (sources_of a) (sources_of b)
 difference_word a b is also =
-    same_sources _ _ (λ q.
-    contains-sources_of _ q (and_word a _ is)
-    ∙ ap (λ n. n == 1) (without_bit a b q is also)
+    same_sources _ _ (λ q. contains-sources_of _ q (and_word a _ is) ∙ ap (λ n. n == 1) (without_bit a b q is also)
     ∙ min_not_one _ _ (bit_at-lt a q) (bit_at-lt b q)
     ∙ sym (contains-difference nat_cmp_total (sources_of a) (sources_of b) q
     ∙ (λ i. contains-sources_of a q is i && not (contains-sources_of b q also i))))
@@ -114,8 +104,7 @@ place_word s low high =
 
 pub insert_word : (a s : ℕ) → IsSourceWord a → 0 < s → s < 32
     → sources_of (bit_or a (1 * 2 ^ s % 2 ^ 32)) ≡ insert (sources_of a) s
-insert_word a s is low high =
-    inserted (sources_of a) _ s (has s ∙ ap (λ n. n == 1) (bit_at_set_same w32 a s high))
+insert_word a s is low high = inserted (sources_of a) _ s (has s ∙ ap (λ n. n == 1) (bit_at_set_same w32 a s high))
     (λ q other. has q ∙ ap (λ n. n == 1) (bit_at_set_other w32 a s high q other) ∙ sym (contains-sources_of a q is))
   where
     has : (q : ℕ) → contains (sources_of (bit_or a (1 * 2 ^ s % 2 ^ 32))) q
@@ -124,17 +113,14 @@ insert_word a s is low high =
 
 cleared_bit : (a s q : ℕ) → IsSourceWord a → s < 32 → (q ≡ s → ⊥)
     → bit_at (bit_and a (bit_not w32 (1 * 2 ^ s % 2 ^ 32))) q ≡ bit_at a q
-cleared_bit a s q is high other =
-    elim (cases_lt q 32) [
-      | inl below ↦ bit_at_clear_other w32 a s high q below other
-      | inr above ↦
-          omega (arith, bit_at_and a (bit_not w32 (1 * 2 ^ s % 2 ^ 32)) q, bit_at_above a 32 q is.fits above)
-    ]
+cleared_bit a s q is high other = elim (cases_lt q 32) [
+  | inl below ↦ bit_at_clear_other w32 a s high q below other
+  | inr above ↦ omega (arith, bit_at_and a (bit_not w32 (1 * 2 ^ s % 2 ^ 32)) q, bit_at_above a 32 q is.fits above)
+]
 
 pub remove_word : (a s : ℕ) → IsSourceWord a → 0 < s → s < 32
     → sources_of (bit_and a (bit_not w32 (1 * 2 ^ s % 2 ^ 32))) ≡ remove (sources_of a) s
-remove_word a s is low high =
-    removed (sources_of a) _ s (has s ∙ ap (λ n. n == 1) (bit_at_clear_same w32 a s high))
+remove_word a s is low high = removed (sources_of a) _ s (has s ∙ ap (λ n. n == 1) (bit_at_clear_same w32 a s high))
     (λ q other. has q ∙ ap (λ n. n == 1) (cleared_bit a s q is high other) ∙ sym (contains-sources_of a q is))
   where
     has : (q : ℕ) → contains (sources_of (bit_and a (bit_not w32 (1 * 2 ^ s % 2 ^ 32)))) q
