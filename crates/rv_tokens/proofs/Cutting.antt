@@ -1,11 +1,10 @@
 -- Cutting a line, token by token; and where the tokens stand.
 use Rattle.std.proofs.lemmas.Grind.{common_steps}
 use Rattle.std.proofs.lemmas.Bool.Decides.{nat_tests}
-use Rattle.std.proofs.Common.{◌≡◌, ℕ, zero, suc, ◌-◌, ◌<◌, true, false, List, [], ◌∷◌, ◌++◌, length, drop, get_or, refl, sym, ap, arith, append_assoc, append-nil, rules}
+use Rattle.std.proofs.Common.{◌≡◌, ℕ, zero, suc, ◌-◌, ◌<◌, true, false, List, [], ◌∷◌, ◌++◌, length, drop, get_or, refl, ap, arith, append_assoc, append-nil, rules}
 use Rattle.std.specs.Prelude.{None, Some, Result, Ok, Err, slice_get}
 use Rattle.rv_tokens.specs.declared.token.Token.{Token}
 use Rattle.rv_tokens.specs.declared.fault.LineFault.{LineFault}
-use Rattle.rv_tokens.specs.declared.fault.LineFault.TheVariants.{OutOfMemory}
 use Rattle.rv_tokens.specs.Support.Partial.{Fails}
 use Rattle.rv_base.specs.Words.{is_blank}
 use Rattle.rv_tokens.specs.Literals.{longest}
@@ -24,8 +23,7 @@ pub cut_end : (line : List ℕ) → length line ≡ 0 → tokens_after line 0 �
 unfolding tokens_after
 cut_end line h = grind (arith, nat_tests, common_steps)
 
-pub cut_blank : (line : List ℕ) → is_blank (get_or line 0 0) ≡ true
-    → tokens_after line 0 ≡ tokens_after (drop 1 line) 0
+pub cut_blank : (line : List ℕ) → is_blank (get_or line 0 0) ≡ true → tokens_after line 0 ≡ tokens_after (drop 1 line) 0
 unfolding tokens_after
 cut_blank line e = search rules
 
@@ -62,8 +60,7 @@ pub more_tokens : (ts us : List Token) (r : Result (List Token) LineFault)
 unfolding with_tokens
 more_tokens ts us r = search (rules, append_assoc)
 
-pub fails : (fault : LineFault) (meaning : Result (List Token) LineFault) → meaning ≡ Err fault
-    → Fails fault meaning
+pub fails : (fault : LineFault) (meaning : Result (List Token) LineFault) → meaning ≡ Err fault → Fails fault meaning
 fails other meaning h = search rules
 
 pub ruleset cut_steps = (cut_end, cut_blank, cut_comment, cut_token, cut_none, no_tokens, last_tokens, failed_tokens, more_tokens, fails, longest_found)

@@ -1,7 +1,6 @@
 -- Escapes, bytes between quotes, and the bytes of a string.
-use Rattle.std.proofs.Common.{rules}
+use Rattle.std.proofs.Common.{rules, ◌≡◌, ℕ, zero, suc, ◌-◌, ◌<◌, ◌≤◌, cond, List, [], ◌∷◌, length, take, drop, get_or, refl, ap, arith, length-take}
 use Rattle.std.proofs.lemmas.Grind.{common_steps}
-use Rattle.std.proofs.Common.{◌≡◌, ℕ, zero, suc, ◌-◌, ◌<◌, ◌≤◌, Bool, cond, List, [], ◌∷◌, length, take, drop, get_or, refl, ap, arith, length-take}
 use Rattle.std.specs.Prelude.{Option, None, Some, ◌&&◌, IsTrue, is_some}
 use Rattle.std.specs.Bool.{◌==◌}
 use Rattle.std.specs.Option.{option_map, unwrap_or}
@@ -53,8 +52,7 @@ first_byte_within text n le long = search (rules, longest_above, length-take, sp
 
 -- ---- local references
 
-pub local_is : (text : List ℕ) → 0 < length text → local text
-    ≡ cond (get_or text (length text - 1) 0 == 98)
+pub local_is : (text : List ℕ) → 0 < length text → local text ≡ cond (get_or text (length text - 1) 0 == 98)
     (option_map (λ n. Local n Backward) (short_decimal (take (length text - 1) text)))
     (cond (get_or text (length text - 1) 0 == 102)
     (option_map (λ n. Local n Forward) (short_decimal (take (length text - 1) text))) None)

@@ -1,7 +1,6 @@
 -- The longest token at the front of a line, by the byte that the line begins with.
 use Rattle.std.proofs.lemmas.Grind.{common_steps}
-use Rattle.std.proofs.Common.{rules}
-use Rattle.std.proofs.Common.{◌≡◌, ℕ, zero, suc, ◌+◌, ◌-◌, ◌<◌, ◌≤◌, Bool, true, false, cond, List, [], ◌∷◌, length, take, drop, get_or, refl, sym, ap, ◌∙◌, arith, length-take, length-drop, get_or-take, get_or-drop}
+use Rattle.std.proofs.Common.{rules, ◌≡◌, ℕ, zero, suc, ◌+◌, ◌-◌, ◌<◌, ◌≤◌, Bool, true, false, cond, List, [], ◌∷◌, length, take, drop, get_or, refl, ap, ◌∙◌, arith, length-take, length-drop, get_or-take, get_or-drop}
 use Rattle.std.specs.Prelude.{Option, None, Some, option_and_then, ◌&&◌, codes}
 use Rattle.std.specs.List.{list_all}
 use Rattle.std.specs.Str.{bytes_eq}
@@ -27,14 +26,12 @@ pub none_in : (line : List ℕ) (m : ℕ) → token_of (take m line) ≡ None �
 unfolding token_in
 none_in line m h = search rules
 
-pub kept_in : (line : List ℕ) (m : ℕ)
-    → (is_name_byte (get_or line (m - 1) 0) && is_name_byte (get_or line m 0)) ≡ false
+pub kept_in : (line : List ℕ) (m : ℕ) → (is_name_byte (get_or line (m - 1) 0) && is_name_byte (get_or line m 0)) ≡ false
     → token_in line m ≡ token_of (take m line)
 unfolding token_in
 kept_in line m h = rw h refl
 
-lost_in : (line : List ℕ) (m : ℕ)
-    → (is_name_byte (get_or line (m - 1) 0) && is_name_byte (get_or line m 0)) ≡ true
+lost_in : (line : List ℕ) (m : ℕ) → (is_name_byte (get_or line (m - 1) 0) && is_name_byte (get_or line m 0)) ≡ true
     → token_in line m ≡ None
 unfolding token_in
 lost_in line m h = rw h refl
@@ -93,8 +90,7 @@ front_word line (suc n) within first all stop = (
 -- ---- signs
 
 token_of_other : (xs : List ℕ) → 1 < length xs → is_name_byte (get_or xs 0 0) ≡ false
-    → (get_or xs 0 0 == 34) ≡ false → (get_or xs 0 0 == 39) ≡ false → (get_or xs 0 0 == 37) ≡ false
-    → token_of xs ≡ None
+    → (get_or xs 0 0 == 34) ≡ false → (get_or xs 0 0 == 39) ≡ false → (get_or xs 0 0 == 37) ≡ false → token_of xs ≡ None
 token_of_other [] long h s c p = absurd (omega arith)
 token_of_other (a ∷ []) long h s c p = absurd (omega arith)
 token_of_other (a ∷ b ∷ bs) long h s c p = token_is a (b ∷ bs) ∙ rw (s, c, h) (no_sign a b bs p)
@@ -109,8 +105,7 @@ pub front_sign : (line : List ℕ) → 0 < length line → is_name_byte (get_or 
     → (get_or line 0 0 == 34) ≡ false → (get_or line 0 0 == 39) ≡ false → (get_or line 0 0 == 37) ≡ false
     → front line ≡ option_map (λ t. (t, 1)) (lookup (get_or line 0 0 ∷ []) signs)
 front_sign [] some h s c p = absurd (omega arith)
-front_sign (b ∷ bs) some h s c p =
-    front_at (b ∷ bs) 1 _ (omega arith) (omega arith)
+front_sign (b ∷ bs) some h s c p = front_at (b ∷ bs) 1 _ (omega arith) (omega arith)
     (kept_in (b ∷ bs) 1 (and_left _ _ h) ∙ (token_is b [] ∙ rw (s, c, h) refl))
     (λ m q r. sign_above (b ∷ bs) m q r h s c p) (λ m q r. absurd (omega arith))
 
@@ -123,8 +118,7 @@ half_other xs e h = search rules
 token_of_half : (xs : List ℕ) → get_or xs 0 0 ≡ 37 → token_of xs ≡ lookup xs signs
 token_of_half xs e = search (rules, token_is)
 
-half_of : (line : List ℕ) (m : ℕ) → 0 < m → get_or line 0 0 ≡ 37
-    → token_of (take m line) ≡ lookup (take m line) signs
+half_of : (line : List ℕ) (m : ℕ) → 0 < m → get_or line 0 0 ≡ 37 → token_of (take m line) ≡ lookup (take m line) signs
 half_of line m some e = token_of_half (take m line) (get_or-take m line 0 0 some ∙ e)
 
 half_not : (line : List ℕ) (m : ℕ) → 0 < m → m ≤ length line → (m ≡ 3 → ⊥) → get_or line 0 0 ≡ 37
@@ -189,8 +183,7 @@ last_of line m some le = grind (arith, nat_tests, common_steps, length-take, get
 
 pub character_in : (line : List ℕ) (m : ℕ) → 0 < m → m ≤ length line → get_or line 0 0 ≡ 39
     → token_in line m ≡ option_map (λ n. Character n) (character (take m line))
-character_in line m some le e =
-    quoted_in 39 (get_or line (m - 1) 0) line m refl refl (λ f. character_of line m some e
+character_in line m some le e = quoted_in 39 (get_or line (m - 1) 0) line m refl refl (λ f. character_of line m some e
     ∙ ap (λ o. option_map (λ n. Character n) (option_and_then (spelled 39) o))
     (between_open 39 39 (take m line) (ap (λ b. b == 39) (last_of line m some le) ∙ f))) ∙ character_of line m some e
 

@@ -1,8 +1,7 @@
 -- The longest prefix of a text that spells something.
 use Rattle.std.proofs.lemmas.Bool.Decides.{nat_tests}
 use Rattle.std.proofs.lemmas.Grind.{common_steps}
-use Rattle.std.proofs.Common.{rules}
-use Rattle.std.proofs.Common.{◌≡◌, ℕ, zero, suc, ◌+◌, ◌-◌, ◌<◌, ◌≤◌, refl, sym, ap, ◌∙◌, arith, add-suc}
+use Rattle.std.proofs.Common.{rules, ◌≡◌, ℕ, zero, suc, ◌+◌, ◌-◌, ◌<◌, ◌≤◌, refl, sym, ap, ◌∙◌, arith, add-suc}
 use Rattle.std.specs.Prelude.{Option, None, Some}
 use Rattle.std.proofs.lemmas.Bool.{cases_lt}
 use Rattle.rv_tokens.specs.Literals.{longest}
@@ -91,8 +90,7 @@ longest_found spells k n x h =
       above = λ m p q. longest_over spells k m (rw h p) q;
     }
 
-pub longest_same : {A : Type 0} (f g : ℕ → Option A) (k : ℕ) → ((m : ℕ) → m ≤ k → f m ≡ g m)
-    → longest f k ≡ longest g k
+pub longest_same : {A : Type 0} (f g : ℕ → Option A) (k : ℕ) → ((m : ℕ) → m ≤ k → f m ≡ g m) → longest f k ≡ longest g k
 unfolding longest
 longest_same f g zero h = refl
 longest_same f g (suc k) h = grind (arith, nat_tests, common_steps, longest_same f g k)

@@ -1,7 +1,6 @@
 -- The tokens of a line are its only parts in the sense of Parts.antt.
 use Rattle.std.proofs.lemmas.Grind.{common_steps}
-use Rattle.std.proofs.Common.{rules}
-use Rattle.std.proofs.Common.{◌≡◌, ℕ, zero, suc, ◌<◌, ◌≤◌, Bool, true, false, cond, List, [], ◌∷◌, length, take, drop, get_or, refl, ap, ◌∙◌, arith, length-drop}
+use Rattle.std.proofs.Common.{rules, ◌≡◌, ℕ, zero, suc, ◌<◌, ◌≤◌, Bool, true, false, cond, List, [], ◌∷◌, length, take, drop, get_or, refl, ap, ◌∙◌, arith, length-drop}
 use Rattle.std.specs.Prelude.{Option, None, Some, Result, Ok, Err, ◌↔◌, ◌||◌, nat_lt, MatchBool}
 use Rattle.std.specs.Bool.{◌==◌}
 use Rattle.std.proofs.lemmas.Bool.Decides.{nat_tests}
@@ -60,8 +59,7 @@ cut_is _ _ (Longest line n t r within is above h) =
     let at = begins line n t is in
     let found = longest_is (token_in line) (length line) n t
     (record { some = at.0; within = within; is = is; above = above }) in
-    cut_token line t n at.1 at.2 found at.0
-    ∙ ap (with_tokens (t ∷ [])) (cut_is (drop n line) r h)
+    cut_token line t n at.1 at.2 found at.0 ∙ ap (with_tokens (t ∷ [])) (cut_is (drop n line) r h)
 cut_is _ _ (Nothing b rest blank comment none) = grind (arith, nat_tests, common_steps, cut_none, longest_none)
 
 -- ---- from the tokens of a line to its parts

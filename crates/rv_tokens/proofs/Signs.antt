@@ -1,7 +1,5 @@
 -- Numbers by the tests of their prefix, and the token that a text spells by its first byte.
-use Rattle.std.proofs.lemmas.Grind.{common_steps}
-use Rattle.std.proofs.Common.{rules}
-use Rattle.std.proofs.Common.{◌≡◌, ℕ, Bool, true, false, cond, List, [], ◌∷◌, length, drop, get_or, refl, arith}
+use Rattle.std.proofs.Common.{rules, ◌≡◌, ℕ, Bool, false, cond, List, [], ◌∷◌, length, drop, get_or, refl, arith}
 use Rattle.std.specs.Prelude.{Option, None, Some, nat_lt, option_and_then, codes}
 use Rattle.std.specs.Str.{bytes_eq}
 use Rattle.std.specs.Bool.{◌==◌}
@@ -21,8 +19,7 @@ pub swapped : (a b : ℕ) → (a == b) ≡ (b == a)
 swapped a b = grind (arith, nat_tests)
 
 -- a number, by the tests of its prefix
-pub number_is : (text : List ℕ) → number text
-    ≡ cond (has_prefix 120 88 text) (number_in 16 0xffffffff (drop 2 text))
+pub number_is : (text : List ℕ) → number text ≡ cond (has_prefix 120 88 text) (number_in 16 0xffffffff (drop 2 text))
     (cond (has_prefix 98 66 text) (number_in 2 0xffffffff (drop 2 text))
     (cond (has_leading_zero text) (number_in 8 0xffffffff (drop 1 text)) (number_in 10 0xffffffff text)))
 unfolding number
@@ -47,13 +44,11 @@ none_after o = search rules
 
 -- the token of a text, by its first byte
 abbrev pub token_by : ℕ → List ℕ → Option Token
-token_by b bs =
-    cond (b == 34) (option_map (λ s. Text s) (option_and_then string_bytes (between 34 34 (b ∷ bs))))
+token_by b bs = cond (b == 34) (option_map (λ s. Text s) (option_and_then string_bytes (between 34 34 (b ∷ bs))))
     (cond (b == 39) (option_map (λ n. Character n) (option_and_then (spelled 39) (between 39 39 (b ∷ bs))))
     (cond (list_all is_name_byte (b ∷ bs)) (word (b ∷ bs)) (lookup (b ∷ bs) signs)))
 
-by_first : (b : ℕ) (bs : List ℕ) (s t : Bool) → (b == 34) ≡ s → (b == 39) ≡ t
-    → token_of (b ∷ bs) ≡ token_by b bs
+by_first : (b : ℕ) (bs : List ℕ) (s t : Bool) → (b == 34) ≡ s → (b == 39) ≡ t → token_of (b ∷ bs) ≡ token_by b bs
 unfolding token_of
 by_first b bs s t e f = search (rules, between_not, none_after)
 

@@ -1,7 +1,6 @@
 -- The end of a string.
 use Rattle.std.proofs.lemmas.Grind.{common_steps}
-use Rattle.std.proofs.Common.{rules}
-use Rattle.std.proofs.Common.{◌≡◌, ℕ, zero, suc, ◌+◌, ◌-◌, ◌<◌, ◌≤◌, Bool, true, false, cond, leb, List, [], ◌∷◌, length, take, drop, get_or, refl, sym, ap, ◌∙◌, arith, length-take, length-drop, get_or-take, get_or-drop}
+use Rattle.std.proofs.Common.{rules, ◌≡◌, ℕ, zero, suc, ◌+◌, ◌-◌, ◌<◌, ◌≤◌, Bool, true, false, cond, leb, List, [], ◌∷◌, length, take, drop, get_or, refl, sym, ap, ◌∙◌, arith, length-take, length-drop, get_or-take, get_or-drop}
 use Rattle.std.specs.Prelude.{Option, None, Some, option_and_then, is_some, ◌&&◌}
 use Rattle.std.specs.Bool.{◌==◌}
 use Rattle.std.specs.Option.{option_map}
@@ -25,8 +24,7 @@ use Rattle.rv_tokens.proofs.Longest.{reach, longest_above, longest_found, longes
 
 -- ---- no quote stands in the spelling of a byte, except right after a `\`
 
-no_quote : (base i : ℕ) (ds : List ℕ) → base ≤ 16 → i < length ds → get_or ds i 0 ≡ 34
-    → number_in base 255 ds ≡ None
+no_quote : (base i : ℕ) (ds : List ℕ) → base ≤ 16 → i < length ds → get_or ds i 0 ≡ 34 → number_in base 255 ds ≡ None
 unfolding hex_digit
 no_quote base i ds low lt q =
     let other : base ≤ digit_value (get_or ds i 0) = rw q (omega (arith, low)) in no_digits base 255 i ds lt other
@@ -37,12 +35,11 @@ none_each a b c = search rules
 escape_quote : (c : ℕ) (ds : List ℕ) (i : ℕ) → i < length ds → get_or ds i 0 ≡ 34 → escape (c ∷ ds) ≡ None
 unfolding escape hex_byte
 escape_quote c [] i lt q = absurd (omega arith)
-escape_quote c (d ∷ ds) i lt q =
-    rw (
-      no_quote 16 i (d ∷ ds) (omega arith) lt q,
-      no_quote 8 (suc i) (c ∷ d ∷ ds) (omega arith) (omega arith) q,
-      no_letter (c ∷ d ∷ ds) (λ e. omega arith),
-    ) (none_each _ _ _)
+escape_quote c (d ∷ ds) i lt q = rw (
+  no_quote 16 i (d ∷ ds) (omega arith) lt q,
+  no_quote 8 (suc i) (c ∷ d ∷ ds) (omega arith) (omega arith) q,
+  no_letter (c ∷ d ∷ ds) (λ e. omega arith),
+) (none_each _ _ _)
 
 after_first : (s x y : Bool) (o : Option ℕ) (a b : ℕ) → y ≡ false
     → cond s o (cond (x && y) (Some a) None) ≡ Some b → (s ≡ true) × (o ≡ Some b)
@@ -67,8 +64,7 @@ cut_quote : (t : List ℕ) (b k j : ℕ) → first_byte t ≡ Some (b, k) → 0 
 cut_quote t b k j e some lt q =
     let l = longest_found (string_byte_in t) (length t) k b e in
     let lone : take j (take k t) ≡ 92 ∷ [] =
-    before_quote 34 (take k t) b j l.is some (omega (arith, length-take k t, l.within))
-    (get_or-take k t j 0 lt ∙ q) in
+    before_quote 34 (take k t) b j l.is some (omega (arith, length-take k t, l.within)) (get_or-take k t j 0 lt ∙ q) in
     rw (sym (take-take j k t (omega arith)) ∙ lone) lone_backslash
 
 -- ---- the bytes of a text up to one of its quotes
@@ -139,8 +135,7 @@ module _ (text : List ℕ) (i : ℕ) (so : IsScanned text i) where
 quote_front : (zs : List ℕ) (m : ℕ) → 0 < m → string_byte_in (34 ∷ zs) m ≡ None
 quote_front zs m some = search (rules, spelled_is)
 
-first_byte_quote : (text : List ℕ) (n : ℕ) → n < length text → get_or text n 0 ≡ 34
-    → first_byte (drop n text) ≡ None
+first_byte_quote : (text : List ℕ) (n : ℕ) → n < length text → get_or text n 0 ≡ 34 → first_byte (drop n text) ≡ None
 first_byte_quote text n lt q = grind (arith, nat_tests, common_steps, drop-cons, longest_none, string_byte_in, quote_front)
 
 quoted_between : (ys : List ℕ) (n : ℕ) → length ys ≡ suc n
@@ -154,12 +149,11 @@ quoted_cond s ys = search rules
 
 string_of : (text : List ℕ) (m : ℕ) → m < length text → token_of (34 ∷ take (suc m) text)
     ≡ cond (get_or text m 0 == 34) (option_map (λ s. Text s) (string_bytes (take m text))) None
-string_of text m lt =
-    token_is 34 (take (suc m) text) ∙ rw (
-      quoted_between (take (suc m) text) m (omega (arith, length-take (suc m) text)),
-      get_or-take (suc m) text m 0 (omega arith),
-      take-take m (suc m) text (omega arith),
-    ) (quoted_cond (get_or text m 0 == 34) (take m text))
+string_of text m lt = token_is 34 (take (suc m) text) ∙ rw (
+  quoted_between (take (suc m) text) m (omega (arith, length-take (suc m) text)),
+  get_or-take (suc m) text m 0 (omega arith),
+  take-take m (suc m) text (omega arith),
+) (quoted_cond (get_or text m 0 == 34) (take m text))
 
 string_in : (text : List ℕ) (m : ℕ) → m < length text → token_in (34 ∷ text) (suc (suc m))
     ≡ cond (get_or text m 0 == 34) (option_map (λ s. Text s) (string_bytes (take m text))) None
@@ -177,17 +171,14 @@ nowhere : (text : List ℕ) (m : ℕ)
     → ((k : ℕ) → suc (suc k) ≡ m → k < length text → get_or text k 0 ≡ 34 → spells text k ≡ false) → 0 < m
     → m ≤ length (34 ∷ text) → token_in (34 ∷ text) m ≡ None
 nowhere text zero h some le = absurd (omega arith)
-nowhere text (suc zero) h some le =
-    quoted_in 34 34 (34 ∷ text) 1 refl refl (λ f. token_is 34 []) ∙ token_is 34 []
+nowhere text (suc zero) h some le = quoted_in 34 34 (34 ∷ text) 1 refl refl (λ f. token_is 34 []) ∙ token_is 34 []
 nowhere text (suc (suc m)) h some le = grind (arith, nat_tests, common_steps, string_in, no_string)
 
 -- the string that ends with the quote at n
 pub front_string : (text s : List ℕ) (n : ℕ) → IsScanned text n → n < length text → get_or text n 0 ≡ 34
     → string_bytes (take n text) ≡ Some s → front (34 ∷ text) ≡ Some (Text s, suc (suc n))
-front_string text s n so lt q e =
-    front_at (34 ∷ text) (suc (suc n)) (Some (Text s)) (omega arith) (omega arith)
-    (string_in text n lt ∙ rw (q, e) refl)
-    (λ m p r. nowhere text m
+front_string text s n so lt q e = front_at (34 ∷ text) (suc (suc n)) (Some (Text s)) (omega arith) (omega arith)
+    (string_in text n lt ∙ rw (q, e) refl) (λ m p r. nowhere text m
     (λ k is less at. past text n so k (first_byte_quote text n lt q) (omega arith) less at) (omega arith) r)
     (λ m p r. nowhere text m (λ k is less at. early text n so k (omega arith) less at) p (omega arith))
 

@@ -1,5 +1,4 @@
-use Rattle.std.proofs.Common.{◌≡◌, ◌∙◌, [], ◌∷◌, length, length-append, sym, ap, arith}
-use Rattle.std.proofs.lemmas.Bool.Decides.{nat_tests}
+use Rattle.std.proofs.Common.{rules, [], ◌∷◌, length, length-append, sym, ap, arith}
 use Rattle.rv_tokens.specs.Tokens.{token_in}
 use Rattle.rv_tokens.proofs.Cutting.{cut_token, cut_end, more_tokens, last_tokens}
 use Rattle.rv_tokens.proofs.Longest.{longest_found}
@@ -29,6 +28,4 @@ loop-rest-preserved c =
     )
 
 pub returns-clause-value : goal.returns-clause-value
-returns-clause-value c =
-    let none : length c.loop-rest.rest.now ≡ 0 = grind (arith, nat_tests, c.loop-rest-test.ensures) in
-    sym (rw (cut_end c.loop-rest.rest.now none) at c.loop-rest.invariant.0) ∙ last_tokens c.loop-rest.out.items
+returns-clause-value c = search (rules, cut_end, last_tokens)
