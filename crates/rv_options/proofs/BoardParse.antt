@@ -29,20 +29,10 @@ board_simple_free : are_simple_free board_app.top.rules ≡ true
 unfolding board_app
 board_simple_free = refl
 
-parse_of : (c : Command) (m : ArgMatches) → app_of c ≡ board_app → IsParsedFrom c m →
-    IsParseOf board_app.top.rules c m
-parse_of c m is parsed =
-    let fields = plain_fields c (ap (λ (a : App). a.top.is_plain) is ∙ board_plain) in
-    record {
-      rules_are = ap (λ (a : App). a.top.rules) is;
-      simple_free = board_simple_free;
-      groups = fields.groups;
-      globals = fields.globals;
-      parsed = parsed;
-    }
+parse_of : (c : Command) (m : ArgMatches) → app_of c ≡ board_app → IsParsedFrom c m → IsParseOf board_app.top.rules c m
+parse_of c m is parsed = search (rules, plain_fields, board_plain, board_simple_free)
 
-number : (c : Command) (m : ArgMatches) (k : ℕ) (name default : Text) (low high : ℕ) →
-    IsParseOf board_app.top.rules c m
+number : (c : Command) (m : ArgMatches) (k : ℕ) (name default : Text) (low high : ℕ) → IsParseOf board_app.top.rules c m
     → HasDefaultAt board_app.top.rules k (number_rule name default low high) → HasNumber m name low high
 number c m k name default low high p at =
     let got = reads board_app.top.rules c m p k (number_rule name default low high) at
@@ -50,8 +40,7 @@ number c m k name default low high p at =
     record { text = got.0; one = got.1; accepted = got.2 }
 
 pub board_parse : (app : App) (m : ArgMatches) (words : List Text) → app ≡ board_app → IsParseBy app m →
-    rows_of (found_of m) ≡ matches_of app words
-    → IsBoardParse words m
+    rows_of (found_of m) ≡ matches_of app words → IsBoardParse words m
 unfolding board_app
 board_parse app m words is by matches =
     let c = by.command in

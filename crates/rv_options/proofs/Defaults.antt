@@ -1,10 +1,9 @@
 -- An argument with a default value has a value after each parse of a simple command, whatever the words are,
 -- and the value passed the argument's parser.
-use Rattle.std.proofs.Common.{rules}
+use Rattle.std.proofs.Common.{rules, ◌≡◌, ◌∙◌, ◌<◌, ◌≤◌, ◌&&◌, ap, subst, sym, refl, ℕ, Bool, true, false, not, zero, suc, List, [], ◌∷◌, length, map, is_some, Option, Some, None, inl, inr, arith}
 use Rattle.std.proofs.lemmas.Bool.{false≢true}
 use Rattle.std.proofs.lemmas.Bool.Decides.{nat_tests}
 use Rattle.std.proofs.lemmas.Grind.{common_steps}
-use Rattle.std.proofs.Common.{◌≡◌, ◌∙◌, ◌<◌, ◌≤◌, ◌&&◌, ap, subst, sym, refl, ℕ, Bool, true, false, not, cond, zero, suc, List, [], ◌∷◌, length, map, is_some, Option, Some, None, inl, inr, arith}
 use Rattle.std.specs.Prelude.{codes, find, option_map, slice_get}
 use Rattle.std.specs.List.{All, list_all, slice_index_or}
 use Rattle.std.specs.Str.{bytes_eq}
@@ -13,12 +12,12 @@ use Rattle.std.proofs.Math.ListN.{get_or-map}
 use Rattle.std.proofs.lemmas.List.{get_or_default, length-map}
 use Rattle.std.proofs.lemmas.List.Elements.{All-nil, All-cons, All-get_or}
 use Rattle.std.proofs.lemmas.Slice.Eq.{bytes_eq-Decides}
-use Rattle.clap.specs.Facts.{IsParsed, args_of, groups_of, Entry, EntryPasses, HasId, HasReading, PassesArg, ValuesPass, WantsDefault, least_values, parser_of, parser_of_value}
+use Rattle.clap.specs.Facts.{IsParsed, args_of, groups_of, Entry, EntryPasses, HasId, HasReading, PassesArg, ValuesPass, WantsDefault, least_values, parser_of}
 use Rattle.clap.specs.Built.{IsAuto, IsParsedFrom, IsPlain, IsPlainArg, SameRules}
 use Rattle.clap.specs.Matches.{first_value, found_of, has_subcommand, matched_of, one_text}
 use Rattle.clap.specs.Values.{Accepts, read_as, reading_of}
 use Rattle.clap.specs.Walk.{Rule, Text, is_empty, rule_of}
-use Rattle.clap.specs.declared.builder.action.ArgAction.TheVariants.{Count, Set}
+use Rattle.clap.specs.declared.builder.action.ArgAction.TheVariants.{Set}
 use Rattle.clap.specs.declared.builder.arg.Arg.{Arg}
 use Rattle.clap.specs.declared.builder.command.Command.{Command}
 use Rattle.clap.specs.declared.builder.command.Command.TheViews.{out-Command}
@@ -63,9 +62,7 @@ are_simple_free rules = list_all (λ r. r.is_simple && r.is_free) rules
 
 all_simple_free : (xs : List Arg) → are_simple_free (map rule_of xs) ≡ true → All IsSimpleFree xs
 all_simple_free [] h = All-nil IsSimpleFree
-all_simple_free (x ∷ xs) h =
-    let p = both _ _ h in
-    All-cons IsSimpleFree x xs (simple_free x p.0) (all_simple_free xs p.1)
+all_simple_free (x ∷ xs) h = search (rules, both, All-cons, simple_free, all_simple_free xs)
 
 -- no rule has the id
 abbrev pub none_has : Text → List Rule → Bool
@@ -77,24 +74,20 @@ only_at id k [] = true
 only_at id zero (r ∷ rs) = none_has id rs
 only_at id (suc k) (r ∷ rs) = not (bytes_eq r.id id) && only_at id k rs
 
-none_there : (xs : List Arg) (id : Text) (j : ℕ) (e : Arg) → none_has id (map rule_of xs) ≡ true →
-    j < length xs
+none_there : (xs : List Arg) (id : Text) (j : ℕ) (e : Arg) → none_has id (map rule_of xs) ≡ true → j < length xs
     → bytes_eq (slice_index_or xs j e).id.now id ≡ true → ⊥
 none_there [] id j e h lt same = absurd (omega arith)
 none_there (x ∷ xs) id zero e h lt same = search rules
 none_there (x ∷ xs) id (suc j) e h lt same = none_there xs id j e
     (both (not (bytes_eq x.id.now id)) (none_has id (map rule_of xs)) h).1 (omega arith) same
 
-only_there : (xs : List Arg) (id : Text) (k j : ℕ) (e : Arg) → only_at id k (map rule_of xs) ≡ true →
-    j < length xs
+only_there : (xs : List Arg) (id : Text) (k j : ℕ) (e : Arg) → only_at id k (map rule_of xs) ≡ true → j < length xs
     → bytes_eq (slice_index_or xs j e).id.now id ≡ true → j ≡ k
 only_there [] id k j e h lt same = absurd (omega arith)
 only_there (x ∷ xs) id zero zero e h lt same = refl
 only_there (x ∷ xs) id zero (suc j) e h lt same = absurd (none_there xs id j e h (omega arith) same)
 only_there (x ∷ xs) id (suc k) zero e h lt same = search rules
-only_there (x ∷ xs) id (suc k) (suc j) e h lt same =
-    ap suc (only_there xs id k j e (both (not (bytes_eq x.id.now id)) (only_at id k (map rule_of xs)) h).1
-    (omega arith) same)
+only_there (x ∷ xs) id (suc k) (suc j) e h lt same = search (rules, both, only_there xs id k j e)
 
 -- ---- the entry of an argument with a default
 
@@ -103,19 +96,12 @@ found_in : (xs : List Entry) (id : Text) (i : ℕ) → i < length xs →
     → is_some (option_map (λ e. e.1) (find (λ e. bytes_eq e.0.now id) xs)) ≡ true
 found_in [] id i lt h = absurd (omega arith)
 found_in (x ∷ xs) id zero lt h = rw (h x) refl
-found_in (x ∷ xs) id (suc i) lt h = go (bytes_eq x.0.now id) (found_in xs id i (omega arith) h)
-  where
-    go : (b : Bool) → is_some (option_map (λ (e : Entry). e.1) (find (λ e. bytes_eq e.0.now id) xs)) ≡ true
-        → is_some (option_map (λ (e : Entry). e.1) (cond b (Some x) (find (λ e. bytes_eq e.0.now id) xs)))
-        ≡ true
-    go true e = refl
-    go false e = e
+found_in (x ∷ xs) id (suc i) lt h = search (rules, is_some, found_in xs id i)
 
 has_entry : (f : Found) (id : Text) → HasId f id → is_some (matched_of f id) ≡ true
 has_entry f id h = found_in f.entries.items id h.0 h.1 h.2
 
-first_some : (xs : List (Bor Text)) → 0 < length xs →
-    is_some (option_map (λ s. s.now) (slice_get xs 0)) ≡ true
+first_some : (xs : List (Bor Text)) → 0 < length xs → is_some (option_map (λ s. s.now) (slice_get xs 0)) ≡ true
 first_some [] lt = absurd (omega arith)
 first_some (x ∷ xs) lt = refl
 
@@ -143,10 +129,8 @@ pub record HasDefaultAt (rules : List Rule) (k : ℕ) (r : Rule) : Type 0 where
 
 -- no other argument of the command has the id of the k-th one
 abbrev pub IsOnly : Command → ℕ → Arg → Type 0
-IsOnly old k d =
-    (j : ℕ) (e : Arg) → j < length (args_of old)
-    → bytes_eq (slice_index_or (args_of old) j e).id.now (slice_index_or (args_of old) k d).id.now ≡ true
-    → j ≡ k
+IsOnly old k d = (j : ℕ) (e : Arg) → j < length (args_of old)
+    → bytes_eq (slice_index_or (args_of old) j e).id.now (slice_index_or (args_of old) k d).id.now ≡ true → j ≡ k
 
 -- the facts about the k-th argument of the command
 pub record Argument (old : Command) (k : ℕ) (d : Arg) (id : Text) : Type 0 where
@@ -160,8 +144,7 @@ pub record Argument (old : Command) (k : ℕ) (d : Arg) (id : Text) : Type 0 whe
   pub named : (slice_index_or (args_of old) k d).id.now ≡ [] → ⊥
   pub own : IsAuto (slice_index_or (args_of old) k d) → ⊥
 
-nonempty_texts : (xs : List (Bor Text)) (ts : List Text) → map (λ s. s.now) xs ≡ ts → 0 < length ts →
-    0 < length xs
+nonempty_texts : (xs : List (Bor Text)) (ts : List Text) → map (λ s. s.now) xs ≡ ts → 0 < length ts → 0 < length xs
 nonempty_texts [] ts e lt = let bad : 0 < 0 = rw (← e) at lt in absurd (omega arith)
 nonempty_texts (x ∷ xs) ts e lt = omega arith
 
@@ -169,8 +152,7 @@ nonempty_texts (x ∷ xs) ts e lt = omega arith
 
 head_passes : (P : Bor (List ℕ) → Type 0) (how : Reading) (vs : List (Bor (List ℕ))) → All P vs
     → is_some (option_map (λ s. s.now) (slice_get vs 0)) ≡ true
-    → (v : Bor (List ℕ)) × (option_map (λ s. read_as how s.now) (slice_get vs 0) ≡ Some (read_as how v.now))
-    × P v
+    → (v : Bor (List ℕ)) × (option_map (λ s. read_as how s.now) (slice_get vs 0) ≡ Some (read_as how v.now)) × P v
 head_passes P how [] h some = cc
 head_passes P how (v ∷ vs) h some = (v, refl, All-get_or P (v ∷ vs) 0 v (omega arith) h)
 
@@ -184,13 +166,11 @@ accepts_of : (a y : Arg) (q : ValueParser) (t : List ℕ) → SameRules a y → 
 accepts_of a y q t s parser read = search rules
 
 -- an entry has a value that is read so and passed the argument's parser
-read_of : (c : Command) (f : Found) (id : List ℕ) (Q : List ℕ →
-    Type 0) (how : Reading) (x : MatchedArg) (e : Entry)
+read_of : (c : Command) (f : Found) (id : List ℕ) (Q : List ℕ → Type 0) (how : Reading) (x : MatchedArg) (e : Entry)
     → groups_of c ≡ [] → (id ≡ [] → ⊥) → ((r : Reading) → HasReading c id r → r ≡ how)
     → ((v : Bor (List ℕ)) → PassesArg c id v.now → Q v.now)
     → matched_of f id ≡ Some x → is_some (option_map (λ s. s.now) (slice_get x.vals.items 0)) ≡ true
-    → e.1 ≡ x → e.0.now ≡ id → EntryPasses c e
-    → (t : List ℕ) × (one_text f id ≡ Some (read_as how t)) × Q t
+    → e.1 ≡ x → e.0.now ≡ id → EntryPasses c e → (t : List ℕ) × (one_text f id ≡ Some (read_as how t)) × Q t
 read_of c f id Q how x e no_groups named reads read found first same_x key_id pass =
     let no_group : e.1.is_group ≡ true → ⊥ = λ g. elim (pass.3 g) [
       | inl empty ↦ named (sym key_id ∙ empty)
@@ -213,8 +193,7 @@ read_of c f id Q how x e no_groups named reads read found first same_x key_id pa
     finish : ((v : Bor (List ℕ)) × (option_map (λ s. read_as how s.now) (slice_get x.vals.items 0)
         ≡ Some (read_as how v.now)) × PassesArg c id v.now)
         → x.reading ≡ how → (t : List ℕ) × (one_text f id ≡ Some (read_as how t)) × Q t
-    finish hd is =
-        (hd.0.now, one_text_at_entry f id x how (read_as how hd.0.now) found is hd.1, read hd.0 hd.2)
+    finish hd is = (hd.0.now, one_text_at_entry f id x how (read_as how hd.0.now) found is hd.1, read hd.0 hd.2)
 
 -- the entry of an id, which passes its argument's rules
 record Kept (c : Command) (f : Found) (id : Text) : Type 0 where
@@ -239,8 +218,7 @@ kept_as c f id y found got = record {
 kept_by : (c : Command) (f : Found) (id : Text) → ValuesPass c f → (o : Option MatchedArg) → matched_of f id ≡ o
     → is_some o ≡ true → Kept c f id
 kept_by c f id values None e some = absurd (false≢true some)
-kept_by c f id values (Some y) e some =
-    kept_as c f id y e (entry_by_id (EntryPasses c) f.entries.items id y values e)
+kept_by c f id values (Some y) e some = kept_as c f id y e (entry_by_id (EntryPasses c) f.entries.items id y values e)
 
 kept_of : (c : Command) (f : Found) (id : Text) → ValuesPass c f → HasId f id → Kept c f id
 kept_of c f id values has = kept_by c f id values (matched_of f id) refl (has_entry f id has)
@@ -260,38 +238,11 @@ module _ (old : Command) (m : ArgMatches) (p : IsParsedFrom old m) (k : ℕ) (d 
   kept = kept_of p.built (found_of m) _ parsed.values (default_present old m p globals k d a.within a.wants)
 
   has_first : is_some (option_map (λ s. s.now) (slice_get kept.matched.vals.items 0)) ≡ true
-  has_first = elim kept.passes.1 [
-    | inl h ↦ elim h.1 [
-      | inl empty ↦ absurd (a.named (sym kept.key ∙ empty))
-      | inr has ↦
-          let bad : 0 < 0 = rw (p.from.plain plain).1 at has in
-          absurd (omega arith)
-    ]
-    | inr (inl v) ↦ first_some kept.matched.vals.items (rw kept.same at v)
-    | inr (inr (inl h)) ↦
-        let any = h.1 in
-        let s = same_rules any.0 any.1 any.2 any.3 (rw kept.key at any.4.0) in
-        let is_set : any.1.action ≡ Some Set = s.action Set a.action in
-        let bad : Set ≡ Count = rw is_set at any.4.1 in
-        cc
-    | inr (inr (inr h)) ↦
-        let s = same_rules h.0 h.1 h.2 h.3 (rw kept.key at h.4.0) in
-        elim h.4.1 [
-          | inl none ↦
-              let one = s.least a.action a.least in
-              absurd (omega arith)
-          | inr has ↦
-              let bad : false ≡ true = rw (s.val_delim, a.facts.delimiter) at has in
-              cc
-        ]
-  ]
+  has_first = search (rules, kept, plain, first_some, same_rules)
 
   reads_as : (q : ValueParser) → (slice_index_or (args_of old) k d).value_parser ≡ Some q → (how : Reading)
       → HasReading p.built (slice_index_or (args_of old) k d).id.now how → how ≡ reading_of q
-  reads_as q parser how any =
-      let s = same_rules any.0 any.1 any.2 any.3 any.4.0 in
-      let is_q : parser_of any.1 ≡ q = ap parser_of_value (s.parser q parser) in
-      sym any.4.1 ∙ ap reading_of is_q
+  reads_as q parser how any = search (rules, same_rules)
 
   -- its value passed its parser, and is read as the parser reads it
   entry_read : (q : ValueParser) → (slice_index_or (args_of old) k d).value_parser ≡ Some q → (t : Text)
@@ -326,13 +277,11 @@ module _ (rules : List Rule) (old : Command) (m : ArgMatches) (p : IsParseOf rul
   has_value_with d =
       let a = argument_facts d in
       subst (λ (t : Text). is_some (first_value (found_of m) t) ≡ true) a.id_is
-      (rw (kept old m p.parsed k d r.id a plain p.globals).found
-      (has_first old m p.parsed k d r.id a plain p.globals))
+      (rw (kept old m p.parsed k d r.id a plain p.globals).found (has_first old m p.parsed k d r.id a plain p.globals))
 
   -- and the value passed the argument's parser, and is read as the parser reads it
   reads_with : (d : Arg) (q : ValueParser) → r.parser ≡ Some q
-      → (t : Text) × (one_text (found_of m) r.id ≡ Some (read_as (reading_of q) t))
-      × Accepts r.ignore_case q t
+      → (t : Text) × (one_text (found_of m) r.id ≡ Some (read_as (reading_of q) t)) × Accepts r.ignore_case q t
   reads_with d q parser =
       let a = argument_facts d in
       let got = entry_read old m p.parsed k d r.id a plain p.globals q
@@ -349,15 +298,13 @@ some_element (x ∷ xs) k lt = x
 
 -- an argument with a default has a first value
 pub has_value : (rules : List Rule) (old : Command) (m : ArgMatches) → IsParseOf rules old m →
-    (k : ℕ) (r : Rule) → HasDefaultAt rules k r
-    → is_some (first_value (found_of m) r.id) ≡ true
+    (k : ℕ) (r : Rule) → HasDefaultAt rules k r → is_some (first_value (found_of m) r.id) ≡ true
 has_value rules old m p k r h =
     has_value_with rules old m p k r h (some_element (args_of old) k (within_args rules old m p k r h))
 
 -- which is read as the argument's parser reads it, and passed that parser
 pub reads : (rules : List Rule) (old : Command) (m : ArgMatches) → IsParseOf rules old m →
-    (k : ℕ) (r : Rule) → HasDefaultAt rules k r
-    → (q : ValueParser) → r.parser ≡ Some q
+    (k : ℕ) (r : Rule) → HasDefaultAt rules k r → (q : ValueParser) → r.parser ≡ Some q
     → (t : Text) × (one_text (found_of m) r.id ≡ Some (read_as (reading_of q) t)) × Accepts r.ignore_case q t
 reads rules old m p k r h =
     reads_with rules old m p k r h (some_element (args_of old) k (within_args rules old m p k r h))

@@ -9,8 +9,7 @@ use Rattle.clap.specs.declared.error.kind.ErrorKind.TheVariants.{DisplayHelp}
 use Rattle.rv_options.specs.Board.{board_app}
 
 abbrev pub AsksForHelp : Text → Type 0
-AsksForHelp word =
-    (program : Text) (more : List Text) → fault_of board_app (program ∷ word ∷ more) ≡ DisplayHelp ∷ []
+AsksForHelp word = (program : Text) (more : List Text) → fault_of board_app (program ∷ word ∷ more) ≡ DisplayHelp ∷ []
 
 pub long_help : AsksForHelp (codes "--help")
 unfolding board_app walk_fault

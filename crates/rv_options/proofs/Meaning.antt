@@ -1,16 +1,14 @@
 -- The command of each usage is one of those of which `clap`'s meaning says the matches and the errors.
-use Rattle.std.proofs.Common.{◌≡◌, ◌∙◌, ap, refl, sym, ℕ, Bool, true, false, not, ◌&&◌, List, [], ◌∷◌, ◌++◌, map}
+use Rattle.std.proofs.Common.{rules, ◌≡◌, ap, refl, sym, ℕ, Bool, true, false, not, ◌&&◌, List, [], ◌∷◌, ◌++◌, map, arith}
 use Rattle.std.proofs.lemmas.Bool.Decides.{nat_tests}
 use Rattle.std.proofs.lemmas.Grind.{common_steps}
-use Rattle.std.proofs.Common.{arith}
 use Rattle.std.proofs.lemmas.List.{append-nil, append_assoc}
 use Rattle.std.proofs.lemmas.List.Elements.{All-nil, All-cons, All-head, All-tail, All-append}
 use Rattle.std.specs.List.{All, list_all, list_any}
-use Rattle.std.specs.Prelude.{is_some}
 use Rattle.clap.specs.Simple.{filled, filled_from, help_rule, index_after, new_shape, version_rule, with_index}
 use Rattle.clap.specs.Walk.{is_early_multiple, is_multiple}
 use Rattle.clap.specs.Words.{App, Rule, Text, is_simple, is_simple_and_free, with_rule}
-use Rattle.rv_options.specs.Usage.{argument_rule, bare_app, usage_app, with_arguments}
+use Rattle.rv_options.specs.Usage.{argument_rule, usage_app, with_arguments}
 use Rattle.rv_options.specs.declared.usage.Argument.{Argument}
 use Rattle.rv_options.specs.declared.usage.Argument.TheVariants as argument
 use Rattle.rv_options.specs.declared.usage.Usage.{Usage}
@@ -24,12 +22,7 @@ record IsPlainRule (r : Rule) : Type 0 where
   single : is_multiple (filled r) ≡ false
 
 argument_plain : (a : Argument) → IsPlainRule (argument_rule a)
-argument_plain (argument.Source help default) = record { simple = refl; free = refl; single = refl }
-argument_plain (argument.Flag name help) = record { simple = refl; free = refl; single = refl }
-argument_plain (argument.Text name letter value_name help) = record { simple = refl; free = refl; single = refl }
-argument_plain (argument.Choice name value_name help choices) = record { simple = refl; free = refl; single = refl }
-argument_plain (argument.Number name value_name help default least most) =
-    record { simple = refl; free = refl; single = refl }
+argument_plain a = search rules
 
 arguments_plain : (xs : List Argument) → All IsPlainRule (map argument_rule xs)
 arguments_plain [] = All-nil IsPlainRule
@@ -56,17 +49,13 @@ all_simple (r ∷ rs) all = both r.is_simple (list_all (λ x. x.is_simple) rs) (
 
 built_simple : (i : ℕ) (rs : List Rule) → All IsPlainRule rs → list_all (λ r. r.is_simple) (filled_from i rs) ≡ true
 built_simple i [] all = refl
-built_simple i (r ∷ rs) all =
-    both r.is_simple (list_all (λ x. x.is_simple) (filled_from (index_after i r) rs))
-    (All-head IsPlainRule r rs all).simple
-    (built_simple (index_after i r) rs (All-tail IsPlainRule r rs all))
+built_simple i (r ∷ rs) all = both r.is_simple (list_all (λ x. x.is_simple) (filled_from (index_after i r) rs))
+    (All-head IsPlainRule r rs all).simple (built_simple (index_after i r) rs (All-tail IsPlainRule r rs all))
 
 built_free : (i : ℕ) (rs : List Rule) → All IsPlainRule rs → list_all (λ r. r.is_free) (filled_from i rs) ≡ true
 built_free i [] all = refl
-built_free i (r ∷ rs) all =
-    both r.is_free (list_all (λ x. x.is_free) (filled_from (index_after i r) rs))
-    (All-head IsPlainRule r rs all).free
-    (built_free (index_after i r) rs (All-tail IsPlainRule r rs all))
+built_free i (r ∷ rs) all = both r.is_free (list_all (λ x. x.is_free) (filled_from (index_after i r) rs))
+    (All-head IsPlainRule r rs all).free (built_free (index_after i r) rs (All-tail IsPlainRule r rs all))
 
 early : (n i : ℕ) (r : Rule) → is_multiple (filled r) ≡ false → is_early_multiple n (with_index i (filled r)) ≡ false
 early n i r single = grind (arith, nat_tests, common_steps)
@@ -74,8 +63,7 @@ early n i r single = grind (arith, nat_tests, common_steps)
 built_single : (n i : ℕ) (rs : List Rule) → All IsPlainRule rs
     → list_any (is_early_multiple n) (filled_from i rs) ≡ false
 built_single n i [] all = refl
-built_single n i (r ∷ rs) all =
-    rw (early n i r (All-head IsPlainRule r rs all).single)
+built_single n i (r ∷ rs) all = rw (early n i r (All-head IsPlainRule r rs all).single)
     (built_single n (index_after i r) rs (All-tail IsPlainRule r rs all))
 
 -- ---- the command
@@ -90,25 +78,17 @@ tests a b c d p q r s = rw (p, q, r, s) refl
 app_meaning : (name : Text) (version : Bool) (rs : List Rule) → All IsPlainRule rs
     → is_simple_and_free (app_with name version rs) ≡ true
 app_meaning name true rs all =
-    let more = with_version (rs ++ help_rule ∷ []) (with_help rs all) in
-    tests _ _ _ _ (all_simple rs all) (built_simple 1 _ more) (built_single _ 1 _ more) (built_free 1 _ more)
-app_meaning name false rs all =
-    let more = with_help rs all in
-    tests _ _ _ _ (all_simple rs all) (built_simple 1 _ more) (built_single _ 1 _ more) (built_free 1 _ more)
+    search (rules, with_version, with_help, tests, all_simple, built_simple, built_single, built_free)
+app_meaning name false rs all = search (rules, with_help, tests, all_simple, built_simple, built_single, built_free)
 
 added : (app : App) (xs : List Argument)
     → with_arguments app xs ≡ record app { top = record app.top { rules = app.top.rules ++ map argument_rule xs } }
 added app [] = ap (λ rs. record app { top = record app.top { rules = rs } }) (sym (append-nil app.top.rules))
-added app (a ∷ xs) = added (with_rule app (argument_rule a)) xs
-    ∙ ap (λ rs. record app { top = record app.top { rules = rs } })
-    (append_assoc app.top.rules (argument_rule a ∷ []) (map argument_rule xs))
+added app (a ∷ xs) = search (rules, append_assoc, added (with_rule app (argument_rule a)) xs)
 
 pub usage_meaning : (usage : Usage) → is_simple_and_free (usage_app usage) ≡ true
 unfolding usage_app
-usage_meaning usage =
-    ap is_simple_and_free (added (bare_app usage) usage.arguments.now)
-    ∙ app_meaning usage.name.now (is_some usage.version) (map argument_rule usage.arguments.now)
-    (arguments_plain usage.arguments.now)
+usage_meaning usage = search (rules, added, app_meaning, arguments_plain)
 
 left : (a b : Bool) → (a && b) ≡ true → a ≡ true
 left true b e = refl

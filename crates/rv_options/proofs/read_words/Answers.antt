@@ -41,8 +41,7 @@ returns-clause-read c =
     let source = text_got words m (codes "source") c.get_str.result p c.get_str.ensures
     ∙ ap (option_map (λ (s : Bor (List ℕ)). s.now)) found in
     let input = text_got words m (codes "input") c.get_str-input.result p c.get_str-input.ensures in
-    let commands =
-    text_got words m (codes "commands") c.get_str-commands.result p c.get_str-commands.ensures in
+    let commands = text_got words m (codes "commands") c.get_str-commands.result p c.get_str-commands.ensures in
     let steps_said = steps ∙ n.said in
     let pages_said = pages ∙ k.said in
     let slots_said = slots ∙ j.said in
