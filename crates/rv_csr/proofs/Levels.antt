@@ -31,8 +31,7 @@ nothing_stored pmp addr word h = search rules
 
 -- ---- so user mode may access none, neither one of the table nor one of protection
 
-pub no_register : {A : Type 0} (x : Option A) (addr : ℕ) (mode : Mode) (found : Option Register)
-    (register : Register)
+pub no_register : {A : Type 0} (x : Option A) (addr : ℕ) (mode : Mode) (found : Option Register) (register : Register)
     → may_read addr mode ≡ true → mode ≡ User → found ≡ register_at addr → found ≡ Some register → x ≡ None
 no_register x addr mode found register may user at is = search (rules, register_at-user, level_0)
 

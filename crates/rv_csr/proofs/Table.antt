@@ -73,8 +73,7 @@ any-more addr = search (rules, joined, any-from_to)
 
 -- the numbers of the names without, before the rest
 abbrev named_before : ℕ → Bool → Bool
-named_before addr rest =
-    (addr == 0x300) || ((addr == 0x301) || ((addr == 0x304) || ((addr == 0x305) ||
+named_before addr rest = (addr == 0x300) || ((addr == 0x301) || ((addr == 0x304) || ((addr == 0x305) ||
     ((addr == 0x306) || ((addr == 0x30A) || ((addr == 0x310) || ((addr == 0x31A) ||
     ((addr == 0x320) || ((addr == 0x340) || ((addr == 0x341) || ((addr == 0x342) ||
     ((addr == 0x343) || ((addr == 0x344) || ((addr == 0xB00) || ((addr == 0xB02) ||
@@ -95,25 +94,13 @@ five_and_more addr = search rules
 
 -- the registers that have a row of their own, by their numbers
 abbrev registers : List (ℕ × Register)
-registers =
-    (0x300, Mstatus)
-    ∷ (0x301, Misa)
-    ∷ (0x304, Mie)
-    ∷ (0x305, Mtvec)
-    ∷ (0x340, Mscratch)
-    ∷ (0x341, Mepc)
-    ∷ (0x342, Mcause)
-    ∷ (0x343, Mtval)
-    ∷ (0x344, Mip)
-    ∷ (0xB00, Mcycle)
-    ∷ (0xB80, Mcycleh)
-    ∷ (0xB02, Minstret)
+registers = (0x300, Mstatus) ∷ (0x301, Misa) ∷ (0x304, Mie) ∷ (0x305, Mtvec) ∷ (0x340, Mscratch) ∷ (0x341, Mepc)
+    ∷ (0x342, Mcause) ∷ (0x343, Mtval) ∷ (0x344, Mip) ∷ (0xB00, Mcycle) ∷ (0xB80, Mcycleh) ∷ (0xB02, Minstret)
     ∷ (0xB82, Minstreth) ∷ []
 
 -- a name that is of neither the table nor protection is one of a register that reads 0
 named_zero : (addr : ℕ) → list_any (λ r. addr == r.0) registers ≡ false
-    → is_config addr ≡ false → is_address addr ≡ false
-    → list_any (λ named. addr == named.1) csr_names ≡ is_zero addr
+    → is_config addr ≡ false → is_address addr ≡ false → list_any (λ named. addr == named.1) csr_names ≡ is_zero addr
 named_zero addr none config address = search (rules, or_parts, any-name, any-more, five_and_more)
 
 -- ---- the rows
@@ -127,8 +114,7 @@ each_number : list_all (λ named. is_at named.1 named.0) csr_names ≡ true
 unfolding number_of csr_names digits
 each_number = refl
 
-zero_found : (addr : ℕ) (names : List (List ℕ × ℕ)) (b : Bool)
-    → list_all (λ named. is_at named.1 named.0) names ≡ true
+zero_found : (addr : ℕ) (names : List (List ℕ × ℕ)) (b : Bool) → list_all (λ named. is_at named.1 named.0) names ≡ true
     → list_any (λ named. addr == named.1) names ≡ b
     → Same (find (λ row. is_at addr row.name) (map zero_row names)) (if b then Some Zero else None)
 zero_found addr [] true each is = absurd cc
@@ -173,9 +159,7 @@ are_rows = search rules
 
 same : (addr : ℕ) → is_config addr ≡ false → is_address addr ≡ false → Same (row_at addr) (register_at addr)
 unfolding register_at row_at
-same addr config address =
-    rows_of addr table registers are_rows (λ none. zero_found addr csr_names (is_zero addr) each_number
-    (named_zero addr none config address))
+same addr config address = search (rules, rows_of, are_rows, zero_found, each_number, named_zero)
 
 -- ---- what is at an address, by the register there
 
@@ -200,80 +184,63 @@ module _ {A : Type 0} (of_row : CsrRow → A) (of_register : Register → A) whe
   picked : (found : Option CsrRow) (register : Option Register) → Same found register
       → ((row : CsrRow) (register : Register) → Agrees row register → of_row row ≡ of_register register)
       → option_map of_row found ≡ given of_register None register
-  picked None None s each = refl
-  picked (Some row) (Some register) s each = ap Some (each row register s)
-  picked None (Some register) s each = absurd s
-  picked (Some row) None s each = absurd s
+  picked found register s each = search rules
 
 pub values : (state : CsrState) (lines : Lines) (addr : ℕ)
     → word_at state addr lines ≡ cases.value_at state lines addr (register_at addr)
 unfolding protection.read_register
-values state lines addr =
-    go (is_config addr) refl (is_address addr) refl
-    ∙ sym (as_given (register_at addr))
-  where
-    loaded : Bool → Bool → Option ℕ
-    loaded a b =
-        if a then Some (config_word state.pmp (4 * (addr - 0x3A0)))
-        else (if b then Some (entry_at state.pmp (addr - 0x3B0)).address else None)
+values state lines addr = go (is_config addr) refl (is_address addr) refl ∙ sym (as_given (register_at addr)) where
+  loaded : Bool → Bool → Option ℕ
+  loaded a b = if a then Some (config_word state.pmp (4 * (addr - 0x3A0)))
+      else (if b then Some (entry_at state.pmp (addr - 0x3B0)).address else None)
 
-    as_given : (register : Option Register)
-        → cases.value_at state lines addr register
-        ≡ given (value_of state lines) (loaded (is_config addr) (is_address addr)) register
-    as_given None = refl
-    as_given (Some register) = refl
+  as_given : (register : Option Register) → cases.value_at state lines addr register
+      ≡ given (value_of state lines) (loaded (is_config addr) (is_address addr)) register
+  as_given None = refl
+  as_given (Some register) = refl
 
-    go : (a : Bool) → is_config addr ≡ a → (b : Bool) → is_address addr ≡ b
-        → option_or (loaded a b) (option_map (λ row. row.value state lines) (row_at addr))
-        ≡ given (value_of state lines) (loaded a b) (register_at addr)
-    go true c b d = sym (ap (given (value_of state lines) (loaded true b)) (none_config addr c))
-    go false c true d = sym (ap (given (value_of state lines) (loaded false true)) (none_address addr d))
-    go false c false d =
-        picked (λ row. row.value state lines) (value_of state lines) (row_at addr) (register_at addr)
-        (same addr c d) (λ row register agrees. agrees.value state lines)
+  go : (a : Bool) → is_config addr ≡ a → (b : Bool) → is_address addr ≡ b
+      → option_or (loaded a b) (option_map (λ row. row.value state lines) (row_at addr))
+      ≡ given (value_of state lines) (loaded a b) (register_at addr)
+  go true c b d = sym (ap (given (value_of state lines) (loaded true b)) (none_config addr c))
+  go false c true d = sym (ap (given (value_of state lines) (loaded false true)) (none_address addr d))
+  go false c false d = picked (λ row. row.value state lines) (value_of state lines) (row_at addr) (register_at addr)
+      (same addr c d) (λ row register agrees. agrees.value state lines)
 
 pub writes : (state : CsrState) (addr word : ℕ)
     → written_at state addr word ≡ with_value_at state addr word (register_at addr)
 unfolding protection.write_register
-writes state addr word =
-    go (is_config addr) refl (is_address addr) refl
-    ∙ sym (as_given (register_at addr))
-  where
-    after : PmpState
-    after = record { entries = map (written state.pmp addr word) (range_with_len 0 (length state.pmp.entries)) }
+writes state addr word = go (is_config addr) refl (is_address addr) refl ∙ sym (as_given (register_at addr)) where
+  after : PmpState
+  after = record { entries = map (written state.pmp addr word) (range_with_len 0 (length state.pmp.entries)) }
 
-    stored : Bool → Bool → Option CsrState
-    stored a b =
-        option_map (λ (pmp : PmpState). record state { pmp = pmp }) (if a || b then Some after else None)
+  stored : Bool → Bool → Option CsrState
+  stored a b = option_map (λ (pmp : PmpState). record state { pmp = pmp }) (if a || b then Some after else None)
 
-    of_register : Register → CsrState
-    of_register register = with_value state register word
+  of_register : Register → CsrState
+  of_register register = with_value state register word
 
-    as_given : (register : Option Register)
-        → with_value_at state addr word register
-        ≡ given of_register (stored (is_config addr) (is_address addr)) register
-    as_given None = refl
-    as_given (Some register) = refl
+  as_given : (register : Option Register) → with_value_at state addr word register
+      ≡ given of_register (stored (is_config addr) (is_address addr)) register
+  as_given None = refl
+  as_given (Some register) = refl
 
-    go : (a : Bool) → is_config addr ≡ a → (b : Bool) → is_address addr ≡ b
-        → option_or (stored a b) (option_map (λ row. row.written state word) (row_at addr))
-        ≡ given of_register (stored a b) (register_at addr)
-    go true c b d = sym (ap (given of_register (stored true b)) (none_config addr c))
-    go false c true d = sym (ap (given of_register (stored false true)) (none_address addr d))
-    go false c false d =
-        picked (λ row. row.written state word) of_register (row_at addr) (register_at addr)
-        (same addr c d) (λ row register agrees. agrees.written state word)
+  go : (a : Bool) → is_config addr ≡ a → (b : Bool) → is_address addr ≡ b
+      → option_or (stored a b) (option_map (λ row. row.written state word) (row_at addr))
+      ≡ given of_register (stored a b) (register_at addr)
+  go true c b d = sym (ap (given of_register (stored true b)) (none_config addr c))
+  go false c true d = sym (ap (given of_register (stored false true)) (none_address addr d))
+  go false c false d = picked (λ row. row.written state word) of_register (row_at addr) (register_at addr)
+      (same addr c d) (λ row register agrees. agrees.written state word)
 
 -- ---- a read and a write by the register at the address
 
-pub read_by_cases : (state : CsrState) (addr : ℕ) (mode : Mode) (lines : Lines)
-    → read state addr mode lines
+pub read_by_cases : (state : CsrState) (addr : ℕ) (mode : Mode) (lines : Lines) → read state addr mode lines
     ≡ (if may_read addr mode then cases.value_at state lines addr (register_at addr) else None)
 unfolding read row_at
 read_by_cases state addr mode lines = search (rules, values)
 
-pub write_by_cases : (state : CsrState) (addr : ℕ) (mode : Mode) (word : ℕ)
-    → write state addr mode word
+pub write_by_cases : (state : CsrState) (addr : ℕ) (mode : Mode) (word : ℕ) → write state addr mode word
     ≡ (if may_write addr mode then with_value_at state addr word (register_at addr) else None)
 unfolding write row_at
 write_by_cases state addr mode word = search (rules, writes)
