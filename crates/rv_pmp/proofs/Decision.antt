@@ -28,14 +28,11 @@ use Rattle.rv_pmp.specs.Support.Span.{is_between, span, span_of, holds, meets, n
 
 -- the answer of the entry at a place, or of the rest
 step : Mode → Access → ℕ → ℕ → ActiveEntry → Option Bool → Option Bool
-step mode access first last a rest =
-    if meets a.span first last
+step mode access first last a rest = if meets a.span first last
     then Some (holds a.span first last && permits a.entry mode access) else rest
 
-decision-drop : (mode : Mode) (access : Access) (first last : ℕ) (xs : List ActiveEntry) (i : ℕ)
-    (a : ActiveEntry)
-    → i < length xs
-    → decision mode access first last (drop i xs)
+decision-drop : (mode : Mode) (access : Access) (first last : ℕ) (xs : List ActiveEntry) (i : ℕ) (a : ActiveEntry)
+    → i < length xs → decision mode access first last (drop i xs)
     ≡ step mode access first last (get_or xs i a) (decision mode access first last (drop (suc i) xs))
 unfolding decision step
 decision-drop mode access first last [] i a h = absurd (omega arith)
@@ -50,8 +47,7 @@ unfolding step
 decision-entry_answer mode access first last xs i a granted h e =
     rw (decision-drop mode access first last xs i a h) (search rules)
 
-pub decision-passed : (mode : Mode) (access : Access) (first last : ℕ) (xs : List ActiveEntry) (i : ℕ)
-    (a : ActiveEntry)
+pub decision-passed : (mode : Mode) (access : Access) (first last : ℕ) (xs : List ActiveEntry) (i : ℕ) (a : ActiveEntry)
     → i < length xs → entry_answer mode access first last (get_or xs i a) ≡ None
     → decision mode access first last (drop (i + 1) xs) ≡ decision mode access first last (drop i xs)
 unfolding step
@@ -127,8 +123,7 @@ lower_before pmp zero h = absurd (omega arith)
 lower_before pmp (suc n) h = let same : suc n - 1 ≡ n = omega arith in ap (λ k. (entry_at pmp k).address) (sym same)
 
 pub matched_span : (pmp : PmpState) (n lower byte : ℕ) (s : Span) → lower ≡ lower_of pmp n
-    → s ≡ span_of lower (entry_at pmp n)
-    → matches pmp n byte ≡ (nat_le s.first byte && nat_lt byte s.«end»)
+    → s ≡ span_of lower (entry_at pmp n) → matches pmp n byte ≡ (nat_le s.first byte && nat_lt byte s.«end»)
 unfolding span_of
 matched_span pmp n lower byte s e f = search (rules, matched-between)
 
@@ -136,8 +131,7 @@ found_first : (p : ℕ → Bool) (a n i : ℕ) → i < n → ((k : ℕ) → a �
     → find p (range_with_len a n) ≡ Some (a + i)
 found_first p a zero i below none is = absurd (omega (arith, below))
 found_first p a (suc n) zero below none is = search rules
-found_first p a (suc n) (suc i) below none is =
-    grind (arith, nat_tests, common_steps, found_first p (a + 1) n i)
+found_first p a (suc n) (suc i) below none is = grind (arith, nat_tests, common_steps, found_first p (a + 1) n i)
 
 pub none_up_to : (pmp : PmpState) (addr n : ℕ) → ((k : ℕ) → k < n → matches pmp k addr ≡ false)
     → matches pmp n addr ≡ false → (k : ℕ) → k < n + 1 → matches pmp k addr ≡ false
@@ -172,13 +166,11 @@ any_meets s a n w = search (rules, any_between, nat_tests)
 
 -- whether an entry matches any of the bytes of an access, and all of them
 any_matched : (lower : ℕ) (e : Entry) (a n : ℕ)
-    → list_any (matched e.matching lower e.address) (range_with_len a (suc n))
-    ≡ meets (span_of lower e) a (a + suc n)
+    → list_any (matched e.matching lower e.address) (range_with_len a (suc n)) ≡ meets (span_of lower e) a (a + suc n)
 any_matched lower e a n = search (rules, nat_tests, entry-between, any_meets, whole)
 
 all_matched : (lower : ℕ) (e : Entry) (a n : ℕ)
-    → list_all (matched e.matching lower e.address) (range_with_len a (suc n))
-    ≡ holds (span_of lower e) a (a + suc n)
+    → list_all (matched e.matching lower e.address) (range_with_len a (suc n)) ≡ holds (span_of lower e) a (a + suc n)
 all_matched lower e a n = search (rules, nat_tests, entry-between, all_between)
 
 -- ---- the decision by spans is the one by number
@@ -186,8 +178,7 @@ all_matched lower e a n = search (rules, nat_tests, entry-between, all_between)
 -- the decision of the entries from one on: the answer of that one, whether it matches addresses or not, or of
 -- the rest
 decision-more : (mode : Mode) (access : Access) (first last lower : ℕ) (e : Entry) (es : List Entry)
-    → decision mode access first last (actives_from lower (e ∷ es))
-    ≡ step mode access first last (active_of lower e)
+    → decision mode access first last (actives_from lower (e ∷ es)) ≡ step mode access first last (active_of lower e)
     (decision mode access first last (actives_from e.address es))
 unfolding decision actives_from step span_of
 decision-more mode access first last lower e es = search rules
@@ -195,8 +186,7 @@ decision-more mode access first last lower e es = search rules
 -- what is said of the numbers after one is what is said of those before them
 found_after : (p q : ℕ → Bool) (f g : ℕ → Bool) (d : Bool) → ((n : ℕ) → p (suc n) ≡ q n)
     → ((n : ℕ) → f (suc n) ≡ g n) → (a next count : ℕ) → next ≡ suc a
-    → option_map_or f (find p (range_with_len next count)) d
-    ≡ option_map_or g (find q (range_with_len a count)) d
+    → option_map_or f (find p (range_with_len next count)) d ≡ option_map_or g (find q (range_with_len a count)) d
 found_after p q f g d tests says a next zero is = refl
 found_after p q f g d tests says a next (suc count) is =
     grind (arith, nat_tests, common_steps, found_after p q f g d tests says (a + 1) (next + 1) count)
@@ -267,8 +257,7 @@ same_matches pmp n byte = search (rules, same_lower)
 -- the decision of an entry, if any
 decision_of : (pmp : PmpState) (mode : Mode) (access : Access) (bytes : List ℕ) (n : Option ℕ)
     → decided pmp mode access bytes n
-    ≡ option_map_or (λ n. list_all (matches pmp n) bytes && permits (entry_at pmp n) mode access) n
-    (is_machine mode)
+    ≡ option_map_or (λ n. list_all (matches pmp n) bytes && permits (entry_at pmp n) mode access) n (is_machine mode)
 decision_of pmp mode access bytes None = refl
 decision_of pmp mode access bytes (Some n) = refl
 
@@ -286,15 +275,12 @@ decision-grants pmp mode access first (suc n) h = grind (arith, nat_tests, commo
 
 pub grants-off : (pmp : PmpState) (mode : Mode) (access : Access) (first count : ℕ) → 0 < count
     → some_on pmp.entries ≡ false → grants pmp mode access first count ≡ is_machine mode
-grants-off pmp mode access first count h off =
-    sym (decision-grants pmp mode access first count h)
-    ∙ ap (λ o. unwrap_or o (is_machine mode))
-    (decision-off mode access first (first + count) 0 pmp.entries off)
+grants-off pmp mode access first count h off = sym (decision-grants pmp mode access first count h)
+    ∙ ap (λ o. unwrap_or o (is_machine mode)) (decision-off mode access first (first + count) 0 pmp.entries off)
 
 pub grants-word : (pmp : PmpState) (access : Access) (first count : ℕ) → 0 < count
     → some_locked pmp.entries ≡ false → first % 4 + count ≤ 4 → grants pmp Machine access first count ≡ true
-grants-word pmp access first count h free within =
-    sym (decision-grants pmp Machine access first count h)
+grants-word pmp access first count h free within = sym (decision-grants pmp Machine access first count h)
     ∙ decision-word access first (first + count) 0 pmp.entries free (omega arith) (omega arith)
 
 -- so if no entry is locked, machine mode is granted every aligned access
@@ -353,8 +339,7 @@ unfolding grants
 grants_each pmp mode access first count i h granted = search (rules, nat_tests, decided_each)
 
 -- the answer of `allowed`: that of the entry that decides, or that of the mode
-pub grants-some : (pmp : PmpState) (mode : Mode) (access : Access) (first count : ℕ) (granted : Bool)
-    → 0 < count
+pub grants-some : (pmp : PmpState) (mode : Mode) (access : Access) (first count : ℕ) (granted : Bool) → 0 < count
     → decision mode access first (first + count) (actives_from 0 pmp.entries) ≡ Some granted
     → grants pmp mode access first count ≡ granted
 grants-some pmp mode access first count granted h d =

@@ -26,8 +26,7 @@ by_number f [] n = refl
 by_number f (e ∷ es) zero = refl
 by_number f (e ∷ es) (suc n) = by_number f es n
 
-pub found_entry : (pmp : PmpState) (n : ℕ)
-    → option_map_or (λ e. e) (slice_get pmp.entries n) off_entry ≡ entry_at pmp n
+pub found_entry : (pmp : PmpState) (n : ℕ) → option_map_or (λ e. e) (slice_get pmp.entries n) off_entry ≡ entry_at pmp n
 found_entry pmp n = by_number (λ e. e) pmp.entries n
 
 config : (pmp : PmpState) (n : ℕ) → config_at pmp n ≡ config_byte (entry_at pmp n)
@@ -61,8 +60,7 @@ set-at : (es : List Entry) (p i : ℕ) (x : Entry) → p < length es
     → at (slice_set es p x) i ≡ (if i == p then x else at es i)
 set-at es p i x within = go (i == p) refl where
   go : (b : Bool) → (i == p) ≡ b → at (slice_set es p x) i ≡ (if b then x else at es i)
-  go true same =
-      ap (λ n. at (slice_set es p x) n) (eqb-true i p same) ∙ get_or-set_same es p x off_entry within
+  go true same = ap (λ n. at (slice_set es p x) n) (eqb-true i p same) ∙ get_or-set_same es p x off_entry within
   go false apart = get_or-set_other es p i x off_entry (other i p apart)
 
 -- the entry at a place after a change of the one at another place
@@ -70,8 +68,7 @@ changed : (f : Entry → Entry) (es new : List Entry) (p i : ℕ) → i < length
     → (p < length es → new ≡ slice_set es p (f (at es p))) → (length es ≤ p → new ≡ es)
     → at new i ≡ (if i == p then f (at es i) else at es i)
 changed f es new p i within inside outside = go (nat_lt p (length es)) refl where
-  here : (b : Bool) → (i == p) ≡ b
-      → (if b then f (at es p) else at es i) ≡ (if b then f (at es i) else at es i)
+  here : (b : Bool) → (i == p) ≡ b → (if b then f (at es p) else at es i) ≡ (if b then f (at es i) else at es i)
   here true same = ap (λ n. f (at es n)) (sym (eqb-true i p same))
   here false apart = refl
 
@@ -86,19 +83,16 @@ changed f es new p i within inside outside = go (nat_lt p (length es)) refl wher
 
 config-at : (es : List Entry) (p byte i : ℕ) → i < length es
     → at (with_config es p byte) i ≡ (if i == p then configured (at es i) byte else at es i)
-config-at es p byte i within =
-    changed (λ e. configured e byte) es (with_config es p byte) p i within
+config-at es p byte i within = changed (λ e. configured e byte) es (with_config es p byte) p i within
     (λ inside. with_config-at es p byte off_entry inside) (λ outside. with_config-past es p byte outside)
 
-address-at : (es : List Entry) (p word i : ℕ) → i < length es
-    → at (with_address es p word) i
+address-at : (es : List Entry) (p word i : ℕ) → i < length es → at (with_address es p word) i
     ≡ (if (i == p) && not (starts_locked es (p + 1)) then addressed (at es i) word else at es i)
 address-at es p word i within = go (starts_locked es (p + 1)) refl where
   go : (t : Bool) → starts_locked es (p + 1) ≡ t
       → at (with_address es p word) i ≡ (if (i == p) && not t then addressed (at es i) word else at es i)
   go true locked = rw (with_address-locked es p word locked, and-false (i == p)) refl
-  go false free =
-      changed (λ e. addressed e word) es (with_address es p word) p i within
+  go false free = changed (λ e. addressed e word) es (with_address es p word) p i within
       (λ inside. with_address-at es p word off_entry inside free) (λ past. with_address-past es p word past)
       ∙ ap (λ b. if b then addressed (at es i) word else at es i) (sym (and-true (i == p)))
 
@@ -184,13 +178,11 @@ module _ (pmp : PmpState) (addr word : ℕ) (sixteen : length pmp.entries ≡ 16
         → (if a || b then Some (with_entries entries) else None)
         ≡ option_map (λ register. with_entries (with_word pmp.entries register word))
         (if a then Some (Config (4 * (addr - 0x3A0))) else (if b then Some (Address (addr - 0x3B0)) else None))
-    go true is b also =
-        ap (λ (es : List Entry). Some (with_entries es))
+    go true is b also = ap (λ (es : List Entry). Some (with_entries es))
         (sym (same _ (configs-length pmp.entries (4 * (addr - 0x3A0)) word)
         (λ i less. configs-at pmp.entries (4 * (addr - 0x3A0)) word i (omega arith)
         ∙ config_written pmp addr word i is less)))
-    go false not_config true is =
-        ap (λ (es : List Entry). Some (with_entries es))
+    go false not_config true is = ap (λ (es : List Entry). Some (with_entries es))
         (sym (same _ (address-length pmp.entries (addr - 0x3B0) word)
         (λ i less. address_written pmp addr word i is less (omega arith))))
     go false not_config false not_address = refl

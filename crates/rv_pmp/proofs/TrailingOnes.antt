@@ -26,8 +26,7 @@ ones_in-le zero p = omega arith
 ones_in-le (suc n) p = grind (arith, nat_tests, common_steps, pow-suc, eqb-true, ones_in-le n (p / 2))
 
 -- they are the trailing zeros of the complement
-pub count_trailing_zeros-complement : (n p : ℕ) → p < 2 ^ n
-    → count_trailing_zeros n (2 ^ n - 1 - p) ≡ ones_in n p
+pub count_trailing_zeros-complement : (n p : ℕ) → p < 2 ^ n → count_trailing_zeros n (2 ^ n - 1 - p) ≡ ones_in n p
 unfolding ones_in count_trailing_zeros
 count_trailing_zeros-complement zero p h = refl
 count_trailing_zeros-complement (suc n) p h = grind (arith, nat_tests, common_steps, pow-suc, eqb-true, count_trailing_zeros-complement n (p / 2))
@@ -47,8 +46,7 @@ trailing_ones-in p = prefix-ones 32 0 p ∙ ap (ones_in 32) (omega arith)
 
 -- ---- the block of bytes of an address with k trailing ones
 
-first_by : (n p : ℕ) → p < 2 ^ n
-    → 4 * (p + 1 - 2 ^ ones_in n p) ≡ p / 2 ^ (ones_in n p + 1) * 2 ^ (ones_in n p + 3)
+first_by : (n p : ℕ) → p < 2 ^ n → 4 * (p + 1 - 2 ^ ones_in n p) ≡ p / 2 ^ (ones_in n p + 1) * 2 ^ (ones_in n p + 3)
 unfolding ones_in
 first_by zero p small = let none : p ≡ 0 = omega arith in rw none refl
 first_by (suc n) p small =
@@ -63,8 +61,7 @@ first_by (suc n) p small =
         let quotient : p / 2 ^ (suc k + 1) ≡ p / 2 / 2 ^ (k + 1)
         = sym (shr-shr p 1 (k + 1) ∙ ap (λ (i : ℕ). p / 2 ^ i) index) in
         let next : suc k + 3 ≡ suc (k + 3) = omega arith in
-        let power : 2 ^ (suc k + 3) ≡ 2 ^ (k + 3) * 2
-        = ap (λ (i : ℕ). 2 ^ i) next ∙ pow-suc 2 (k + 3) in
+        let power : 2 ^ (suc k + 3) ≡ 2 ^ (k + 3) * 2 = ap (λ (i : ℕ). 2 ^ i) next ∙ pow-suc 2 (k + 3) in
         rw (quotient, power)
         (omega (arith, rest, pow-suc 2 k, mul_assoc (p / 2 / 2 ^ (k + 1)) (2 ^ (k + 3)) 2, eqb-true (p % 2) 1 odd))
     go false even k rest least = grind (arith, nat_tests)
@@ -77,8 +74,7 @@ power_fits : (k : ℕ) → k < 64 → 1 * 2 ^ k % 2 ^ 64 ≡ 2 ^ k
 power_fits k small = omega (arith, pow_below k 64 small)
 
 pub napot_span : (lower : ℕ) (e : Entry) (k : ℕ) → e.matching ≡ Napot → k ≡ trailing_ones e.address → k ≤ 32
-    → e.address < 2 ^ 32
-    → ◌≡◌ {A = Span} (record {
+    → e.address < 2 ^ 32 → ◌≡◌ {A = Span} (record {
       first = 4 * (e.address + 1 - 1 * 2 ^ k % 2 ^ 64);
       «end» = 4 * (e.address + 1 - 1 * 2 ^ k % 2 ^ 64) + 1 * 2 ^ (k + 3) % 2 ^ 64;
     }) (span_of lower e)

@@ -1,5 +1,5 @@
 -- The entries after a write.
-use Rattle.std.proofs.Common.{rules, ◌≡◌, ◌≢◌, ℕ, zero, suc, ◌+◌, ◌<◌, ◌≤◌, true, false, List, length, get_or, refl}
+use Rattle.std.proofs.Common.{rules, ◌≡◌, ◌≢◌, ℕ, ◌+◌, ◌<◌, ◌≤◌, true, false, List, length, get_or, refl}
 use Rattle.std.specs.Prelude.{IsTrue, slice_set}
 use Rattle.std.proofs.lemmas.Option.{slice_get-get_or, slice_get_past}
 use Rattle.std.proofs.lemmas.List.Elements.{All-set, All-get_or}
@@ -7,7 +7,7 @@ use Rattle.rv_pmp.specs.declared.entry.Entry.{Entry}
 use Rattle.rv_pmp.specs.declared.entry.Matching.TheVariants.{Napot}
 use Rattle.rv_pmp.specs.Entry.{addressed, configured, matching_of}
 use Rattle.rv_pmp.specs.Support.ActiveEntries.{AllReadable}
-use Rattle.rv_pmp.specs.Support.Registers.{changed_at, with_config, with_address, starts_locked}
+use Rattle.rv_pmp.specs.Support.Registers.{with_config, with_address, starts_locked}
 
 -- the way to match of the values from 3 on
 pub matching_rest : (code : ℕ) → code ≢ 0 → code ≢ 1 → code ≢ 2 → matching_of code ≡ Napot
@@ -48,8 +48,7 @@ pub with_address-locked : (es : List Entry) (place word : ℕ) → starts_locked
 unfolding with_address
 with_address-locked es place word locked = rw locked refl
 
-pub with_address-past : (es : List Entry) (place word : ℕ) → length es ≤ place
-    → with_address es place word ≡ es
+pub with_address-past : (es : List Entry) (place word : ℕ) → length es ≤ place → with_address es place word ≡ es
 unfolding with_address
 with_address-past es place word h = search (rules, slice_get_past)
 

@@ -3,8 +3,7 @@ use Rattle.rv_pmp.proofs.TrailingOnes.{ones_in, ones_in-le, trailing_ones-in, co
 use Rattle.rv_pmp.proofs.span.trailing_ones.Goals as goal
 
 pub returns-clause-value : goal.returns-clause-value
-returns-clause-value c =
-    c.trailing_ones.ensures ∙ count_trailing_zeros-complement 32 c.args.number (omega arith)
+returns-clause-value c = c.trailing_ones.ensures ∙ count_trailing_zeros-complement 32 c.args.number (omega arith)
     ∙ sym (trailing_ones-in c.args.number)
 
 pub returns-clause-below : goal.returns-clause-below
