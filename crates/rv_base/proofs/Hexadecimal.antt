@@ -25,16 +25,13 @@ spell_next k n acc h = grind (arith, nat_tests, common_steps, ne_eqb)
 -- the digits of a number in front of more text
 spell_append : (k n : ℕ) (acc : List ℕ) → spell k n acc ≡ spell k n [] ++ acc
 spell_append zero n acc = refl
-spell_append (suc k) n acc = ⊎_elim
-    (λ l. spell_last k n acc l ∙ ap (λ x. x ++ acc) (sym (spell_last k n [] l)))
+spell_append (suc k) n acc = ⊎_elim (λ l. spell_last k n acc l ∙ ap (λ x. x ++ acc) (sym (spell_last k n [] l)))
     (λ l. spell_next k n acc l ∙ spell_append k (n / 16) (last_glyph n ∷ acc)
     ∙ sym (append_assoc (spell k (n / 16) []) (last_glyph n ∷ []) acc)
-    ∙ ap (λ x. x ++ acc) (sym (spell_next k n [] l ∙ spell_append k (n / 16) (last_glyph n ∷ []))))
-    (cases_lt n 16)
+    ∙ ap (λ x. x ++ acc) (sym (spell_next k n [] l ∙ spell_append k (n / 16) (last_glyph n ∷ [])))) (cases_lt n 16)
 
 -- any number of places is as good as another, if there are enough
-spell_enough : (j k n : ℕ) (acc : List ℕ) → n < 16 ^ suc j → n < 16 ^ suc k →
-    spell (suc j) n acc ≡ spell (suc k) n acc
+spell_enough : (j k n : ℕ) (acc : List ℕ) → n < 16 ^ suc j → n < 16 ^ suc k → spell (suc j) n acc ≡ spell (suc k) n acc
 spell_enough zero k n acc p q = spell_last zero n acc (omega arith) ∙ sym (spell_last k n acc (omega arith))
 spell_enough (suc j) zero n acc p q = grind (arith, nat_tests, common_steps, spell_last)
 spell_enough (suc j) (suc k) n acc p q = grind (arith, nat_tests, common_steps, spell_last, spell_next, cases_lt, spell_enough j k (n / 16) (last_glyph n ∷ acc))
@@ -42,10 +39,8 @@ spell_enough (suc j) (suc k) n acc p q = grind (arith, nat_tests, common_steps, 
 pub hex_one : (n : ℕ) → n < 16 → digits 16 false n ≡ last_glyph n ∷ []
 hex_one n h = whole n ∙ spell_last 63 n [] h
 
-pub hex_more : (n : ℕ) → 16 ≤ n → n < 2 ^ 32 → digits 16 false n ≡ digits 16 false (n / 16) ++ last_glyph n
-    ∷ []
-hex_more n h small =
-    whole n ∙ spell_next 63 n [] h ∙ spell_enough 62 63 (n / 16) (last_glyph n ∷ []) (omega arith)
+pub hex_more : (n : ℕ) → 16 ≤ n → n < 2 ^ 32 → digits 16 false n ≡ digits 16 false (n / 16) ++ last_glyph n ∷ []
+hex_more n h small = whole n ∙ spell_next 63 n [] h ∙ spell_enough 62 63 (n / 16) (last_glyph n ∷ []) (omega arith)
     (omega arith) ∙ spell_append 64 (n / 16) (last_glyph n ∷ [])
     ∙ ap (λ x. x ++ last_glyph n ∷ []) (sym (whole (n / 16)))
 
@@ -57,8 +52,7 @@ more_after_text text longer n h small is = grind (arith, nat_tests, common_steps
 pub one_long : (n : ℕ) → n < 16 → length (digits 16 false n) ≡ 1
 one_long n h = ap length (hex_one n h)
 
-pub one_longer : (n : ℕ) → 16 ≤ n → n < 2 ^ 32 → length (digits 16 false n)
-    ≡ length (digits 16 false (n / 16)) + 1
+pub one_longer : (n : ℕ) → 16 ≤ n → n < 2 ^ 32 → length (digits 16 false n) ≡ length (digits 16 false (n / 16)) + 1
 one_longer n h small = grind (arith, nat_tests, common_steps, hex_more, length-append)
 
 -- a number below 16 ^ k has at most k digits

@@ -23,14 +23,12 @@ onto_front b (c ∷ bs) h = ap (onto_first b) (h (omega arith))
 
 split_step : (b : ℕ) (bs : List ℕ) (t : Bool) → (b == 10) ≡ t →
     (0 < length bs → split bs ≡ take (until_feed bs) bs ∷ split (drop 1 (drop (until_feed bs) bs)))
-    → split (b ∷ bs) ≡ take (until_feed (b ∷ bs)) (b ∷ bs)
-    ∷ split (drop 1 (drop (until_feed (b ∷ bs)) (b ∷ bs)))
+    → split (b ∷ bs) ≡ take (until_feed (b ∷ bs)) (b ∷ bs) ∷ split (drop 1 (drop (until_feed (b ∷ bs)) (b ∷ bs)))
 unfolding split
 split_step b bs true e h = rw e refl
 split_step b bs false e h = rw (e, one-add) (onto_front b bs h)
 
-pub split_front : (s : List ℕ) → 0 < length s → split s ≡ take (until_feed s) s
-    ∷ split (drop 1 (drop (until_feed s) s))
+pub split_front : (s : List ℕ) → 0 < length s → split s ≡ take (until_feed s) s ∷ split (drop 1 (drop (until_feed s) s))
 split_front [] h = absurd (omega arith)
 split_front (b ∷ bs) h = split_step b bs (b == 10) refl (split_front bs)
 
