@@ -73,5 +73,4 @@ means_kind w k = (by_kinds w (Some k), from_kinds w (Some k))
 -- the word of codes and fields is that of the kind
 pub kind_encoded : (c : Codes) (f : Fields) (k : Kind) → c ≡ codes_of (row f.operation).1 → kind_of f ≡ k
     → placed c f ≡ word k
-kind_encoded c f k e is =
-    ap (λ c. placed c f) e ∙ same_word (row f.operation).1 f ∙ sym (kind_word f) ∙ ap word is
+kind_encoded c f k e is = ap (λ c. placed c f) e ∙ same_word (row f.operation).1 f ∙ sym (kind_word f) ∙ ap word is

@@ -39,13 +39,11 @@ immediate_length (negsuc n) h = length_signed_le 4 (negsuc n) (omega arith) (ome
 
 branch_length : (z : ℤ) → IsWithin (2 ^ 12) z → length (target z) ≤ 6
 branch_length (pos n) h = omega (arith, length-decimal-le 4 n (omega arith) (omega arith) (omega arith))
-branch_length (negsuc n) h =
-    omega (arith, length-decimal-le 4 (suc n) (omega arith) (omega arith) (omega arith))
+branch_length (negsuc n) h = omega (arith, length-decimal-le 4 (suc n) (omega arith) (omega arith) (omega arith))
 
 jump_length : (z : ℤ) → IsWithin (2 ^ 20) z → length (target z) ≤ 9
 jump_length (pos n) h = omega (arith, length-decimal-le 7 n (omega arith) (omega arith) (omega arith))
-jump_length (negsuc n) h =
-    omega (arith, length-decimal-le 7 (suc n) (omega arith) (omega arith) (omega arith))
+jump_length (negsuc n) h = omega (arith, length-decimal-le 7 (suc n) (omega arith) (omega arith) (omega arith))
 
 -- ---- lines
 

@@ -30,8 +30,7 @@ has w e h = grind (arith, nat_tests)
 by_row : (w : ℕ) (y : Operation) (others : Option Operation) (x : Operation) (b : Bool) → has_codes w (row y).1 ≡ b
     → (others ≡ Some x → HasCodes w (codes_of (row x).1)) → (if b then Some y else others) ≡ Some x
     → HasCodes w (codes_of (row x).1)
-by_row w y others x true b h e =
-    subst (λ y. HasCodes w (codes_of (row y).1)) (same_Some y x e) (has w (row y).1 b)
+by_row w y others x true b h e = subst (λ y. HasCodes w (codes_of (row y).1)) (same_Some y x e) (has w (row y).1 b)
 by_row w y others x false b h e = h e
 
 pub first_has : (w : ℕ) (xs : List Operation) (x : Operation) → first_in w xs ≡ Some x → HasCodes w (codes_of (row x).1)
@@ -106,8 +105,7 @@ unfolding Means
 by_operation w (Some x) e b = (read x w, read_fits x w b, refl, read_encoded x w b (first_has w operations x e))
 by_operation w None e b = λ f r q. none-some f.operation (sym e ∙ found w f.operation (word_codes f w r q))
 
-by_size : (w : ℕ) (b : Bool) → nat_lt w (2 ^ 32) ≡ b
-    → Means w (if b then kind_with w (first_in w operations) else None)
+by_size : (w : ℕ) (b : Bool) → nat_lt w (2 ^ 32) ≡ b → Means w (if b then kind_with w (first_in w operations) else None)
 unfolding Means
 by_size w true e = by_operation w (first_in w operations) refl (ltb-true _ _ e)
 by_size w false e = λ f r q. true≢false (sym (lt-ltb _ _ (word_below f w r q)) ∙ e)
@@ -137,8 +135,7 @@ pub one_meaning : OneMeaning
 one_meaning w a b p q = sym (the_meaning w a p) ∙ the_meaning w b q
 
 pub words_differ : (a b : Kind) → IsInRange a → IsInRange b → word a ≡ word b → a ≡ b
-words_differ a b p q e =
-    same_Some a b (one_meaning (word b) (Some a) (Some b) (word_means (word b) a p (sym e))
+words_differ a b p q e = same_Some a b (one_meaning (word b) (Some a) (Some b) (word_means (word b) a p (sym e))
     (word_means (word b) b q refl))
 
 -- ---- the fields that the code reads

@@ -20,8 +20,7 @@ other : (letter : ℕ) (rest text : List ℕ) → begins letter text ≡ false �
 other letter rest [] e = refl
 other letter rest (b ∷ bs) e = rw e refl
 
-step : (letter : ℕ) (rest : List ℕ) (op : Operation) (ops : List Operation) (b : Bool)
-    → begins letter (mnemonic op) ≡ b
+step : (letter : ℕ) (rest : List ℕ) (op : Operation) (ops : List Operation) (b : Bool) → begins letter (mnemonic op) ≡ b
     → first_named (letter ∷ rest) ops ≡ first_named (letter ∷ rest) (those_with letter ops)
     → first_named (letter ∷ rest) (op ∷ ops) ≡ first_named (letter ∷ rest) (those_with letter (op ∷ ops))
 step letter rest op ops true e h = rw (e, h) refl
@@ -30,11 +29,9 @@ step letter rest op ops false e h = rw (e, other letter rest (mnemonic op) e) h
 among : (letter : ℕ) (rest : List ℕ) (ops : List Operation) →
     first_named (letter ∷ rest) ops ≡ first_named (letter ∷ rest) (those_with letter ops)
 among letter rest [] = refl
-among letter rest (op ∷ ops) =
-    step letter rest op ops (begins letter (mnemonic op)) refl (among letter rest ops)
+among letter rest (op ∷ ops) = step letter rest op ops (begins letter (mnemonic op)) refl (among letter rest ops)
 
-pub named_among : (text : List ℕ) → 1 ≤ length text →
-    named text ≡ first_named text (beginning_with (get_or text 0 0))
+pub named_among : (text : List ℕ) → 1 ≤ length text → named text ≡ first_named text (beginning_with (get_or text 0 0))
 unfolding beginning_with
 named_among [] h = absurd (omega arith)
 named_among (letter ∷ rest) h = among letter rest operations

@@ -8,8 +8,7 @@ use Rattle.std.specs.Int.RustNames.{unsigned_abs}
 use Rattle.std.proofs.lemmas.Int.{of_z-to_z, to_z-of_z, to_z_pos, fits_signed_mul}
 use native.Mathlib.Nat.{div-le_self, mod-le}
 use lib.IntN.{neg_ℤ}
-use Rattle.rv_isa.specs.Number.{signed}
-use Rattle.rv_isa.specs.Number.{to_word}
+use Rattle.rv_isa.specs.Number.{signed, to_word}
 
 -- a cast to a signed number
 signed_is : (a : ℕ) → to_z w32 a ≡ signed a
@@ -35,8 +34,7 @@ mixed_factors : (x : ℤ) (b : ℕ) → SFits w32 x → b < 2 ^ 32 →
 mixed_factors x b f h = λ i. widened x f i *ℤ to_z_pos w64 b (omega arith) i
 
 mixed_is_small : (x : ℤ) (b : ℕ) → SFits w32 x → b < 2 ^ 32 → SFits w64 (x *ℤ pos b)
-mixed_is_small x b f h =
-    fits_signed_mul w64 x (pos b) (2 ^ 31) (2 ^ 32 - 1) (abs_le x f) (omega arith) (omega arith)
+mixed_is_small x b f h = fits_signed_mul w64 x (pos b) (2 ^ 31) (2 ^ 32 - 1) (abs_le x f) (omega arith) (omega arith)
 
 pub mixed_fits : (x : ℤ) (b : ℕ) → SFits w32 x → b < 2 ^ 32 →
     SFits w64 (to_z w64 (of_z w64 (to_z w32 (of_z w32 x))) *ℤ to_z w64 b)
@@ -70,13 +68,10 @@ quotient_word x y f = ap (λ (n : ℕ). of_z w32 (to_z w32 n)) (quotient x y f)
 
 pub remainder_word : (x y : ℤ) → SFits w32 x → of_z w32 (int_rem x y) ≡ to_word (int_rem x y)
 remainder_word (pos a) y f = word_above (a % unsigned_abs y) (omega (arith, mod-le a (unsigned_abs y)))
-remainder_word (negsuc a) y f =
-    word_below (suc a % unsigned_abs y) (omega (arith, mod-le (suc a) (unsigned_abs y)))
+remainder_word (negsuc a) y f = word_below (suc a % unsigned_abs y) (omega (arith, mod-le (suc a) (unsigned_abs y)))
 
 -- the value of an operation on the signed numbers of two words, cast to a word
-pub word_of : (op : ℤ → ℤ → ℤ) (meaning : ℤ → ℤ → ℕ) (a b r : ℕ) (x y z : ℤ) → SFits w32 x → SFits w32 y →
-    SFits w32 z
+pub word_of : (op : ℤ → ℤ → ℤ) (meaning : ℤ → ℤ → ℕ) (a b r : ℕ) (x y z : ℤ) → SFits w32 x → SFits w32 y → SFits w32 z
     → x ≡ to_z w32 a → y ≡ to_z w32 b → z ≡ op (to_z w32 (of_z w32 x)) (to_z w32 (of_z w32 y)) →
-    r ≡ of_z w32 (to_z w32 (of_z w32 z))
-    → of_z w32 (op x y) ≡ meaning x y → r ≡ meaning (signed a) (signed b)
+    r ≡ of_z w32 (to_z w32 (of_z w32 z)) → of_z w32 (op x y) ≡ meaning x y → r ≡ meaning (signed a) (signed b)
 word_of op meaning a b r x y z f g h e d is was small = grind (arith, nat_tests, common_steps, to_z-of_z, signed_is)
