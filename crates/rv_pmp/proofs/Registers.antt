@@ -1,12 +1,11 @@
 -- The registers by number are what the code reads and writes.
 use Rattle.std.proofs.lemmas.Grind.{common_steps}
-use Rattle.std.proofs.Common.{rules, ◌≡◌, ◌≢◌, ◌∙◌, ℕ, zero, suc, ◌+◌, ◌-◌, ◌*◌, ◌/◌, ◌<◌, ◌≤◌, ◌==◌, Bool, true, false, List, [], ◌∷◌, length, map, get_or, Some, None, refl, ap, sym, arith, add-zero, nat_lt, eqb-true}
+use Rattle.std.proofs.Common.{rules, ◌≡◌, ◌≢◌, ◌∙◌, ℕ, zero, suc, ◌+◌, ◌-◌, ◌*◌, ◌/◌, ◌<◌, ◌≤◌, ◌==◌, Bool, true, false, List, [], ◌∷◌, length, map, get_or, Some, None, refl, ap, sym, arith, add-zero, nat_lt}
 use Rattle.std.specs.Prelude.{slice_get, slice_set, if◌then◌else◌, ◌&&◌, ◌||◌, not}
 use Rattle.std.specs.List.{range_with_len}
 use Rattle.std.specs.Option.{option_map, option_map_or}
 use Rattle.std.proofs.Math.ListN.{get_or-eq_default}
 use Rattle.std.proofs.Math.Bool.{and-false, and-true}
-use Rattle.std.proofs.Math.Seq.{get_or-set_same, get_or-set_other}
 use Rattle.std.proofs.lemmas.List.FromFn.{fill_by_all, get_or-map-range_with_len, length-map-range_with_len}
 use Rattle.std.proofs.lemmas.Bool.Decides.{nat_tests}
 use Rattle.rv_pmp.specs.declared.entry.Entry.{Entry}
@@ -58,28 +57,13 @@ other i p apart same = absurd (grind (arith, nat_tests))
 
 set-at : (es : List Entry) (p i : ℕ) (x : Entry) → p < length es
     → at (slice_set es p x) i ≡ (if i == p then x else at es i)
-set-at es p i x within = go (i == p) refl where
-  go : (b : Bool) → (i == p) ≡ b → at (slice_set es p x) i ≡ (if b then x else at es i)
-  go true same = ap (λ n. at (slice_set es p x) n) (eqb-true i p same) ∙ get_or-set_same es p x off_entry within
-  go false apart = get_or-set_other es p i x off_entry (other i p apart)
+set-at es p i x within = search rules
 
 -- the entry at a place after a change of the one at another place
 changed : (f : Entry → Entry) (es new : List Entry) (p i : ℕ) → i < length es
     → (p < length es → new ≡ slice_set es p (f (at es p))) → (length es ≤ p → new ≡ es)
     → at new i ≡ (if i == p then f (at es i) else at es i)
-changed f es new p i within inside outside = go (nat_lt p (length es)) refl where
-  here : (b : Bool) → (i == p) ≡ b → (if b then f (at es p) else at es i) ≡ (if b then f (at es i) else at es i)
-  here true same = ap (λ n. f (at es n)) (sym (eqb-true i p same))
-  here false apart = refl
-
-  go : (b : Bool) → nat_lt p (length es) ≡ b → at new i ≡ (if i == p then f (at es i) else at es i)
-  go true less =
-      let room : p < length es = grind (arith, nat_tests) in
-      ap (λ l. at l i) (inside room) ∙ set-at es p i (f (at es p)) room ∙ here (i == p) refl
-  go false not_less =
-      let past : length es ≤ p = grind (arith, nat_tests) in
-      let apart : (i == p) ≡ false = grind (arith, nat_tests) in
-      rw apart (ap (λ l. at l i) (outside past))
+changed f es new p i within inside outside = search rules
 
 config-at : (es : List Entry) (p byte i : ℕ) → i < length es
     → at (with_config es p byte) i ≡ (if i == p then configured (at es i) byte else at es i)
@@ -118,11 +102,7 @@ configs-length es first word = search (rules, config-length)
 -- an entry of the four
 among : (e : Entry) (first word i r : ℕ) → i ≡ first + r → r < 4
     → one_by_one e first word i ≡ configured e (byte_of word r)
-among e first word i zero is small = search rules
-among e first word i (suc zero) is small = search rules
-among e first word i (suc (suc zero)) is small = search rules
-among e first word i (suc (suc (suc zero))) is small = search rules
-among e first word i (suc (suc (suc (suc r)))) is small = absurd (omega arith)
+among e first word i r is small = search rules
 
 -- an entry outside of the four
 outside : (e : Entry) (first word i : ℕ) → ((r : ℕ) → r < 4 → i ≢ first + r) → one_by_one e first word i ≡ e

@@ -1,4 +1,4 @@
-use Rattle.std.proofs.Common.{◌≡◌, ◌∙◌, sym, arith}
+use Rattle.std.proofs.Common.{rules, ◌∙◌, sym, arith}
 use Rattle.rv_pmp.proofs.TrailingOnes.{ones_in, ones_in-le, trailing_ones-in, count_trailing_zeros-complement}
 use Rattle.rv_pmp.proofs.span.trailing_ones.Goals as goal
 
@@ -7,7 +7,4 @@ returns-clause-value c = c.trailing_ones.ensures ∙ count_trailing_zeros-comple
     ∙ sym (trailing_ones-in c.args.number)
 
 pub returns-clause-below : goal.returns-clause-below
-returns-clause-below c =
-    let same : c.trailing_ones.result ≡ ones_in 32 c.args.number
-    = c.trailing_ones.ensures ∙ count_trailing_zeros-complement 32 c.args.number (omega arith) in
-    rw same (ones_in-le 32 c.args.number)
+returns-clause-below c = search (rules, ones_in, count_trailing_zeros-complement, ones_in-le)
