@@ -36,8 +36,7 @@ drop_min n bs = ⊎_elim
     (λ l.
     let e : min n (length bs) ≡ length bs = omega arith in
     ap (λ (m : ℕ). drop m bs) e ∙ drop_all (length bs) bs (omega arith) ∙ sym (drop_all n bs (omega arith)))
-    (λ l. let e : min n (length bs) ≡ n = omega arith in ap (λ (m : ℕ). drop m bs) e)
-    (cases_lt (length bs) n)
+    (λ l. let e : min n (length bs) ≡ n = omega arith in ap (λ (m : ℕ). drop m bs) e) (cases_lt (length bs) n)
 
 text_joined : (xs ys : List (List ℕ)) → text_of (xs ++ ys) ≡ text_of xs ++ text_of ys
 text_joined xs ys = flat_map-append (λ (l : List ℕ). l ++ 10 ∷ []) xs ys
@@ -54,12 +53,10 @@ next_block old new row rest more all most at next some short n r m h e =
     let more_is : more ≡ drop 16 rest = m ∙ drop_min 16 rest in
     let front = upper_lines at ++ line_of 0 (at % 65536) (take 16 rest) ∷ [] in
     let back = lines_from most (at + 16) (drop 16 rest) in
-    let whole : lines_from most at rest ≡ front ++ back =
-    block most at rest some short
+    let whole : lines_from most at rest ≡ front ++ back = block most at rest some short
     ∙ sym (append_assoc (upper_lines at) (line_of 0 (at % 65536) (take 16 rest) ∷ []) back) in
     let joined : old ++ text_of (lines_from most at rest) ≡ (old ++ text_of front) ++ text_of back =
-    ap (λ (x : List (List ℕ)). old ++ text_of x) whole
-    ∙ ap (λ (x : List ℕ). old ++ x) (text_joined front back)
+    ap (λ (x : List (List ℕ)). old ++ text_of x) whole ∙ ap (λ (x : List ℕ). old ++ x) (text_joined front back)
     ∙ sym (append_assoc old (text_of front) (text_of back)) in
     let new_is : new ≡ old ++ text_of front =
     e ∙ ap (λ (x : List ℕ). old ++ text_of (upper_lines at ++ line_of 0 (at % 65536) x ∷ [])) row_is in
@@ -68,6 +65,5 @@ next_block old new row rest more all most at next some short n r m h e =
 -- no more bytes: the line of the end is left
 pub no_block : (old new rest all : List ℕ) (most at : ℕ) → length rest ≡ 0 →
     old ++ text_of (lines_from most at rest) ≡ all → new ≡ old ++ (end_line ++ 10 ∷ []) → new ≡ all
-no_block old new rest all most at none h e =
-    e ∙ ap (λ (x : List ℕ). old ++ x) (sym (append-nil (end_line ++ 10 ∷ [])))
+no_block old new rest all most at none h e = e ∙ ap (λ (x : List ℕ). old ++ x) (sym (append-nil (end_line ++ 10 ∷ [])))
     ∙ ap (λ (x : List (List ℕ)). old ++ text_of x) (sym (last_lines most at rest none)) ∙ h

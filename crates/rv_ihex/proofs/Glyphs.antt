@@ -14,10 +14,7 @@ digit_back d small = rw (digit_value-digit_char d (omega arith), lt-ltb d 16 sma
 
 -- a digit is no control character
 digit_above : (d : ℕ) → 13 < digit d
-digit_above d = ⊎_elim
-    (λ l. rw (lt-ltb d 10 l) (omega arith))
-    (λ l. rw (le-ltb d 10 l) (omega arith))
-    (cases_lt d 10)
+digit_above d = ⊎_elim (λ l. rw (lt-ltb d 10 l) (omega arith)) (λ l. rw (le-ltb d 10 l) (omega arith)) (cases_lt d 10)
 
 -- bytes
 abbrev pub AreBytes : List ℕ → Type 0

@@ -25,8 +25,7 @@ summed_bytes : (xs : List ℕ) → AreBytes xs → AreBytes (with_sum xs)
 summed_bytes xs h = joined_bytes xs ((256 - sum xs % 256) % 256 ∷ []) h (omega arith, tt)
 
 sum_is : (xs : List ℕ) → sum (with_sum xs) % 256 ≡ 0
-sum_is xs =
-    let e = sum_by-append (λ (x : ℕ). x) xs ((256 - sum xs % 256) % 256 ∷ []) in omega (arith, e)
+sum_is xs = let e = sum_by-append (λ (x : ℕ). x) xs ((256 - sum xs % 256) % 256 ∷ []) in omega (arith, e)
 
 in_back : (kind offset : ℕ) (content : List ℕ) →
     record_in (with_sum (fields kind offset content)) ≡ Some (record { offset = offset; kind = kind; content = content })
@@ -37,8 +36,7 @@ in_back kind offset content =
     rw (
       eq-eqb (length (with_sum (fields kind offset content))) (length content + 5) size,
       eq-eqb (sum (with_sum (fields kind offset content)) % 256) 0 (sum_is (fields kind offset content)),
-    )
-    (ap (λ (r : Record). Some r) (ap₂ (λ (n : ℕ) (d : List ℕ). record { offset = n; kind = kind; content = d })
+    ) (ap (λ (r : Record). Some r) (ap₂ (λ (n : ℕ) (d : List ℕ). record { offset = n; kind = kind; content = d })
     (omega arith) (take-append_seam content (check ∷ []))))
 
 record IsFit (k o : ℕ) (c : List ℕ) : Type 0 where
@@ -87,11 +85,10 @@ placed_data : (at : ℕ) (content : List ℕ) (ls : List (List ℕ)) → length 
     placed (at / 65536) at (line_of 0 (at % 65536) content ∷ ls)
     ≡ option_map (λ (bs : List ℕ). content ++ bs) (placed (at / 65536) (at + length content) ls)
 unfolding placed
-placed_data at content ls short bytes =
-    rw (
-      line_back 0 (at % 65536) content (record { kind = omega arith; offset = omega arith; short = short; bytes = bytes }),
-      eq-eqb (65536 * (at / 65536) + at % 65536) at (omega arith),
-    ) refl
+placed_data at content ls short bytes = rw (
+  line_back 0 (at % 65536) content (record { kind = omega arith; offset = omega arith; short = short; bytes = bytes }),
+  eq-eqb (65536 * (at / 65536) + at % 65536) at (omega arith),
+) refl
 
 -- where bytes are to be placed
 record At (u n at : ℕ) (bs : List ℕ) : Type 0 where
@@ -102,8 +99,7 @@ record At (u n at : ℕ) (bs : List ℕ) : Type 0 where
 
 after_upper : (upper at : ℕ) (ls : List (List ℕ)) → at < 2 ^ 32 → (0 < at % 65536 → upper ≡ at / 65536) →
     placed upper at (upper_lines at ++ ls) ≡ placed (at / 65536) at ls
-after_upper upper at ls low h = ⊎_elim
-    (λ l. rw (eq-eqb (at % 65536) 0 (omega arith)) (placed_upper upper at at ls low))
+after_upper upper at ls low h = ⊎_elim (λ l. rw (eq-eqb (at % 65536) 0 (omega arith)) (placed_upper upper at at ls low))
     (λ l. rw (ne_eqb (at % 65536) 0 (λ e. omega arith)) (ap (λ (u : ℕ). placed u at ls) (h (omega arith))))
     (cases_lt (at % 65536) 1)
 
@@ -135,8 +131,7 @@ placed_step most upper at bs short some bytes h others =
     let size = length-take 16 bs in
     let left = length-drop 16 bs in
     let rest : placed (at / 65536) (at + length row) more ≡ Some (drop 16 bs) =
-    others (at / 65536) (at + length row) (at + 16) (drop 16 bs) (omega arith) (dropped_bytes 16 bs bytes)
-    (record {
+    others (at / 65536) (at + length row) (at + 16) (drop 16 bs) (omega arith) (dropped_bytes 16 bs bytes) (record {
       multiple = omega (arith, h.multiple);
       next = (λ p. omega arith);
       fits = (λ p. omega arith);
@@ -184,8 +179,7 @@ no_return l h some =
 lines_back : (ls : List (List ℕ)) → AreAbove ls → lines (text_of ls) ≡ ls
 unfolding split
 lines_back [] h = refl
-lines_back (l ∷ ls) h =
-    ap (λ (x : List ℕ). lines x) (append_assoc l (10 ∷ []) (text_of ls))
+lines_back (l ∷ ls) h = ap (λ (x : List ℕ). lines x) (append_assoc l (10 ∷ []) (text_of ls))
     ∙ ap (λ (x : List (List ℕ)). map strip_carriage_return x) (split_line l (text_of ls) h.0)
     ∙ ap₂ (λ (x : List ℕ) (y : List (List ℕ)). x ∷ y) (no_return l h.0 h.1) (lines_back ls h.2)
 
@@ -201,15 +195,12 @@ joined_above [] ys h k = k
 joined_above (x ∷ xs) ys h k = (h.0, h.1, joined_above xs ys h.2 k)
 
 upper_above : (at : ℕ) → at < 2 ^ 32 → AreAbove (upper_lines at)
-upper_above at low = ⊎_elim
-    (λ l. rw (eq-eqb (at % 65536) 0 (omega arith)) (
-      line_above 4 0 (at / 65536 / 256 ∷ at / 65536 % 256 ∷ []) (record
-          { kind = omega arith; offset = omega arith; short = omega arith; bytes = (omega arith, (omega arith, tt)) }),
-      line_some 4 0 (at / 65536 / 256 ∷ at / 65536 % 256 ∷ []),
-      tt,
-    ))
-    (λ l. rw (ne_eqb (at % 65536) 0 (λ e. omega arith)) tt)
-    (cases_lt (at % 65536) 1)
+upper_above at low = ⊎_elim (λ l. rw (eq-eqb (at % 65536) 0 (omega arith)) (
+  line_above 4 0 (at / 65536 / 256 ∷ at / 65536 % 256 ∷ []) (record
+      { kind = omega arith; offset = omega arith; short = omega arith; bytes = (omega arith, (omega arith, tt)) }),
+  line_some 4 0 (at / 65536 / 256 ∷ at / 65536 % 256 ∷ []),
+  tt,
+)) (λ l. rw (ne_eqb (at % 65536) 0 (λ e. omega arith)) tt) (cases_lt (at % 65536) 1)
 
 last_zero : (at : ℕ) (bs : List ℕ) → lines_from zero at bs ≡ end_line ∷ []
 unfolding lines_from
@@ -229,8 +220,7 @@ all_above (suc most) at bs bytes fits = ⊎_elim
       line_above 0 (at % 65536) (take 16 bs) (record { kind = omega arith; offset = omega arith; short = omega arith; bytes = taken_bytes 16 bs bytes }),
       line_some 0 (at % 65536) (take 16 bs),
       all_above most (at + 16) (drop 16 bs) (dropped_bytes 16 bs bytes) (λ p. omega arith),
-    )))
-    (cases_lt (length bs) 1)
+    ))) (cases_lt (length bs) 1)
 
 -- ---- a whole file
 
@@ -242,8 +232,7 @@ pub image_back : (text image : List ℕ) → text ≡ text_of (lines_from (lengt
     length image ≤ image_limit → All (λ (b : ℕ). b < 256) image → image_of text ≡ Some image
 image_back text image is short h =
     let bytes = recursive image h in
-    ap image_of is
-    ∙ ap (λ (x : List (List ℕ)). placed 0 ram_base x)
+    ap image_of is ∙ ap (λ (x : List (List ℕ)). placed 0 ram_base x)
     (lines_back (lines_from (length image) ram_base image) (all_above (length image) ram_base image bytes (λ p. omega arith)))
     ∙ placed_back (length image) 0 ram_base ram_base image (omega arith) bytes
     (record { multiple = refl; next = (λ p. refl); fits = (λ p. omega arith); upper = (λ p. absurd (omega arith)) })

@@ -13,8 +13,7 @@ loop-rest-preserved c =
           c.loop-rest.invariant.short refl
           (c.split_at.ensures.front ∙ ap (λ (n : ℕ). take n c.loop-rest.rest.now) c.row_length.ensures)
           (c.split_at.ensures.back ∙ ap (λ (n : ℕ). drop n c.loop-rest.rest.now) c.row_length.ensures)
-          c.loop-rest.invariant.text
-          c.in_ok-append_row.ensures;
+          c.loop-rest.invariant.text c.in_ok-append_row.ensures;
       short = omega (arith, c.split_at.ensures.back_len, c.loop-rest.invariant.short);
       more = λ p. omega (arith, c.split_at.ensures.back_len, c.row_length.ensures, most);
       low = omega (arith, most);
