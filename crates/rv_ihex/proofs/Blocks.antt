@@ -1,5 +1,5 @@
 -- The lines of an image, one record after another.
-use Rattle.std.proofs.Common.{◌≡◌, ◌∙◌, ℕ, zero, suc, ◌+◌, ◌%◌, ◌==◌, ◌<◌, ◌≤◌, cond, List, [], ◌∷◌, ◌++◌, take, drop, length, refl, sym, ap, arith, append_assoc, append-nil, eq-eqb, ne_eqb, ⊎_elim, length-drop}
+use Rattle.std.proofs.Common.{rules, ◌≡◌, ◌∙◌, ℕ, zero, suc, ◌+◌, ◌%◌, ◌==◌, ◌<◌, ◌≤◌, cond, List, [], ◌∷◌, ◌++◌, take, drop, length, refl, sym, ap, arith, append_assoc, append-nil, eq-eqb, ne_eqb, length-drop}
 use Rattle.std.specs.Prelude.{min}
 use Rattle.std.proofs.lemmas.Grind.{flat_map-append}
 use Rattle.std.proofs.lemmas.List.{drop_all, take_min}
@@ -32,11 +32,7 @@ block (suc most) at bs some short = more_lines most at bs some
     (enough most (at + 16) (drop 16 bs) (omega (arith, length-drop 16 bs)))
 
 drop_min : (n : ℕ) (bs : List ℕ) → drop (min n (length bs)) bs ≡ drop n bs
-drop_min n bs = ⊎_elim
-    (λ l.
-    let e : min n (length bs) ≡ length bs = omega arith in
-    ap (λ (m : ℕ). drop m bs) e ∙ drop_all (length bs) bs (omega arith) ∙ sym (drop_all n bs (omega arith)))
-    (λ l. let e : min n (length bs) ≡ n = omega arith in ap (λ (m : ℕ). drop m bs) e) (cases_lt (length bs) n)
+drop_min n bs = search (rules, drop_all, cases_lt)
 
 text_joined : (xs ys : List (List ℕ)) → text_of (xs ++ ys) ≡ text_of xs ++ text_of ys
 text_joined xs ys = flat_map-append (λ (l : List ℕ). l ++ 10 ∷ []) xs ys
@@ -49,18 +45,7 @@ pub next_block : (old new row rest more all : List ℕ) (most at next : ℕ) →
     new ≡ old ++ text_of (upper_lines at ++ line_of 0 (at % 65536) row ∷ []) →
     new ++ text_of (lines_from most next more) ≡ all
 next_block old new row rest more all most at next some short n r m h e =
-    let row_is : row ≡ take 16 rest = r ∙ take_min 16 rest in
-    let more_is : more ≡ drop 16 rest = m ∙ drop_min 16 rest in
-    let front = upper_lines at ++ line_of 0 (at % 65536) (take 16 rest) ∷ [] in
-    let back = lines_from most (at + 16) (drop 16 rest) in
-    let whole : lines_from most at rest ≡ front ++ back = block most at rest some short
-    ∙ sym (append_assoc (upper_lines at) (line_of 0 (at % 65536) (take 16 rest) ∷ []) back) in
-    let joined : old ++ text_of (lines_from most at rest) ≡ (old ++ text_of front) ++ text_of back =
-    ap (λ (x : List (List ℕ)). old ++ text_of x) whole ∙ ap (λ (x : List ℕ). old ++ x) (text_joined front back)
-    ∙ sym (append_assoc old (text_of front) (text_of back)) in
-    let new_is : new ≡ old ++ text_of front =
-    e ∙ ap (λ (x : List ℕ). old ++ text_of (upper_lines at ++ line_of 0 (at % 65536) x ∷ [])) row_is in
-    rw (new_is, n, more_is) (sym joined ∙ h)
+    search (rules, take_min, drop_min, block, append_assoc, text_joined)
 
 -- no more bytes: the line of the end is left
 pub no_block : (old new rest all : List ℕ) (most at : ℕ) → length rest ≡ 0 →

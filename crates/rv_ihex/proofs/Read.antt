@@ -1,5 +1,5 @@
 -- The image that is read back from the lines of its records.
-use Rattle.std.proofs.Common.{◌≡◌, ◌∙◌, ℕ, zero, suc, ◌+◌, ◌-◌, ◌*◌, ◌/◌, ◌%◌, ◌^◌, ◌<◌, ◌≤◌, List, [], ◌∷◌, ◌++◌, take, drop, get_or, length, map, Some, refl, sym, ap, ap₂, subst, arith, append_assoc, eq-eqb, ne_eqb, length-append, length-drop, length-take, ⊎_elim}
+use Rattle.std.proofs.Common.{rules, ◌≡◌, ◌∙◌, ℕ, zero, suc, ◌+◌, ◌-◌, ◌/◌, ◌%◌, ◌^◌, ◌<◌, ◌≤◌, List, [], ◌∷◌, ◌++◌, take, drop, get_or, length, map, Some, refl, sym, ap, ap₂, subst, arith, append_assoc, eq-eqb, ne_eqb, length-append, length-drop, length-take, ⊎_elim}
 use Rattle.std.specs.Prelude.{Option, option_and_then, slice_index}
 use Rattle.std.specs.List.{All, sum}
 use Rattle.std.specs.Option.{option_map}
@@ -60,11 +60,7 @@ line_back kind offset content h =
 
 line_above : (kind offset : ℕ) (content : List ℕ) → IsFit kind offset content → Above (line_of kind offset content)
 unfolding line_of
-line_above kind offset content h = (
-  omega arith,
-  digits_above (with_sum (fields kind offset content))
-      (summed_bytes (fields kind offset content) (fields_bytes kind offset content h)),
-)
+line_above kind offset content h = search (rules, digits_above, summed_bytes, fields_bytes)
 
 -- ---- what records place
 
@@ -75,20 +71,13 @@ placed_end upper next ls = rw (line_back 1 0 [] (record { kind = omega arith; of
 placed_upper : (upper next at : ℕ) (ls : List (List ℕ)) → at < 2 ^ 32 →
     placed upper next (upper_line at ∷ ls) ≡ placed (at / 65536) next ls
 unfolding placed
-placed_upper upper next at ls low =
-    let n : 256 * (at / 65536 / 256) + at / 65536 % 256 ≡ at / 65536 = omega arith in
-    rw (line_back 4 0 (at / 65536 / 256 ∷ at / 65536 % 256 ∷ []) (record
-    { kind = omega arith; offset = omega arith; short = omega arith; bytes = (omega arith, (omega arith, tt)) }))
-    (ap (λ (u : ℕ). placed u next ls) n)
+placed_upper upper next at ls low = search (rules, line_back)
 
 placed_data : (at : ℕ) (content : List ℕ) (ls : List (List ℕ)) → length content < 256 → AreBytes content →
     placed (at / 65536) at (line_of 0 (at % 65536) content ∷ ls)
     ≡ option_map (λ (bs : List ℕ). content ++ bs) (placed (at / 65536) (at + length content) ls)
 unfolding placed
-placed_data at content ls short bytes = rw (
-  line_back 0 (at % 65536) content (record { kind = omega arith; offset = omega arith; short = short; bytes = bytes }),
-  eq-eqb (65536 * (at / 65536) + at % 65536) at (omega arith),
-) refl
+placed_data at content ls short bytes = search (rules, line_back, eq-eqb)
 
 -- where bytes are to be placed
 record At (u n at : ℕ) (bs : List ℕ) : Type 0 where
@@ -147,13 +136,8 @@ placed_back : (most : ℕ) → PlacedBack most
 placed_back zero upper next at bs short bytes h =
     ap (λ (x : List (List ℕ)). placed upper next x) (last_lines zero at bs (omega arith)) ∙ placed_end upper next []
     ∙ no_bytes bs (omega arith)
-placed_back (suc most) upper next at bs short bytes h = ⊎_elim
-    (λ l. ap (λ (x : List (List ℕ)). placed upper next x) (last_lines (suc most) at bs (omega arith))
-    ∙ placed_end upper next [] ∙ no_bytes bs (omega arith))
-    (λ l. ap (λ (n : ℕ). placed upper n (lines_from (suc most) at bs)) (h.next (omega arith))
-    ∙ placed_step most upper at bs short (omega arith) bytes
-    (record { multiple = h.multiple; next = (λ p. refl); fits = h.fits; upper = h.upper }) (placed_back most))
-    (cases_lt (length bs) 1)
+placed_back (suc most) upper next at bs short bytes h =
+    search (rules, last_lines, placed_end, no_bytes, placed_step, cases_lt, placed_back most)
 
 -- ---- lines
 
@@ -195,12 +179,7 @@ joined_above [] ys h k = k
 joined_above (x ∷ xs) ys h k = (h.0, h.1, joined_above xs ys h.2 k)
 
 upper_above : (at : ℕ) → at < 2 ^ 32 → AreAbove (upper_lines at)
-upper_above at low = ⊎_elim (λ l. rw (eq-eqb (at % 65536) 0 (omega arith)) (
-  line_above 4 0 (at / 65536 / 256 ∷ at / 65536 % 256 ∷ []) (record
-      { kind = omega arith; offset = omega arith; short = omega arith; bytes = (omega arith, (omega arith, tt)) }),
-  line_some 4 0 (at / 65536 / 256 ∷ at / 65536 % 256 ∷ []),
-  tt,
-)) (λ l. rw (ne_eqb (at % 65536) 0 (λ e. omega arith)) tt) (cases_lt (at % 65536) 1)
+upper_above at low = search (rules, eq-eqb, line_above, line_some, ne_eqb, cases_lt)
 
 last_zero : (at : ℕ) (bs : List ℕ) → lines_from zero at bs ≡ end_line ∷ []
 unfolding lines_from
@@ -230,9 +209,4 @@ recursive (b ∷ bs) h = (h zero 0 (omega arith), recursive bs (λ k d below. h 
 
 pub image_back : (text image : List ℕ) → text ≡ text_of (lines_from (length image) ram_base image) →
     length image ≤ image_limit → All (λ (b : ℕ). b < 256) image → image_of text ≡ Some image
-image_back text image is short h =
-    let bytes = recursive image h in
-    ap image_of is ∙ ap (λ (x : List (List ℕ)). placed 0 ram_base x)
-    (lines_back (lines_from (length image) ram_base image) (all_above (length image) ram_base image bytes (λ p. omega arith)))
-    ∙ placed_back (length image) 0 ram_base ram_base image (omega arith) bytes
-    (record { multiple = refl; next = (λ p. refl); fits = (λ p. omega arith); upper = (λ p. absurd (omega arith)) })
+image_back text image is short h = search (rules, recursive, lines_back, all_above, placed_back)
