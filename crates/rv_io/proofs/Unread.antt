@@ -25,8 +25,7 @@ inputs_unread r source fault gave (inl e) rest = rw e.0 (source, gave, e.1)
 inputs_unread r source fault gave (inr e) rest = rw e.0 (gave_sound r.source source gave, e.1, rest)
 
 pub commands_unread : (r : Readers) (source inputs : List ℕ) (fault : ReadFault) → Gave r.source source
-    → Gave r.inputs inputs
-    → ((fault ≡ Unreadable Commands) × IsSomeAnd r.commands (IsSound false))
+    → Gave r.inputs inputs → ((fault ≡ Unreadable Commands) × IsSomeAnd r.commands (IsSound false))
     ⊎ ((fault ≡ OutOfMemory) × IfSome r.commands (IsSound true)) → Reads r (Err fault)
 commands_unread r source inputs fault gave more (inl e) = rw e.0 (source, inputs, gave, more, e.1)
 commands_unread r source inputs fault gave more (inr e) =

@@ -15,15 +15,14 @@ all_given old now new text buffer n within gave more = (
 )
 
 pub returns-in_default-clause-err : goal.returns-in_default-clause-err
-returns-in_default-clause-err g c =
-    inl (
-      search rules,
-      (
-        c.loop-count.text.items,
-        Consumes-kept _ _ _ c.loop-count.text.items c.loop-count.invariant.gave c.in_default.ensures.bytes,
-        failed _ _ c.in_default.ensures.err,
-      ),
-    )
+returns-in_default-clause-err g c = inl (
+  search rules,
+  (
+    c.loop-count.text.items,
+    Consumes-kept _ _ _ c.loop-count.text.items c.loop-count.invariant.gave c.in_default.ensures.bytes,
+    failed _ _ c.in_default.ensures.err,
+  ),
+)
 
 pub returns-in_default-clause-within : goal.returns-in_default-clause-within
 returns-in_default-clause-within g c = (

@@ -18,8 +18,4 @@ loop-done-preserved g c =
     let sound = c.in_ok-done.ensures.ok.sound in
     let took = Appends-trans _ _ _ (take d bytes) (take (n - d) (drop d bytes)) c.loop-done.invariant.took
     c.in_ok-done.ensures.ok.took in
-    record {
-      took = rw (two_pieces d n bytes after) at took;
-      within = within;
-      sound = sound;
-    }
+    record { took = rw (two_pieces d n bytes after) at took; within = within; sound = sound }
