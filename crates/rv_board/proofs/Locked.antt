@@ -1,7 +1,6 @@
 -- Locked entries of protection, which no event changes.
-use Rattle.std.proofs.Common.{rules, arith, ◌≡◌, ◌∙◌, ℕ, List, ◌+◌, ◌*◌, ◌/◌, ◌%◌, ◌^◌, Bool, true, false, [], ◌∷◌, length, Option, Some, None, Result, Ok, Err, refl, sym, ap, nat_lt}
+use Rattle.std.proofs.Common.{rules, arith, ◌≡◌, ◌∙◌, ℕ, List, ◌+◌, ◌*◌, ◌/◌, ◌%◌, ◌^◌, Bool, true, false, [], ◌∷◌, length, Option, Some, None, Result, Ok, refl, sym, ap, nat_lt}
 use Rattle.std.specs.Prelude.{if◌then◌else◌, ◌&&◌, not}
-use Rattle.std.specs.Option.{option_map}
 use Rattle.rv_isa.specs.declared.kind.Kind.{Kind}
 use Rattle.rv_isa.specs.declared.op.CsrOp.{CsrOp}
 use Rattle.rv_isa.specs.Number.{flag}
@@ -14,16 +13,15 @@ use Rattle.rv_pmp.specs.declared.mode.Mode.{Mode}
 use Rattle.rv_pmp.specs.declared.mode.Mode.TheVariants as mode
 use Rattle.rv_csr.specs.State.{CsrState}
 use Rattle.rv_csr.specs.Registers.{may_write, read, write}
-use Rattle.rv_csr.specs.Support.RegisterCases.{register_at, with_value, with_value_at}
+use Rattle.rv_csr.specs.Support.RegisterCases.{register_at, with_value_at}
 use Rattle.rv_csr.proofs.Table.{write_by_cases}
 use Rattle.rv_csr.specs.Traps.{entered, after_return}
 use Rattle.rv_csr.specs.declared.register.Register.{Register}
-use Rattle.rv_csr.specs.declared.register.Register.TheVariants.{Mstatus}
 use Rattle.rv_bus.specs.Access.{lines_of}
 use Rattle.rv_hart.specs.State.{Machine}
-use Rattle.rv_hart.specs.Effect.{effect, csr_written}
-use Rattle.rv_hart.specs.Support.EffectParts.{Effect, csr_value, exchange_effect, exchange_result, is_write, return_effect, trap_step, with_result, write_result}
-use Rattle.rv_hart.specs.Step.{step, ticked, fetched, attempt, finished, counts, enter}
+use Rattle.rv_hart.specs.Effect.{effect}
+use Rattle.rv_hart.specs.Support.EffectParts.{csr_value, exchange_effect, exchange_result, is_write, return_effect, with_result, write_result}
+use Rattle.rv_hart.specs.Step.{step, ticked, fetched, attempt, counts, enter}
 use Rattle.rv_hart.specs.declared.trap.Trap.{Trap}
 use Rattle.rv_hart.proofs.Rows.{IfRetired, rows}
 use Rattle.rv_board.specs.Support.State.{BoardState, halted_of, pmp_of}
@@ -31,24 +29,15 @@ use Rattle.rv_board.specs.Laws.{KeepsLocked}
 use Rattle.rv_board.specs.Move.{moved, run}
 use Rattle.rv_board.specs.Support.MoveParts.{happens}
 use Rattle.rv_board.specs.declared.event.Event.{Event}
-use Rattle.rv_board.specs.declared.event.Event.TheVariants.{Step, Line, Rx}
 
 -- ---- one change after another
-
-both : (a b : Bool) → (a && b) ≡ true → a ≡ true
-both true b is = refl
-both false b is = absurd cc
-
-stays_top : (old new : PmpState) → KeepsLocked old new → (n : ℕ) → is_locked_tor old n ≡ true
-    → is_locked_tor new n ≡ true
-unfolding is_locked_tor
-stays_top old new k n is = search (rules, arith, both)
 
 kept : (a : PmpState) → KeepsLocked a a
 kept a = record { locked = λ n locked. refl; below = λ n top. refl }
 
 kept_on : (a b c : PmpState) → KeepsLocked a b → KeepsLocked b c → KeepsLocked a c
-kept_on a b c one two = search (rules, arith, stays_top)
+unfolding is_locked_tor
+kept_on a b c one two = search (rules, arith)
 
 -- ---- a write to a register of protection
 
@@ -62,36 +51,17 @@ module _ (e : Entry) (byte word : ℕ) where
     matching = matching_of (byte / 2 ^ 3 % 4);
   }
 
-  configured_locked : e.locked ≡ true → configured e byte ≡ e
-  unfolding configured fields
-  configured_locked locked = ap (λ b. if b then e else fields) locked
-
-  configured_address : (configured e byte).address ≡ e.address
-  unfolding configured fields
-  configured_address = by e.locked where
-    by : (b : Bool) → (if b then e else fields).address ≡ e.address
-    by true = refl
-    by false = refl
-
-  addressed_locked : e.locked ≡ true → addressed e word ≡ e
-  unfolding addressed
-  addressed_locked locked = ap (λ b. if b then e else record e { address = word }) locked
-
   -- a locked entry after either write, or none
   locked_by : e.locked ≡ true → (config address : Bool)
       → (if config then configured e byte else (if address then addressed e word else e)) ≡ e
-  locked_by locked true address = configured_locked locked
-  locked_by locked false true = addressed_locked locked
-  locked_by locked false false = refl
+  unfolding configured fields addressed
+  locked_by locked config address = search (rules, arith)
 
   -- the address of an entry at which a locked region begins
   below_by : (config address top : Bool) → top ≡ true
-      → (if config then configured e byte else (if address && not top then addressed e word else e)).address
-      ≡ e.address
-  below_by true address top is = configured_address
-  below_by false address false is = absurd cc
-  below_by false true true is = refl
-  below_by false false true is = refl
+      → (if config then configured e byte else (if address && not top then addressed e word else e)).address ≡ e.address
+  unfolding configured fields
+  below_by config address top is = search (rules, arith)
 
 store_kept : (pmp new : PmpState) (addr word : ℕ) → protection.write_register pmp addr word ≡ Some new
     → KeepsLocked pmp new
@@ -116,22 +86,10 @@ store_kept pmp new addr word is = record {
 
 -- ---- a write to a control register
 
-other_registers : (state : CsrState) (register : Register) (word : ℕ)
-    → (with_value state register word).pmp ≡ state.pmp
-other_registers state Mstatus word = refl
-other_registers state register word = refl
-
 module _ (state new : CsrState) (addr word : ℕ) where
-  at_protection : (stored : Option PmpState) → protection.write_register state.pmp addr word ≡ stored
-      → option_map (λ (pmp : PmpState). record state { pmp = pmp }) stored ≡ Some new
-      → KeepsLocked state.pmp new.pmp
-  at_protection None is gives = absurd cc
-  at_protection (Some pmp) is gives = search (rules, arith, store_kept)
-
   at_register : (found : Option Register) → with_value_at state addr word found ≡ Some new
       → KeepsLocked state.pmp new.pmp
-  at_register (Some register) gives = search (rules, arith, other_registers, kept)
-  at_register None gives = at_protection (protection.write_register state.pmp addr word) refl gives
+  at_register found gives = search (rules, arith, kept, store_kept)
 
   wrote_kept : (d : Mode) → write state addr d word ≡ Some new → KeepsLocked state.pmp new.pmp
   wrote_kept d is = by (may_write addr d) (sym (write_by_cases state addr d word) ∙ is) where
@@ -154,14 +112,12 @@ module _ (m : Machine) where
       → IfRetired (KeptFrom m) (exchange_effect k m op field operand rd csr)
   unfolding exchange_effect
   registers k op field operand rd csr = by (read m.csrs csr m.mode (lines_of m.bus)) where
-    after : (old : ℕ) (wrote : Option CsrState)
-        → write m.csrs csr m.mode (csr_value op old operand) ≡ wrote
+    after : (old : ℕ) (wrote : Option CsrState) → write m.csrs csr m.mode (csr_value op old operand) ≡ wrote
         → IfRetired (KeptFrom m) (write_result k m rd old wrote)
     after old None is = tt
     after old (Some csrs) is = wrote_kept m.csrs csrs csr (csr_value op old operand) m.mode is
 
-    or_not : (old : ℕ) (writes : Bool)
-        → IfRetired (KeptFrom m)
+    or_not : (old : ℕ) (writes : Bool) → IfRetired (KeptFrom m)
         (if writes then write_result k m rd old (write m.csrs csr m.mode (csr_value op old operand))
         else Ok (with_result m rd old))
     or_not old true = after old (write m.csrs csr m.mode (csr_value op old operand)) refl
@@ -173,24 +129,14 @@ module _ (m : Machine) where
 
   returns : (d : Mode) → IfRetired (KeptFrom m) (return_effect m d)
   unfolding return_effect after_return
-  returns mode.User = tt
-  returns mode.Machine = kept m.csrs.pmp
+  returns d = search (rules, arith, kept)
 
   effects : (k : Kind) → IfRetired (KeptFrom m) (effect k m)
   effects = rows m (KeptFrom m) (λ new in_mode same. same_registers new same) registers (returns m.mode)
 
-  traps : (t : Trap) → KeptFrom m (trap_step m t).0
-  unfolding counts enter entered
-  traps t = kept m.csrs.pmp
-
-  settles : (wrote : Option ℕ) (e : Effect) → IfRetired (KeptFrom m) e → KeptFrom m (finished m wrote e).0
-  unfolding counts
-  settles wrote (Ok new) keeps = keeps
-  settles wrote (Err t) keeps = traps t
-
   attempts : (f : Result Kind Trap) → KeptFrom m (attempt m f).0
-  attempts (Ok k) = settles (csr_written k) (effect k m) (effects k)
-  attempts (Err t) = traps t
+  unfolding counts enter entered
+  attempts f = search (rules, arith, kept, effects)
 
 steps : (m : Machine) → KeptFrom m (step m).0
 unfolding step
@@ -199,10 +145,7 @@ steps m = attempts (ticked m) (fetched (ticked m))
 -- ---- events
 
 happened : (halt : Option ℕ) (b : BoardState) (e : Event) → KeepsLocked (pmp_of b) (pmp_of (happens halt b e))
-happened (Some code) b e = kept (pmp_of b)
-happened None b Step = steps b.machine
-happened None b (Line source high) = kept (pmp_of b)
-happened None b (Rx byte) = kept (pmp_of b)
+happened halt b e = search (rules, arith, kept, steps)
 
 pub locked_stay : (b : BoardState) (events : List Event) → KeepsLocked (pmp_of b) (pmp_of (run b events))
 unfolding moved
