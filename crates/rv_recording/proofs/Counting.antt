@@ -7,23 +7,14 @@ use Rattle.rv_recording.specs.Until.{steps_of}
 use Rattle.rv_recording.specs.Refused.{NoneEnds}
 use Rattle.rv_recording.specs.declared.until.End.{End}
 
-at_most : (b : Bool) (k m : ℕ) → k ≤ m → (if b then k else suc k) ≤ suc m
-at_most true k m h = omega (arith, h)
-at_most false k m h = omega (arith, h)
-
-at_least : (b : Bool) (k m : ℕ) → m ≤ k → m ≤ (if b then k else suc k)
-at_least true k m h = h
-at_least false k m h = omega (arith, h)
-
 shifted : (b : Bool) (k n : ℕ) → (if b then k + n else suc (k + n)) ≡ k + (if b then n else suc n)
-shifted true k n = refl
-shifted false k n = omega arith
+shifted b k n = search (rules, arith)
 
 module _ (ends : ℕ → Option End) where
   pub steps_within : (m : ℕ) → steps_of ends m ≤ m
   unfolding steps_of
   steps_within zero = omega arith
-  steps_within (suc m) = at_most (is_some (ends (steps_of ends m))) (steps_of ends m) m (steps_within m)
+  steps_within (suc m) = search (rules, arith, steps_within m)
 
   -- a run that isn't over before n steps takes n steps
   pub all_steps : (n : ℕ) → NoneEnds ends n → steps_of ends n ≡ n
@@ -41,18 +32,17 @@ module _ (ends : ℕ → Option End) where
   pub takes_more : (n m : ℕ) → n < m → NoneEnds ends (suc n) → n < steps_of ends m
   unfolding steps_of
   takes_more n zero h going = absurd (omega (arith, h))
-  takes_more n (suc m) h going = search (rules, arith, at_least, all_steps, cases_lt, takes_more n m)
+  takes_more n (suc m) h going = search (rules, arith, all_steps, cases_lt, takes_more n m)
 
   -- a run that takes fewer steps than it may is over after them
   pub over_or_all : (m : ℕ) → steps_of ends m < m → is_some (ends (steps_of ends m)) ≡ true
   unfolding steps_of
   over_or_all zero h = absurd (omega (arith, h))
-  over_or_all (suc m) h = by_last (is_some (ends (steps_of ends m))) m (steps_of ends m) refl (over_or_all m) h
-    where
-      by_last : (b : Bool) (m k : ℕ) → is_some (ends k) ≡ b → (k < m → is_some (ends k) ≡ true)
-          → (if b then k else suc k) < suc m → is_some (ends (if b then k else suc k)) ≡ true
-      by_last true m k is before h = is
-      by_last false m k is before h = absurd (false≢true (sym is ∙ before (omega (arith, h))))
+  over_or_all (suc m) h = by_last (is_some (ends (steps_of ends m))) m (steps_of ends m) refl (over_or_all m) h where
+    by_last : (b : Bool) (m k : ℕ) → is_some (ends k) ≡ b → (k < m → is_some (ends k) ≡ true)
+        → (if b then k else suc k) < suc m → is_some (ends (if b then k else suc k)) ≡ true
+    by_last true m k is before h = is
+    by_last false m k is before h = absurd (false≢true (sym is ∙ before (omega (arith, h))))
 
   -- a run of more steps goes on where one of fewer ends
   pub joins_over : (n k : ℕ) → is_some (ends (steps_of ends n)) ≡ true → steps_of ends (n + k) ≡ steps_of ends n
@@ -64,10 +54,7 @@ module _ (ends : ℕ → Option End) where
       → steps_of ends (n + k) ≡ steps_of ends n + steps_of (λ i. ends (steps_of ends n + i)) k
   unfolding steps_of
   joins n zero is = simp unary_clauses refl
-  joins n (suc k) is =
-      simp unary_clauses (rw (joins n k is)
-      (shifted (is_some (ends (steps_of ends n + steps_of (λ i. ends (steps_of ends n + i)) k))) (steps_of ends n)
-      (steps_of (λ i. ends (steps_of ends n + i)) k)))
+  joins n (suc k) is = search (rules, arith, unary_clauses, shifted, joins n k is)
 
 -- the same reasons lead to as many steps
 pub same_steps : (e f : ℕ → Option End) → ((i : ℕ) → is_some (e i) ≡ is_some (f i)) → (n : ℕ) → steps_of e n ≡ steps_of f n

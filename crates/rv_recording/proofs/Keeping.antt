@@ -1,11 +1,8 @@
 -- The states that a recording keeps on the way.
-use Rattle.std.proofs.Common.{rules, arith, ◌≡◌, ℕ, zero, suc, Bool, true, false, cond, List, [], ◌∷◌, refl, sym, subst}
-use Rattle.std.specs.Option.{option_map}
-use Rattle.std.specs.Prelude.{find, nat_le, not, ◌&&◌, is_ok, remove, insert, None, Result, Ok, Err}
+use Rattle.std.proofs.Common.{rules, arith, ◌≡◌, ℕ, zero, suc, true, cond, List, [], ◌∷◌, refl}
+use Rattle.std.specs.Prelude.{is_ok, remove, insert, None, Result}
 use Rattle.rv_cache.specs.SlotCount.{is_slot_count}
 use Rattle.rv_board.specs.Boot.{boot_fault}
-use Rattle.rv_board.specs.declared.event.BootFault.{BootFault}
-use Rattle.rv_board.specs.declared.event.BootFault.TheVariants.{BadPages, BadSlots, ImageTooLarge}
 use Rattle.rv_board.specs.Move.{run}
 use Rattle.rv_board.specs.Support.State.{BoardState}
 use Rattle.rv_timeline.specs.Timed.{never_falls, inserted}
@@ -18,18 +15,11 @@ use Rattle.rv_monitor.proofs.Given.{events_before}
 use Rattle.rv_monitor.proofs.Resumed.{left_by_steps}
 use Rattle.rv_recording.specs.Support.Kept.{KeptBoard, AreKept, AreWithin}
 
--- a state more, and one less
-kept_more : (first : BoardState) (s : TimedState) (ks : List KeptBoard) (k : KeptBoard)
-    → IsReached first s → s.place ≡ count_before s.taken s.inputs → k.board ≡ s.board → k.steps ≡ s.taken
-    → AreKept first s.inputs ks → AreKept first s.inputs (k ∷ ks)
-kept_more first s ks k r none board steps h = search (rules, arith, left_by_steps)
-
 pub kept_inserted : {E : Type 0} (r : Result Unit E) (first : BoardState) (s : TimedState)
     (ks new : List KeptBoard) (k : KeptBoard) → new ≡ cond (is_ok r) (insert ks 0 k) ks → IsReached first s
     → s.place ≡ count_before s.taken s.inputs → k.board ≡ s.board → k.steps ≡ s.taken
     → AreKept first s.inputs ks → AreKept first s.inputs new
-kept_inserted (Ok u) first s ks new k e r none board steps h = search (rules, arith, kept_more)
-kept_inserted (Err x) first s ks new k e r none board steps h = subst (AreKept first s.inputs) (sym e) h
+kept_inserted result first s ks new k e r none board steps h = search (rules, arith, left_by_steps)
 
 pub kept_less : (first : BoardState) (inputs : List TimedInput) (ks : List KeptBoard) (i : ℕ)
     → AreKept first inputs ks → AreKept first inputs (remove ks i)
@@ -46,16 +36,9 @@ kept_with first inputs t input [] rising w h = tt
 kept_with first inputs t input (k ∷ ks) rising w h =
     search (rules, arith, events_before, kept_with first inputs t input ks rising w.1 h.1)
 
--- a board that boots has a cache
-slots_by : (a b c : Bool) → option_map (λ (row : Bool × BootFault). row.1) (find (λ row. row.0)
-    ((not a, BadPages) ∷ (not b, BadSlots) ∷ (c, ImageTooLarge) ∷ [])) ≡ None → b ≡ true
-slots_by true true c h = refl
-slots_by true false c h = absurd cc
-slots_by false b c h = absurd cc
-
 pub has_slots : (size pages slots : ℕ) → boot_fault size pages slots ≡ None → is_slot_count slots ≡ true
 unfolding boot_fault
-has_slots size pages slots h = slots_by (nat_le 1 pages && nat_le pages 4096) (is_slot_count slots) _ h
+has_slots size pages slots h = search (rules, arith)
 
 -- a board at reset has taken no step
 pub none_taken : (first : BoardState) (inputs : List TimedInput) → first ≡ run first (events_of inputs 0 0)

@@ -18,22 +18,9 @@ IsFirst p from (Some n) = (from ≤ n) × (p n ≡ true) × ((a : ℕ) → from 
 itself : (n : ℕ) (t : Bool) → (nat_eq n n || t) ≡ true
 itself n t = let same : nat_eq n n ≡ true = grind (arith, nat_tests) in rw same refl
 
-only : (c t : Bool) → (c || t) ≡ false → t ≡ false
-only false t e = e
-only true t e = absurd (false≢true (sym e))
-
-other : (c t : Bool) → c ≡ false → t ≡ false → (c || t) ≡ false
-other c t e f = rw e f
-
 -- ---- of two numbers the lesser was kept
 
 module _ (b x : ℕ) (t : ℕ → Bool) where
-  passes : (n : ℕ) (d e : Bool) → nat_eq n b ≡ d → nat_eq n x ≡ e → (nat_eq n (min b x) || t n) ≡ true
-      → (d || (e || t n)) ≡ true
-  passes n true e g h p = refl
-  passes n false true g h p = refl
-  passes n false false g h p = search (rules, arith)
-
   module _ (from : ℕ) (n : ℕ) (least : (a : ℕ) → from ≤ a → a < n → (nat_eq a (min b x) || t a) ≡ false)
       (l : from ≤ min b x) where
     within : (c : Bool) → nat_lt (min b x) n ≡ c → n ≤ min b x
@@ -43,23 +30,17 @@ module _ (b x : ℕ) (t : ℕ → Bool) where
     within false e = grind (arith, nat_tests)
 
     fails : (a : ℕ) → from ≤ a → a < n → (nat_eq a b || (nat_eq a x || t a)) ≡ false
-    fails a f h = search (rules, arith, within, other, only)
+    fails a f h = search (rules, arith, within, false≢true)
 
   lesser_is : (from : ℕ) (r : Option ℕ) → from ≤ b → from ≤ x
       → IsFirst (λ a. nat_eq a (min b x) || t a) from r → IsFirst (λ a. nat_eq a b || (nat_eq a x || t a)) from r
-  lesser_is from None f g h =
-      absurd (false≢true (sym (h (min b x) (omega (arith, f, g))) ∙ itself (min b x) (t (min b x))))
-  lesser_is from (Some n) f g h = search (rules, arith, passes, fails)
+  lesser_is from r f g h = search (rules, arith, false≢true, itself, fails)
 
 -- ---- a number below was left
 
 module _ (x from : ℕ) (c t : ℕ → Bool) (below : x < from) where
   same : (a : ℕ) → from ≤ a → (c a || t a) ≡ (c a || (nat_eq a x || t a))
   same a l = search (rules, arith)
-
-  left : (r : Option ℕ) → IsFirst (λ a. c a || t a) from r → IsFirst (λ a. c a || (nat_eq a x || t a)) from r
-  left None h = λ a l. sym (same a l) ∙ h a l
-  left (Some n) h = (h.0, sym (same n h.0) ∙ h.1, λ a l b. sym (same a l) ∙ h.2 a l b)
 
 -- ---- all of them
 
@@ -72,16 +53,12 @@ abbrev IsHigh : ℕ → Option ℕ → Type 0
 IsHigh from None = Unit
 IsHigh from (Some b) = from ≤ b
 
-none_left : (from : ℕ) (o : Option ℕ) → IsHigh from o → IsFirst (λ a. found o a || false) from o
-none_left from None h = λ a l. refl
-none_left from (Some b) h = search (rules, arith, itself)
-
 module _ (from x : ℕ) (xs : List ℕ)
     (rest : (o : Option ℕ) → IsHigh from o → IsFirst (λ a. found o a || list_any (nat_eq a) xs) from (fold (nearer from) o xs)) where
   by_case : (o : Option ℕ) → IsHigh from o → (c : Bool) → nat_lt x from ≡ c
       → IsFirst (λ a. found o a || (nat_eq a x || list_any (nat_eq a) xs)) from
       (fold (nearer from) (if c then o else lesser o x) xs)
-  by_case o h true e = left x from (found o) (λ a. list_any (nat_eq a) xs) (grind (arith, nat_tests)) _ (rest o h)
+  by_case o h true e = search (rules, arith, same)
   by_case None h false e = rest (Some x) (grind (arith, nat_tests))
   by_case (Some b) h false e =
       let high : from ≤ x = grind (arith, nat_tests) in
@@ -89,14 +66,9 @@ module _ (from x : ℕ) (xs : List ℕ)
 
 first : (from : ℕ) (xs : List ℕ) (o : Option ℕ) → IsHigh from o
     → IsFirst (λ a. found o a || list_any (nat_eq a) xs) from (fold (nearer from) o xs)
-first from [] o h = none_left from o h
+first from [] o h = search (rules, arith, itself)
 first from (x ∷ xs) o h = by_case from x xs (λ p g. first from xs p g) o h (nat_lt x from) refl
-
-as_set : (s : Addresses) (p : ℕ → Bool) (from : ℕ) (r : Option ℕ) → ((a : ℕ) → set.contains s a ≡ p a)
-    → IsFirst p from r → IsNext s from r
-as_set s p from None same h = λ a l. same a ∙ h a l
-as_set s p from (Some n) same h = (h.0, same n ∙ h.1, λ a l b. same a ∙ h.2 a l b)
 
 pub is_next : (from : ℕ) (xs : List ℕ) (s : Addresses) (r : Option ℕ) → set.from_list xs ≡ s
     → r ≡ fold (nearer from) None xs → IsNext s from r
-is_next from xs s r e f = search (rules, arith, as_set, has, first)
+is_next from xs s r e f = search (rules, arith, same, has, first)

@@ -12,7 +12,7 @@ use Rattle.rv_recording.specs.Out.{is_out, open_at, out_ends}
 use Rattle.rv_recording.specs.Support.Steps.{StepsOut, end_after, end_before, next_of, open_of_step}
 use Rattle.rv_recording.specs.declared.out.Span.{Span}
 use Rattle.rv_recording.specs.declared.until.End.{End}
-use Rattle.rv_recording.specs.declared.until.End.TheVariants.{Limit, Stuck}
+use Rattle.rv_recording.specs.declared.until.End.TheVariants.{Limit}
 use Rattle.rv_recording.proofs.Running.{Going, begins, before_is, goes_on, ended, limit, refused, taken_is, due_is, due_at, one_more, above_none, after_suc, late, others_at, others_next, others_due}
 
 -- n steps were taken, none of which ends the run, and `calls` is the number of open calls after them
@@ -26,9 +26,6 @@ unfolding open_at
 begins_out first line old before in_time at e =
     let is = at ∙ before_is (λ i. is_out line (open_at first old.session.timed i) (after old.session.timed i).board) old.session.breakpoints.addresses old.session in_time
     in record { going = begins (out_ends first line old.session) old before in_time at is e; number = refl }
-
-none_is : (end : End) → None ≡ Some end → ⊥
-none_is end h = cc
 
 module _ (first : ℕ) (line : Option Span) (old : RecordingState) where
   abbrev ends : ℕ → Option End
@@ -51,7 +48,7 @@ module _ (first : ℕ) (line : Option Span) (old : RecordingState) where
     going = goes_on ends old (is_out line left (after now.session.timed 1).board) now new n (out_is now calls left n g t.1) g.going (inl (t.0, t.2));
     number = open_suc now calls left n g t.1 ∙ ap (open_at first old.session.timed) (sym (add-one n));
   }
-  goes_out now new calls left n g (inr t) = absurd (none_is Stuck t.3)
+  goes_out now new calls left n g (inr t) = search (rules, arith)
 
   pub ends_out : (now new : RecordingState) (calls left most n : ℕ) (end : End) → n < most
       → GoingOut first line old now calls n → StepsOut line calls left now new (Ok (Some end))
@@ -63,9 +60,7 @@ module _ (first : ℕ) (line : Option Span) (old : RecordingState) where
   pub open_ended : (now new : RecordingState) (calls left n : ℕ) (end : Option End)
       → GoingOut first line old now calls n → StepsOut line calls left now new (Ok end)
       → left ≡ open_at first old.session.timed (steps_between old.session.timed new.session.timed)
-  open_ended now new calls left n end g (inl t) =
-      open_suc now calls left n g t.1
-      ∙ ap (open_at first old.session.timed)
+  open_ended now new calls left n end g (inl t) = open_suc now calls left n g t.1 ∙ ap (open_at first old.session.timed)
       (taken_is old new (suc n) (one_more ends old now new n g.going t.0))
   open_ended now new calls left n end g (inr t) = search (rules, arith, taken_is)
 
@@ -96,8 +91,7 @@ module _ (first : ℕ) (line : Option Span) (old : RecordingState) where
   pub others_ended : (now new : RecordingState) (calls left n : ℕ) (end : Option End)
       → GoingOut first line old now calls n → StepsOut line calls left now new (Ok end)
       → new ≡ record old { session = new.session }
-  others_ended now new calls left n end g (inl t) = search (rules, arith, others_next)
-  others_ended now new calls left n end g (inr t) = search (rules, arith, others_next)
+  others_ended now new calls left n end g t = search (rules, arith, others_next)
 
   pub others_refused : (now new : RecordingState) (calls left n : ℕ) (why : NoMemory)
       → GoingOut first line old now calls n → StepsOut line calls left now new (Err why)

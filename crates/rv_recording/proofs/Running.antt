@@ -1,5 +1,5 @@
 -- Runs, step by step.
-use Rattle.std.proofs.Common.{rules, ◌≡◌, ◌∙◌, ℕ, suc, ◌+◌, ◌<◌, Bool, true, false, refl, sym, ap, subst, arith, inl, inr}
+use Rattle.std.proofs.Common.{rules, ◌≡◌, ◌∙◌, ℕ, suc, ◌+◌, ◌<◌, Bool, true, refl, sym, ap, subst, arith, inl, inr}
 use Rattle.std.specs.Prelude.{◌&&◌, nat_lt, if◌then◌else◌, is_none, is_some, unwrap_or, Option, Some, None, Ok, Err}
 use Rattle.std.proofs.Math.Numerals.{add-one}
 use Rattle.std.proofs.lemmas.Bool.{cases_lt, false≢true}
@@ -34,8 +34,7 @@ pub taken_is : (old now : RecordingState) (n : ℕ) → now ≡ stands old n
 unfolding after
 taken_is old now n e = omega (arith, ap (λ (r : RecordingState). r.session.timed.taken) e)
 
-pub due_is : (old now : RecordingState) (n : ℕ)
-    → now ≡ with_timed old (with_due (after old.session.timed n))
+pub due_is : (old now : RecordingState) (n : ℕ) → now ≡ with_timed old (with_due (after old.session.timed n))
     → n ≡ steps_between old.session.timed now.session.timed
 unfolding after with_due
 due_is old now n e = omega (arith, ap (λ (r : RecordingState). r.session.timed.taken) e)
@@ -46,32 +45,18 @@ pub before_is : (reached : ℕ → Bool) (breaks : Addresses) (s : SessionState)
     → end_before s ≡ end_at reached breaks s 0
 before_is reached breaks s h = search (rules, arith, after_none)
 
-may_before : (h : Option ℕ) (l : Bool)
-    → (if is_some h then Some Halted else (if l then None else Some Stuck)) ≡ None → (is_none h && l) ≡ true
-may_before (Some code) l e = absurd cc
-may_before None true e = refl
-may_before None false e = absurd cc
-
 may_after : (h : Option ℕ) (r b l : Bool) → (if is_some h then Some Halted
     else (if r then Some Reached else (if b then Some Breakpoint else (if l then None else Some Stuck)))) ≡ None
     → (is_none h && l) ≡ true
-may_after (Some code) r b l e = absurd cc
-may_after None true b l e = absurd cc
-may_after None false true l e = absurd cc
-may_after None false false true e = refl
-may_after None false false false e = absurd cc
-
-first_none : (ends : ℕ → Option End) → ends 0 ≡ None → NoneEnds ends 1
-first_none ends e i l = let same : i ≡ 0 = omega (arith, l) in ap ends same ∙ e
+may_after h r b l e = search (rules, arith)
 
 pub begins : (ends : ℕ → Option End) (old : RecordingState) (before : Option End) → IsInTime old.session.timed
     → before ≡ end_before old.session → before ≡ ends 0 → before ≡ None → Going ends old old 0
-begins ends old before in_time at is e = search (rules, arith, after_none, first_none, may_before)
+begins ends old before in_time at is e = search (rules, arith, after_none)
 
 -- a run that is over before its first step
 pub over_before : (ends : ℕ → Option End) (old : RecordingState) (most : ℕ) (before : Option End) (end : End)
-    → IsInTime old.session.timed → before ≡ ends 0 → before ≡ Some end
-    → HasRun ends most old.session old.session end
+    → IsInTime old.session.timed → before ≡ ends 0 → before ≡ Some end → HasRun ends most old.session old.session end
 over_before ends old most before end in_time is e =
     let none : steps_of ends most ≡ 0 =
     over_at ends 0 most (omega arith) (λ i l. absurd (omega (arith, l))) (ap is_some (sym is ∙ e)) in
@@ -80,9 +65,6 @@ over_before ends old most before end in_time is e =
           ∙ ap (λ (n : ℕ). record old.session { timed = after old.session.timed n }) (sym none);
       ended = sym (ap (λ (n : ℕ). unwrap_or (ends n) Limit) none ∙ ap (λ (o : Option End). unwrap_or o Limit) (sym is ∙ e));
     }
-
-none_is : (end : End) → None ≡ Some end → ⊥
-none_is end h = cc
 
 module _ (ends : ℕ → Option End) (old : RecordingState) where
   -- one step more of a recording
@@ -99,16 +81,14 @@ module _ (ends : ℕ → Option End) (old : RecordingState) where
   goes_on reached now new n is g (inl t) = record {
     in_time = g.in_time;
     state = one_more now new n g t.0 ∙ ap (stands old) (sym (add-one n));
-    going = subst (λ (k : ℕ). NoneEnds ends (suc k)) (sym (add-one n))
-        (more_goes (suc n) g.going (sym (t.1 ∙ is)));
+    going = subst (λ (k : ℕ). NoneEnds ends (suc k)) (sym (add-one n)) (more_goes (suc n) g.going (sym (t.1 ∙ is)));
     may = ap (λ (r : RecordingState). may_step r.session) t.0
         ∙ may_after (halted_of (next_of now.session).timed.board) reached _ _ (sym t.1);
   }
-  goes_on reached now new n is g (inr t) = absurd (none_is Stuck t.2)
+  goes_on reached now new n is g (inr t) = search (rules, arith)
 
   pub due_at : (now new : RecordingState) (n : ℕ) → Going ends old now n
-      → new ≡ with_timed now (with_due now.session.timed)
-      → new ≡ with_timed old (with_due (after old.session.timed n))
+      → new ≡ with_timed now (with_due now.session.timed) → new ≡ with_timed old (with_due (after old.session.timed n))
   due_at now new n g e = search (rules, arith)
 
   has_run : (new : RecordingState) (most n : ℕ) (end : End) → new ≡ stands old n → steps_of ends most ≡ n
@@ -130,8 +110,7 @@ module _ (ends : ℕ → Option End) (old : RecordingState) where
   limit now most g = search (rules, arith, has_run, all_steps)
 
   pub refused : (now new : RecordingState) (most n : ℕ) (end : Option End) (why : NoMemory) → n < most
-      → Going ends old now n → TakesOne end now new (Err why)
-      → IsRefusedIn ends most old.session new.session
+      → Going ends old now n → TakesOne end now new (Err why) → IsRefusedIn ends most old.session new.session
   refused now new most n end why k g t =
       let is = due_at now new n g t.1 in
       let same = due_is old new n is in
@@ -143,8 +122,7 @@ module _ (ends : ℕ → Option End) (old : RecordingState) where
       }
 
 -- after a step
-pub late : (z r b l : Bool) (h : Option ℕ) → z ≡ true
-    → (if is_some h then Some Halted
+pub late : (z r b l : Bool) (h : Option ℕ) → z ≡ true → (if is_some h then Some Halted
     else (if r then Some Reached else (if b then Some Breakpoint else (if l then None else Some Stuck))))
     ≡ (if is_some h then Some Halted
     else (if z && r then Some Reached else (if z && b then Some Breakpoint else (if l then None else Some Stuck))))
@@ -179,8 +157,7 @@ others_at ends old now n g = others_stay old now (after old.session.timed n) g.s
 
 pub others_next : (ends : ℕ → Option End) (old now new : RecordingState) (n : ℕ) (end told : Option End)
     → Going ends old now n → TakesOne end now new (Ok told) → new ≡ record old { session = new.session }
-others_next ends old now new n end told g (inl t) = search (rules, arith, others_stay, one_more)
-others_next ends old now new n end told g (inr t) = search (rules, arith, others_stay)
+others_next ends old now new n end told g t = search (rules, arith, others_stay, one_more)
 
 pub others_due : (ends : ℕ → Option End) (old now new : RecordingState) (n : ℕ) (end : Option End)
     (why : NoMemory) → Going ends old now n → TakesOne end now new (Err why)

@@ -1,23 +1,19 @@
 -- What the calls of a session leave is a recording as well.
-use Rattle.std.proofs.Common.{rules, ◌≡◌, ◌∙◌, ℕ, ◌-◌, ◌*◌, ◌<◌, ◌≤◌, Bool, true, false, List, [], ◌∷◌, refl, sym, ap, arith, inl, inr}
-use Rattle.std.proofs.lemmas.Bool.Decides.{nat_tests}
+use Rattle.std.proofs.Common.{rules, ◌≡◌, ◌∙◌, ℕ, ◌-◌, ◌*◌, ◌<◌, ◌≤◌, Bool, true, List, [], ◌∷◌, sym, ap, arith}
 use Rattle.std.specs.FinSet as set
-use Rattle.std.specs.Prelude.{◌⊎◌, ◌&&◌, nat_le, nat_lt, is_none, if◌then◌else◌, option_and_then, Option, Some, None, Result, Ok, Err, OnOk, OnErr, OnOk}
+use Rattle.std.specs.Prelude.{◌&&◌, nat_le, is_none, Option, Some, None, Result, Ok, Err, OnOk, OnErr, OnOk}
 use Rattle.rv_base.specs.declared.memory.NoMemory.{NoMemory}
 use Rattle.rv_hart.specs.declared.trap.Outcome.{Outcome}
 use Rattle.rv_board.specs.Boot.{board_at_reset}
 use Rattle.rv_board.specs.Move.{run}
 use Rattle.rv_board.specs.Support.State.{BoardState, halted_of}
 use Rattle.rv_timeline.specs.Support.Reading.{HasSteps}
-use Rattle.rv_base.specs.Lines.{lines}
-use Rattle.rv_timeline.specs.Timed.{IsRead, all_of, inserted, never_falls, timed, timed_line}
+use Rattle.rv_timeline.specs.Timed.{IsRead, inserted, never_falls, timed}
 use Rattle.rv_timeline.specs.declared.input.Input.{Input}
 use Rattle.rv_timeline.specs.declared.input.TimedInput.{TimedInput}
 use Rattle.rv_program.specs.Program.{Assembly}
 use Rattle.rv_commands.specs.declared.command.Command.{Command}
-use Rattle.rv_commands.specs.declared.command.Command.TheVariants.{Step, Go, SetBreak, ClearBreak}
 use Rattle.rv_monitor.specs.Commands.{Leaves, LeavesRefused}
-use Rattle.rv_monitor.specs.Support.TimedCalls.{going_for}
 use Rattle.rv_monitor.specs.Events.{events_of}
 use Rattle.rv_monitor.specs.Laws.{IsReached}
 use Rattle.rv_monitor.specs.Resumed.{resumed, resumed_at}
@@ -33,47 +29,22 @@ use Rattle.rv_recording.specs.Support.Recorded.{IsRecorded}
 use Rattle.rv_recording.specs.Support.Kept.{KeptBoard, AreKept, AreWithin}
 use Rattle.rv_recording.proofs.Keeping.{kept_with}
 
-le : (m n : ℕ) → m ≤ n → nat_le m n ≡ true
-le m n h = grind (arith, nat_tests)
-
-both : (a b : Bool) → a ≡ true → b ≡ true → (a && b) ≡ true
-both a b p q = rw (p, q) refl
-
 and_left : (a b : Bool) → (a && b) ≡ true → a ≡ true
-and_left true b h = refl
-and_left false b h = h
-
-and_right : (a b : Bool) → (a && b) ≡ true → b ≡ true
-and_right true b h = h
-and_right false b h = absurd cc
+and_left a b h = search (rules, arith)
 
 none_is : {A : Type 0} (x : Option A) → is_none x ≡ true → x ≡ None
-none_is None h = refl
-none_is (Some a) h = absurd cc
+none_is x h = search (rules, arith)
 
 -- ---- the recording before its first step
 
 -- a recording with the states that it keeps
 abbrev Stands : SessionState → ℕ → ℕ → List KeptBoard → Type 0
-Stands s p q ks =
-    IsRecorded (record { session = s; pages = p; slots = q })
+Stands s p q ks = IsRecorded (record { session = s; pages = p; slots = q })
     × AreKept (board_at_reset s.program.bytes (4096 * p)) s.timed.inputs ks
-
-rises_by : (xs ys : List TimedInput) (rises : Bool) → never_falls xs ≡ rises
-    → (if rises then Some xs else None) ≡ Some ys → never_falls ys ≡ true
-rises_by xs ys true is e = let same : xs ≡ ys = cc in ap never_falls (sym same) ∙ is
-rises_by xs ys false is e = absurd cc
-
--- the inputs of a timed list rise
-read_rises : (all : Option (List TimedInput)) (inputs : List TimedInput)
-    → option_and_then (λ xs. if never_falls xs then Some xs else None) all ≡ Some inputs
-    → never_falls inputs ≡ true
-read_rises None inputs e = absurd cc
-read_rises (Some xs) inputs e = rises_by xs inputs (never_falls xs) refl e
 
 rising : (text : List ℕ) (inputs : List TimedInput) → IsRead text (Ok inputs) → never_falls inputs ≡ true
 unfolding timed
-rising text inputs read = read_rises (all_of timed_line (lines text)) inputs read
+rising text inputs read = search (rules, arith)
 
 pub opened_is : (program : Assembly) (text : List ℕ) (pages slots : ℕ) (s : SessionState)
     → Opens program text pages slots 9999999999 (Ok s) → HasSteps s.timed.inputs
@@ -86,37 +57,15 @@ inputs_kept : (old new : TimedState) (n : ℕ) → new ≡ after old n → new.i
 unfolding after
 inputs_kept old new n e = ap (λ u. u.inputs) e
 
-due_kept : (old new : TimedState) → new ≡ with_due old → new.inputs ≡ old.inputs
-unfolding with_due
-due_kept old new e = ap (λ u. u.inputs) e
-
 refused_kept : (old new : TimedState) (n : ℕ) → new ≡ with_due (after old n) → new.inputs ≡ old.inputs
 unfolding after with_due
 refused_kept old new n e = ap (λ u. u.inputs) e
 
-steps_by : (y : TimedInput) (ys : List TimedInput) (x : TimedInput) (b : Bool) → nat_lt x.step y.step ≡ b
-    → HasSteps (y ∷ ys) → nat_le x.step 9999999999 ≡ true → HasSteps (inserted ys x)
-    → HasSteps (inserted (y ∷ ys) x)
-unfolding inserted
-steps_by y ys x true e h k more = rw e (both (nat_le x.step 9999999999) _ k h)
-steps_by y ys x false e h k more = search (rules, arith, both, and_left)
-
 steps_inserted : (xs : List TimedInput) (x : TimedInput) → HasSteps xs → nat_le x.step 9999999999 ≡ true
     → HasSteps (inserted xs x)
 unfolding inserted
-steps_inserted [] x h k = both (nat_le x.step 9999999999) true k refl
-steps_inserted (y ∷ ys) x h k = search (rules, arith, steps_by, and_right, steps_inserted ys x)
-
-given_kept : (first : BoardState) (t : TimedState) (input : Input) (ks : List KeptBoard)
-    → never_falls t.inputs ≡ true → AreWithin t.taken ks → AreKept first t.inputs ks
-    → AreKept first (given t input).inputs ks
-unfolding with_due
-given_kept first t input ks rising within h = kept_with first t.inputs t.taken input ks rising within h
-
-given_steps : (t : TimedState) (input : Input) → HasSteps t.inputs → t.taken ≤ 9999999999
-    → HasSteps (given t input).inputs
-unfolding with_due
-given_steps t input h k = search (rules, arith, steps_inserted, le)
+steps_inserted [] x h k = search (rules, arith)
+steps_inserted (y ∷ ys) x h k = search (rules, arith, and_left, steps_inserted ys x)
 
 module _ (s new : SessionState) (p q : ℕ) (ks : List KeptBoard) (h : Stands s p q ks) where
   abbrev first : BoardState
@@ -159,54 +108,32 @@ module _ (s new : SessionState) (p q : ℕ) (ks : List KeptBoard) (h : Stands s 
 
   pub called : (a : Addresses) (n : ℕ) (r : Result Stop NoMemory) → OnOk r (Took a n s new)
       → OnErr r (WasRefused a n s new) → Stands new p q ks
-  called a n (Ok stop) ok err = took a n ok
-  called a n (Err refusal) ok err = was_refused a n err
+  called a n r ok err = search (rules, arith, took, was_refused)
 
   pub one_step : (r : Result (Option Outcome) NoMemory) → TakesStep s new r → Stands new p q ks
+  unfolding with_due
   one_step (Ok (Some outcome)) t =
       let timed = ap (λ u. u.timed) t.1 in
       let running = none_is (halted_of s.timed.board) (and_left _ _ t.0) in
       timed_stands (timed_alone _ t.1)
       (step_stands first s.timed new.timed h.0.reached running timed) (inputs_kept s.timed new.timed 1 timed)
   one_step (Ok None) t = unchanged t.1
-  one_step (Err refusal) t =
-      let timed = ap (λ u. u.timed) t.1 in
-      timed_stands (timed_alone _ t.1)
-      (due_is_reached first s.timed new.timed h.0.reached timed) (due_kept s.timed new.timed timed)
+  one_step (Err refusal) t = search (rules, arith, timed_stands, timed_alone, due_is_reached)
 
   -- ---- commands
 
-  pub left : (c : Option Command) → Leaves c s new → Stands new p q ks
-  left None e = unchanged e
-  left (Some (Step n)) t = took set.empty n t
-  left (Some (Go n)) t = took s.breakpoints.addresses (going_for s n) t
-  left (Some (SetBreak addr)) e = search (rules, arith, same_timed)
-  left (Some (ClearBreak addr)) e = search (rules, arith, same_timed)
-  left c e = unchanged e
-
-  step_refused : (a : Addresses) (n : ℕ) → (new ≡ s) ⊎ WasRefused a n s new → Stands new p q ks
-  step_refused a n (inl e) = unchanged e
-  step_refused a n (inr w) = was_refused a n w
-
   pub left_refused : (c : Option Command) → LeavesRefused c s new → Stands new p q ks
-  left_refused None e = unchanged e
-  left_refused (Some (Step n)) f = step_refused set.empty n f
-  left_refused (Some (Go n)) f = step_refused s.breakpoints.addresses (going_for s n) f
-  left_refused (Some (SetBreak addr)) e = unchanged e
-  left_refused (Some (ClearBreak addr)) e = unchanged e
-  left_refused c e = unchanged e
+  left_refused c e = search (rules, arith, unchanged, was_refused)
 
   pub commanded : {A : Type 0} (c : Option Command) (r : Result A NoMemory) → OnOk r (Leaves c s new)
       → OnErr r (LeavesRefused c s new) → Stands new p q ks
-  commanded c (Ok a) ok err = left c ok
-  commanded c (Err refusal) ok err = left_refused c err
+  commanded c r ok err = search (rules, arith, unchanged, took, same_timed, left_refused)
 
   -- ---- breakpoints
 
   pub broken : (r : Result Unit NoMemory) (addr : ℕ) → OnOk r (new ≡ with_break s addr) → OnErr r (new ≡ s)
       → Stands new p q ks
-  broken (Ok u) addr e err = same_timed (ap (λ u. u.program) e) (ap (λ u. u.limit) e) (ap (λ u. u.timed) e)
-  broken (Err refusal) addr ok e = unchanged e
+  broken r addr e err = search (rules, arith, same_timed, unchanged)
 
   pub cleared : (addr : ℕ) → new ≡ without_break s addr → Stands new p q ks
   cleared addr e = same_timed (ap (λ u. u.program) e) (ap (λ u. u.limit) e) (ap (λ u. u.timed) e)
@@ -215,8 +142,8 @@ module _ (s new : SessionState) (p q : ℕ) (ks : List KeptBoard) (h : Stands s 
 
   pub gave : (r : Result Unit NoMemory) (input : Input) → s.timed.taken ≤ s.limit → AreWithin s.timed.taken ks
       → OnOk r (new ≡ record s { timed = given s.timed input }) → OnErr r (new ≡ s) → Stands new p q ks
-  gave (Ok u) input most within e err = search (rules, arith, stands, given_stands, given_steps, given_kept)
-  gave (Err refusal) input most within ok e = unchanged e
+  unfolding with_due
+  gave r input most within e err = search (rules, arith, stands, given_stands, steps_inserted, kept_with, rising, unchanged)
 
   -- ---- going back
 
@@ -224,8 +151,7 @@ module _ (s new : SessionState) (p q : ℕ) (ks : List KeptBoard) (h : Stands s 
       (before : k ≤ n) (below : n ≤ s.timed.taken) (within : s.timed.taken ≤ s.limit) where
     module _ (t : Took set.empty (n - k) (resumed_at s board k) new) where
       back_is : new.timed ≡ after (begun first s.timed.inputs) n
-      back_is =
-          resumed_back first s.timed h.0.reached board k n new.timed run_is before below t.count
+      back_is = resumed_back first s.timed h.0.reached board k n new.timed run_is before below t.count
           (omega (arith, t.within)) (λ l. t.least (omega (arith, l))) (ap (λ u. u.timed) t.state)
 
       goes : (j : ℕ) → j < n → halted_of (after (begun first s.timed.inputs) j).board ≡ None
@@ -235,9 +161,7 @@ module _ (s new : SessionState) (p q : ℕ) (ks : List KeptBoard) (h : Stands s 
       alone = timed_alone (after (resumed board s.timed.inputs k) t.count) t.state
 
       pub back_stands : Stands new p q ks
-      back_stands =
-          timed_stands alone
-          (reached_steps first s.timed.inputs n new.timed h.0.reached.rising back_is goes)
+      back_stands = timed_stands alone (reached_steps first s.timed.inputs n new.timed h.0.reached.rising back_is goes)
           (inputs_kept (begun first s.timed.inputs) new.timed n back_is)
 
       pub went_back : after_call ≡ gone_back (record { session = s; pages = p; slots = q }) n
@@ -245,5 +169,4 @@ module _ (s new : SessionState) (p q : ℕ) (ks : List KeptBoard) (h : Stands s 
 
     pub back_any : (r : Result Stop NoMemory) → OnOk r (Took set.empty (n - k) (resumed_at s board k) new)
         → OnErr r (new ≡ s) → Stands new p q ks
-    back_any (Ok stop) ok err = back_stands ok
-    back_any (Err refusal) ok err = unchanged err
+    back_any r ok err = search (rules, arith, back_stands, unchanged)

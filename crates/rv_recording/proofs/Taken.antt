@@ -1,6 +1,6 @@
 -- Calls of a session are runs.
-use Rattle.std.proofs.Common.{rules, ◌≡◌, ℕ, ◌+◌, ◌<◌, ◌≤◌, Bool, true, false, refl, ap, subst, arith, ⊎_elim}
-use Rattle.std.specs.Prelude.{◌&&◌, nat_lt, if◌then◌else◌, is_some, unwrap_or, Option, Some, None, Result, Ok, Err, OnErr}
+use Rattle.std.proofs.Common.{rules, ◌≡◌, ℕ, ◌+◌, ◌<◌, Bool, true, false, refl, ap, subst, arith, ⊎_elim}
+use Rattle.std.specs.Prelude.{nat_lt, if◌then◌else◌, is_some, Option, Some, None, Result, OnErr}
 use Rattle.rv_base.specs.declared.memory.NoMemory.{NoMemory}
 use Rattle.std.proofs.lemmas.Bool.{cases_lt, false≢true}
 use Rattle.rv_monitor.specs.State.{Addresses, SessionState, TimedState, after, with_due}
@@ -11,7 +11,7 @@ use Rattle.rv_recording.specs.Until.{HasRun, end_at, steps_of}
 use Rattle.rv_recording.specs.Refused.{IsRefusedIn, NoneEnds}
 use Rattle.rv_recording.specs.Support.Steps.{end_by}
 use Rattle.rv_recording.specs.declared.until.End.{End}
-use Rattle.rv_recording.specs.declared.until.End.TheVariants.{Halted, Reached, Breakpoint, Limit, Stuck}
+use Rattle.rv_recording.specs.declared.until.End.TheVariants.{Halted, Reached, Breakpoint, Stuck}
 use Rattle.rv_recording.proofs.Counting.{all_steps, over_at, takes_more}
 
 abbrev stop_is : Option ℕ → Bool → Option Stop
@@ -20,35 +20,6 @@ stop_is h b = if is_some h then Some stopped.Halted else (if b then Some stopped
 abbrev end_is : Option ℕ → Bool → Bool → Bool → Option End
 end_is h r b l = if is_some h then Some Halted
     else (if r then Some Reached else (if b then Some Breakpoint else (if l then None else Some Stuck)))
-
-none_by : (h : Option ℕ) (z b l : Bool) → stop_is h b ≡ None → l ≡ true → end_is h (z && false) b l ≡ None
-none_by (Some code) z b l e may = absurd cc
-none_by None z true l e may = absurd cc
-none_by None true false l e may = rw may refl
-none_by None false false l e may = rw may refl
-
-stops_by : (h : Option ℕ) (z b l : Bool) → is_some (stop_is h b) ≡ true → is_some (end_is h (z && false) b l) ≡ true
-stops_by (Some code) z b l e = refl
-stops_by None true true l e = refl
-stops_by None false true l e = refl
-stops_by None z false l e = absurd (false≢true e)
-
-full_by : (h : Option ℕ) (z b l : Bool) → l ≡ false → is_some (end_is h (z && false) b l) ≡ true
-full_by (Some code) z b l e = refl
-full_by None true true l e = refl
-full_by None true false l e = rw e refl
-full_by None false true l e = refl
-full_by None false false l e = rw e refl
-
-told_by : (h : Option ℕ) (z b l : Bool)
-    → end_by (unwrap_or (stop_is h b) stopped.Limit) l ≡ unwrap_or (end_is h (z && false) b l) Limit
-told_by (Some code) z b l = refl
-told_by None true true l = refl
-told_by None false true l = refl
-told_by None true false true = refl
-told_by None true false false = refl
-told_by None false false true = refl
-told_by None false false false = refl
 
 module _ (a : Addresses) (n : ℕ) (s t : SessionState) where
   abbrev ends : ℕ → Option End
@@ -60,19 +31,7 @@ module _ (a : Addresses) (n : ℕ) (s t : SessionState) where
 
   none_at : (i : ℕ) → s.timed.taken + i < s.limit → stop_after a (after s.timed i).board i ≡ None → ends i ≡ None
   unfolding stop_after
-  none_at i room e = search (rules, arith, taken, none_by)
-
-  over_at_stop : (i : ℕ) → is_some (stop_after a (after s.timed i).board i) ≡ true → is_some (ends i) ≡ true
-  unfolding stop_after
-  over_at_stop i e = search (rules, arith, stops_by)
-
-  over_when_full : (i : ℕ) → s.limit ≤ s.timed.taken + i → is_some (ends i) ≡ true
-  over_when_full i full = search (rules, arith, taken, full_by)
-
-  told : (i : ℕ) → end_by (unwrap_or (stop_after a (after s.timed i).board i) stopped.Limit)
-      (nat_lt (after s.timed i).taken s.limit) ≡ unwrap_or (ends i) Limit
-  unfolding stop_after
-  told i = search (rules, arith, told_by)
+  none_at i room e = search (rules, arith, taken)
 
   due_between : (k : ℕ) → t.timed ≡ with_due (after s.timed k) → k ≡ steps_between s.timed t.timed
   unfolding after with_due
@@ -83,39 +42,30 @@ module _ (a : Addresses) (n : ℕ) (s t : SessionState) where
     going i l = none_at i (omega (arith, l, r.within)) (r.going i l)
 
     last_over : r.count < n → is_some (ends r.count) ≡ true
-    last_over l = search (rules, arith, over_at_stop, over_when_full, cases_lt)
+    unfolding stop_after
+    last_over l = search (rules, arith, false≢true, taken, cases_lt)
 
     steps_are : steps_of ends n ≡ r.count
-    steps_are = ⊎_elim
-        (λ less. over_at ends r.count n (omega (arith, less)) going (last_over less))
+    steps_are = ⊎_elim (λ less. over_at ends r.count n (omega (arith, less)) going (last_over less))
         (λ all.
         let same : r.count ≡ n = omega (arith, all, r.within) in
-        subst (λ (m : ℕ). steps_of ends m ≡ r.count) same (all_steps ends r.count going))
-        (cases_lt r.count n)
-
-    between : steps_between s.timed t.timed ≡ r.count
-    between = search (rules, arith, taken)
-
-    end_told : (stop : Stop) → stop ≡ stop_of a s t
-        → end_by stop (nat_lt t.timed.taken t.limit) ≡ unwrap_or (ends r.count) Limit
-    end_told stop e = search (rules, arith, between, told)
+        subst (λ (m : ℕ). steps_of ends m ≡ r.count) same (all_steps ends r.count going)) (cases_lt r.count n)
 
     pub took_ran : (stop : Stop) (end : End) → stop ≡ stop_of a s t → end ≡ end_by stop (nat_lt t.timed.taken t.limit)
         → HasRun ends n s t end
-    took_ran stop end e is = search (rules, arith, steps_are, end_told)
+    unfolding stop_after
+    took_ran stop end e is = search (rules, arith, steps_are, taken)
 
   refused_ran : WasRefused a n s t → IsRefusedIn ends n s t
   refused_ran w =
       let now = ap (λ (u : SessionState). u.timed) w.state in
       let same : w.count ≡ steps_between s.timed t.timed = due_between w.count now in
       record {
-        within = subst (λ (m : ℕ). m < steps_of ends n) same
-            (takes_more ends w.count n (omega (arith, w.within))
+        within = subst (λ (m : ℕ). m < steps_of ends n) same (takes_more ends w.count n (omega (arith, w.within))
             (λ i l. none_at i (omega (arith, l, w.within)) (w.going i (omega (arith, l)))));
         state = subst (λ (m : ℕ). t ≡ record s { timed = with_due (after s.timed m) }) same w.state;
         next_writes = w.next_writes;
       }
 
   pub not_run : {A : Type 0} (r : Result A NoMemory) → WasRefused a n s t → OnErr r (IsRefusedIn ends n s t)
-  not_run (Ok x) w = tt
-  not_run (Err why) w = refused_ran w
+  not_run r w = search (rules, arith, refused_ran)

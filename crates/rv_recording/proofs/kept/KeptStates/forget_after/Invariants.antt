@@ -6,8 +6,7 @@ use Rattle.rv_recording.specs.Support.Kept.{AreKept}
 use Rattle.rv_recording.proofs.kept.KeptStates.forget_after.Given as goal
 
 abbrev pub invariant-loop-self : goal.invariant-loop-self
-invariant-loop-self l =
-    (first : BoardState) (inputs : List TimedInput) → AreKept first inputs l.fn.self
+invariant-loop-self l = (first : BoardState) (inputs : List TimedInput) → AreKept first inputs l.fn.self
     → AreKept first inputs l.self-inside.states.items
 
 abbrev pub decreases-loop-self : goal.decreases-loop-self

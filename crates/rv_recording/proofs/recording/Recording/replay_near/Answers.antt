@@ -10,5 +10,4 @@ returns-in-Ok-clause-timed c =
     stands_near c.args.self.now c.in_ok-run.run' c.resume.new.self c.in_ok-board.board c.in_ok-board.before
     c.session.ensures.reached c.in_ok-run.ensures.inputs c.in_ok-board.ensures.run
     (omega (arith, c.in_ok-board.ensures.within, c.min.ensures, taken))
-    (omega (arith, c.in_ok-board.ensures.within, c.min.ensures, taken, c.in_ok-run.ensures.limit))
-    c.in-Ok.ensures.took
+    (omega (arith, c.in_ok-board.ensures.within, c.min.ensures, taken, c.in_ok-run.ensures.limit)) c.in-Ok.ensures.took

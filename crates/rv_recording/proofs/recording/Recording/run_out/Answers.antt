@@ -9,24 +9,20 @@ pub returns-in-Some-clause-ok : goal.returns-in-Some-clause-ok
 returns-in-Some-clause-ok c =
     let in_time = subst (λ (s : SessionState). IsInTime s.timed) c.session.ensures.value c.board-board.ensures.in_time in
     over_before (out_ends c.args.calls.now c.args.line c.args.self.now.session) c.args.self.now c.args.most c.end_before.result
-    c.in-Some.end in_time
-    (first_of (search rules, cc) ∙ before_is (λ i. is_out c.args.line
+    c.in-Some.end in_time (first_of (search rules, cc) ∙ before_is (λ i. is_out c.args.line
     (open_at c.args.calls.now c.args.self.now.session.timed i) (after c.args.self.now.session.timed i).board)
-    c.args.self.now.session.breakpoints.addresses c.args.self.now.session in_time)
-    (first_of (search rules, cc))
+    c.args.self.now.session.breakpoints.addresses c.args.self.now.session in_time) (first_of (search rules, cc))
 
 pub returns-in-Some-clause-calls : goal.returns-in-Some-clause-calls
 returns-in-Some-clause-calls c = open_before c.args.calls.now c.args.line c.args.self.now
 
 pub loop-done-init : goal.loop-done-init
-loop-done-init c =
-    begins_out c.args.calls.now c.args.line c.args.self.now c.end_before.result
+loop-done-init c = begins_out c.args.calls.now c.args.line c.args.self.now c.end_before.result
     (subst (λ (s : SessionState). IsInTime s.timed) c.session.ensures.value c.board-board.ensures.in_time)
     (first_of (search rules, cc)) (first_of (search rules, cc))
 
 pub loop-done-preserved : goal.loop-done-preserved
-loop-done-preserved c =
-    goes_out _ _ _ _ _ _ _ _ c.loop-done.invariant
+loop-done-preserved c = goes_out _ _ _ _ _ _ _ _ c.loop-done.invariant
     (rw c.in-Ok-None.field-0-is at c.in-Ok-None.ensures)
 
 pub returns-in-Ok-Some-clause-ok : goal.returns-in-Ok-Some-clause-ok
@@ -35,16 +31,14 @@ returns-in-Ok-Some-clause-ok c =
     (rw c.in-Ok-Some.field-0-is at c.in-Ok-Some.ensures)
 
 pub returns-in-Ok-Some-clause-calls : goal.returns-in-Ok-Some-clause-calls
-returns-in-Ok-Some-clause-calls c =
-    open_ended _ _ _ _ _ _ _ _ _ c.loop-done.invariant c.in-Ok-Some.ensures
+returns-in-Ok-Some-clause-calls c = open_ended _ _ _ _ _ _ _ _ _ c.loop-done.invariant c.in-Ok-Some.ensures
 
 pub returns-in-Err-clause-err : goal.returns-in-Err-clause-err
 returns-in-Err-clause-err c =
     refused_out _ _ _ _ _ _ _ c.args.most _ _ (omega arith) c.loop-done.invariant c.in-Err.ensures
 
 pub returns-in-Err-clause-calls : goal.returns-in-Err-clause-calls
-returns-in-Err-clause-calls c =
-    open_refused _ _ _ _ _ _ _ _ _ c.loop-done.invariant c.in-Err.ensures
+returns-in-Err-clause-calls c = open_refused _ _ _ _ _ _ _ _ _ c.loop-done.invariant c.in-Err.ensures
 
 pub returns-clause-ok : goal.returns-clause-ok
 returns-clause-ok c =

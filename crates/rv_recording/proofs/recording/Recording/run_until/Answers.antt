@@ -21,8 +21,7 @@ loop-done-init c =
     (first_of (search rules, cc))
 
 pub loop-done-preserved : goal.loop-done-preserved
-loop-done-preserved c =
-    goes_on (until_ends c.args.condition c.args.self.now.session)
+loop-done-preserved c = goes_on (until_ends c.args.condition c.args.self.now.session)
     c.args.self.now _ c.loop-done.self c.step_until.new.self c.loop-done.done
     (end_is c.args.condition c.args.self.now c.loop-done.self c.loop-done.done c.loop-done.invariant)
     c.loop-done.invariant (rw c.in-Ok-None.field-0-is at c.in-Ok-None.ensures)
