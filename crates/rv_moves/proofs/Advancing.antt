@@ -1,16 +1,15 @@
 -- Runs, step by step.
-use Rattle.std.proofs.Common.{rules, ◌≡◌, ◌∙◌, ℕ, suc, ◌+◌, ◌<◌, ◌==◌, Bool, true, false, refl, sym, ap, arith, inl}
+use Rattle.std.proofs.Common.{rules, ◌≡◌, ◌∙◌, ℕ, suc, ◌+◌, ◌<◌, ◌==◌, Bool, true, false, sym, ap, arith, inl}
 use Rattle.std.proofs.Math.Numerals.{add-one}
-use Rattle.std.specs.Prelude.{◌&&◌, ◌||◌, if◌then◌else◌, is_none, is_some, nat_lt, List, Option, Some, None}
-use Rattle.std.specs.FinSet as set
+use Rattle.std.specs.Prelude.{◌||◌, if◌then◌else◌, is_some, List, Option, Some, None}
 use Rattle.rv_hart.specs.declared.trap.Outcome.{Outcome}
 use Rattle.rv_hart.specs.Step.{step}
-use Rattle.rv_monitor.specs.State.{IsInTime, SessionState, TimedState, after, with_due}
+use Rattle.rv_monitor.specs.State.{IsInTime, TimedState, after, with_due}
 use Rattle.rv_monitor.specs.Stops.{may_step, steps_between}
 use Rattle.rv_monitor.proofs.Steps.{after_none}
 use Rattle.rv_recording.specs.Out.{open_at, out_ends}
 use Rattle.rv_recording.specs.Recording.{RecordingState, with_timed}
-use Rattle.rv_recording.specs.Until.{HasRun, steps_of}
+use Rattle.rv_recording.specs.Until.{HasRun}
 use Rattle.rv_recording.specs.Support.Steps.{end_after, next_of}
 use Rattle.rv_recording.specs.declared.until.End.{End}
 use Rattle.rv_recording.specs.declared.until.End.TheVariants.{Limit}
@@ -24,45 +23,24 @@ use Rattle.rv_moves.specs.declared.watch.Watch.{Watch}
 
 -- ---- one step
 
-running_by : (h : Option ℕ) (l : Bool) → (is_none h && l) ≡ true → (h ≡ None) × (l ≡ true)
-running_by None true e = (refl, refl)
-running_by None false e = absurd cc
-running_by (Some code) l e = absurd cc
-
-may_by : (h : Option ℕ) (l : Bool) → is_none h ≡ true → l ≡ true → (is_none h && l) ≡ true
-may_by None l e f = f
-may_by (Some code) l e f = absurd cc
-
 -- the number of open calls after a step: outside of handlers, by what it did
 pub opened : (b : Bool) (calls : ℕ) (s : TimedState) (did : Outcome) → calls ≡ 0
     → did ≡ (step (with_due s).board.machine).1 → is_interrupt did ≡ b → (if b then 1 else 0) ≡ step_open calls s
 unfolding step_open
-opened b calls s did none is e =
-    sym (ap (λ (c : ℕ). step_open c s) none
-    ∙ (ap (λ (o : Outcome). if is_interrupt o then 1 else 0) (sym is) ∙ ap (λ (b : Bool). if b then 1 else 0) e))
+opened b calls s did none is e = search (rules, arith)
 
 -- and inside
 pub opened_inside : (calls left : ℕ) (old new : RecordingState) → (calls == 0) ≡ false
     → left ≡ open_at calls old.session.timed (steps_between old.session.timed new.session.timed)
     → new ≡ with_timed old (after old.session.timed 1) → left ≡ step_open calls old.session.timed
 unfolding step_open
-opened_inside calls left old new some is state =
-    is ∙ (ap (open_at calls old.session.timed) (sym (taken_is old new 1 state)) ∙ rw some refl)
+opened_inside calls left old new some is state = search (rules, arith, taken_is)
 
 -- a run out of calls of at most one step takes one
 pub one_out : (calls : ℕ) (old new : RecordingState) (end : End) → IsInTime old.session.timed
     → may_step old.session ≡ true → HasRun (out_ends calls None old.session) 1 old.session new.session end
     → new ≡ record old { session = new.session } → new ≡ with_timed old (after old.session.timed 1)
-one_out calls old new end in_time may ran others =
-    let runs = running_by _ _ may in
-    let first : after old.session.timed 0 ≡ old.session.timed = after_none old.session.timed in_time in
-    let none : out_ends calls None old.session 0 ≡ None =
-    goes _ _ _ _ (ap (λ (t : TimedState). t.board.machine.bus.halt) first ∙ runs.0) refl refl
-    (ap (λ (t : TimedState). nat_lt t.taken old.session.limit) first ∙ runs.1) in
-    let one : steps_of (out_ends calls None old.session) 1 ≡ 1 =
-    all_steps (out_ends calls None old.session) 1 (first_none (out_ends calls None old.session) none) in
-    others ∙ ap (λ (s : SessionState). record old { session = s })
-    (ran.state ∙ ap (λ (n : ℕ). record old.session { timed = after old.session.timed n }) one)
+one_out calls old new end in_time may ran others = search (rules, arith, after_none, goes, limit, all_steps, first_none)
 
 -- ---- steps
 
@@ -77,33 +55,16 @@ module _ (ws : List Watch) (aim : Aim) (first : ℕ) (old : RecordingState) wher
 
   pub before_is : IsInTime old.session.timed → end_here ws aim first false old.session ≡ ends 0
   unfolding open_in
-  before_is in_time =
-      sym (ap (λ (t : TimedState). end_here ws aim first false (record old.session { timed = t }))
-      (after_none old.session.timed in_time))
+  before_is in_time = search (rules, arith, after_none)
 
   pub begins : IsInTime old.session.timed → end_here ws aim first false old.session ≡ None
       → Advanced ws aim first old old first 0
   unfolding open_in
-  begins in_time e =
-      let none : ends 0 ≡ None = sym (before_is in_time) ∙ e in
-      let runs = going old.session.timed.board.machine.bus.halt
-      (is_some (met ws old.session.timed.board) || (false && reached aim first old.session.timed.board))
-      (false && set.contains old.session.breakpoints.addresses old.session.timed.board.machine.pc)
-      (nat_lt old.session.timed.taken old.session.limit) e in
-      record {
-        going = record {
-          in_time = in_time;
-          state = ap (λ (t : TimedState). with_timed old t) (sym (after_none old.session.timed in_time));
-          going = first_none ends none;
-          may = may_by _ _ runs.running runs.may;
-        };
-        number = refl;
-      }
+  begins in_time e = search (rules, arith, before_is, going, limit, after_none, first_none)
 
   pub over : (most : ℕ) (end : End) → IsInTime old.session.timed
       → end_here ws aim first false old.session ≡ Some end → HasRun ends most old.session old.session end
-  over most end in_time e =
-      over_before ends old most (end_here ws aim first false old.session) end in_time (before_is in_time) e
+  over most end in_time e = search (rules, arith, over_before, before_is)
 
   -- a step more
   module _ (now new : RecordingState) (calls left n : ℕ) (at : Advanced ws aim first old now calls n)
@@ -111,9 +72,7 @@ module _ (ws : List Watch) (aim : Aim) (first : ℕ) (old : RecordingState) wher
       (count : left ≡ step_open calls now.session.timed) where
     pub number_suc : left ≡ open_in first old.session.timed (suc n)
     unfolding open_in
-    number_suc =
-        count ∙ (ap (λ (t : TimedState). step_open calls t) (ap (λ (r : RecordingState). r.session.timed) at.going.state)
-        ∙ ap (λ (c : ℕ). step_open c (after old.session.timed n)) at.number)
+    number_suc = search (rules, arith, going)
 
     stands_suc : new ≡ with_timed old (after old.session.timed (suc n))
     stands_suc = one_more ends old now new n at.going state
@@ -124,15 +83,8 @@ module _ (ws : List Watch) (aim : Aim) (first : ℕ) (old : RecordingState) wher
     abbrev then_is : Option End
     then_is = end_after is_reached (next_of now.session)
 
-    same_next : next_of now.session ≡ record old.session { timed = after old.session.timed (suc n) }
-    same_next = ap (λ (r : RecordingState). r.session) (sym state ∙ stands_suc)
-
     end_is : then_is ≡ ends (suc n)
-    end_is =
-        ap (λ (s : SessionState). end_here ws aim left true s) same_next
-        ∙ (ap (λ (c : ℕ). end_here ws aim c true (record old.session { timed = after old.session.timed (suc n) })) number_suc
-        ∙ ap (λ (z : Bool). end_here ws aim (open_in first old.session.timed (suc n)) z
-        (record old.session { timed = after old.session.timed (suc n) })) (sym (above n)))
+    end_is = search (rules, arith, stands_suc, number_suc, above)
 
     told : (o : Option End) → o ≡ end_here ws aim left true new.session → o ≡ then_is
     told o e = e ∙ ap (λ (r : RecordingState). end_here ws aim left true r.session) state
@@ -157,8 +109,7 @@ module _ (ws : List Watch) (aim : Aim) (first : ℕ) (old : RecordingState) wher
 
   pub number_limit : (now : RecordingState) (calls n : ℕ) → Advanced ws aim first old now calls n
       → calls ≡ open_in first old.session.timed (steps_between old.session.timed now.session.timed)
-  number_limit now calls n at =
-      at.number ∙ ap (open_in first old.session.timed) (taken_is old now n at.going.state)
+  number_limit now calls n at = search (rules, arith, taken_is, going)
 
   pub number_before : first ≡ open_in first old.session.timed (steps_between old.session.timed old.session.timed)
   unfolding open_in

@@ -10,8 +10,7 @@ use Rattle.rv_recording.specs.declared.until.End.TheVariants.{Halted, Reached, B
 
 -- the first reason that holds
 abbrev pub end_by : Option ℕ → (m b l : Bool) → Option End
-end_by h m b l =
-    if is_some h then Some Halted
+end_by h m b l = if is_some h then Some Halted
     else (if m then Some Reached else (if b then Some Breakpoint else (if l then None else Some Stuck)))
 
 -- where a run goes on
@@ -22,18 +21,13 @@ pub record GoesOn (h : Option ℕ) (m b l : Bool) : Type 0 where
   pub may : l ≡ true
 
 pub going : (h : Option ℕ) (m b l : Bool) → end_by h m b l ≡ None → GoesOn h m b l
-going (Some code) m b l e = absurd cc
-going None true b l e = absurd cc
-going None false true l e = absurd cc
-going None false false false e = absurd cc
-going None false false true e = record { running = refl; unmet = refl; unbroken = refl; may = refl }
+going h m b l e = search (rules, arith)
 
 pub goes : (h : Option ℕ) (m b l : Bool) → h ≡ None → m ≡ false → b ≡ false → l ≡ true → end_by h m b l ≡ None
 goes h m b l e f g k = rw (e, f, g, k) refl
 
 pub left_of : (m r : Bool) → (m || r) ≡ false → m ≡ false
-left_of false r e = refl
-left_of true r e = absurd cc
+left_of m r e = search (rules, arith)
 
 pub above : (n : ℕ) → nat_lt 0 (suc n) ≡ true
 above n = grind (arith, nat_tests)
@@ -42,15 +36,8 @@ module _ (ends : ℕ → Option End) where
   pub first_none : ends 0 ≡ None → NoneEnds ends 1
   first_none e i l = let same : i ≡ 0 = omega (arith, l) in ap ends same ∙ e
 
-  more_none : (n : ℕ) → NoneEnds ends n → ends n ≡ None → NoneEnds ends (suc n)
-  more_none n g e i l = search (rules, arith, cases_lt)
-
-  by_last : (o : Option End) (n : ℕ) → ends n ≡ o → NoneEnds ends n → NoneEnds ends (if is_some o then n else suc n)
-  by_last None n e g = more_none n g e
-  by_last (Some end) n e g = g
-
   -- a run isn't over before its last step
   pub none_before : (most : ℕ) → NoneEnds ends (steps_of ends most)
   unfolding steps_of
   none_before zero = λ i l. absurd (omega (arith, l))
-  none_before (suc most) = by_last (ends (steps_of ends most)) (steps_of ends most) refl (none_before most)
+  none_before (suc most) = search (rules, arith, cases_lt, none_before most)

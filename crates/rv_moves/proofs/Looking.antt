@@ -1,14 +1,13 @@
 -- The search for the last stop.
-use Rattle.std.proofs.Common.{◌≡◌, ◌∙◌, ℕ, zero, suc, ◌+◌, ◌-◌, ◌<◌, ◌≤◌, Bool, true, false, add-one, refl, sym, ap, subst, arith}
-use Rattle.std.specs.Prelude.{◌&&◌, ◌||◌, if◌then◌else◌, is_some, nat_lt, min, List, Option, Some, None, IfSome, Ok}
+use Rattle.std.proofs.Common.{◌≡◌, ◌∙◌, ℕ, zero, suc, ◌+◌, ◌-◌, ◌<◌, ◌≤◌, Bool, true, false, add-one, refl, sym, ap, subst, arith, rules}
+use Rattle.std.specs.Prelude.{◌&&◌, if◌then◌else◌, is_some, min, List, Option, Some, None, IfSome, Ok}
 use Rattle.std.specs.FinSet as set
 use Rattle.std.proofs.lemmas.Bool.{false≢true}
-use Rattle.std.proofs.lemmas.Bool.Decides.{nat_tests}
 use Rattle.rv_board.specs.Support.State.{halted_of}
 use Rattle.rv_monitor.specs.Laws.{IsReached}
-use Rattle.rv_monitor.specs.State.{Addresses, IsInTime, SessionState, TimedState, after}
+use Rattle.rv_monitor.specs.State.{Addresses, SessionState, TimedState, after}
 use Rattle.rv_hart.specs.declared.trap.Outcome.{Outcome}
-use Rattle.rv_monitor.specs.Stops.{TakesStep, may_step}
+use Rattle.rv_monitor.specs.Stops.{TakesStep}
 use Rattle.rv_monitor.proofs.Reached.{begun_stands, in_time}
 use Rattle.rv_monitor.proofs.Steps.{after_more}
 use Rattle.rv_recording.specs.Recording.{RecordingState, first_board, gone_back, with_timed}
@@ -44,14 +43,10 @@ same_back r now n e = subst (λ (q : RecordingState). Same r q) (sym e) (record 
 
 module _ (old now : RecordingState) (s : Same old now) where
   pub back_same : (n : ℕ) → gone_back now n ≡ gone_back old n
-  back_same n =
-      ap (λ (r : RecordingState). gone_back r n) s.state
-      ∙ ap (λ xs. with_timed old (after (record { board = first_board old; inputs = xs; place = 0; taken = 0 }) n)) s.inputs
+  back_same n = search (rules, arith)
 
   pub first_same : first_state now ≡ first_state old
-  first_same =
-      ap first_state s.state
-      ∙ ap (λ xs. record { board = first_board old; inputs = xs; place = 0; taken = 0 }) s.inputs
+  first_same = search (rules, arith)
 
   pub breaks_same : now.session.breakpoints.addresses ≡ old.session.breakpoints.addresses
   breaks_same = ap (λ (r : RecordingState). r.session.breakpoints.addresses) s.state
@@ -73,8 +68,7 @@ module _ (ws : List Watch) (br : Addresses) (s : TimedState) where
   breaks n = set.contains br (after s n).board.machine.pc
 
   abbrev by_step : (m b : Bool) (n : ℕ) (o : Option Back) → Option Back
-  by_step m b n o =
-      if m then Some (record { steps = suc n; watch = met ws (after s n).board })
+  by_step m b n o = if m then Some (record { steps = suc n; watch = met ws (after s n).board })
       else (if b then Some (record { steps = n; watch = None }) else o)
 
   last_suc : (n : ℕ) → last_stop ws br s (suc n) ≡ by_step (meets n) (breaks n) n (last_stop ws br s n)
@@ -86,8 +80,7 @@ module _ (ws : List Watch) (br : Addresses) (s : TimedState) where
   met_step n w e = last_suc n ∙ rw e refl
 
   -- the first of some steps stands at a breakpoint or not, and the others don't
-  quiet : (n k : ℕ) → meets n ≡ false
-      → ((i : ℕ) → i < k → (meets (n + suc i) ≡ false) × (breaks (n + suc i) ≡ false))
+  quiet : (n k : ℕ) → meets n ≡ false → ((i : ℕ) → i < k → (meets (n + suc i) ≡ false) × (breaks (n + suc i) ≡ false))
       → last_stop ws br s (n + suc k) ≡ by_step false (breaks n) n (last_stop ws br s n)
   quiet n zero unmet none =
       let one : n + suc zero ≡ suc n = omega arith in
@@ -95,8 +88,7 @@ module _ (ws : List Watch) (br : Addresses) (s : TimedState) where
   quiet n (suc k) unmet none =
       let one : n + suc (suc k) ≡ suc (n + suc k) = omega arith in
       let last = none k (omega arith) in
-      ap (last_stop ws br s) one
-      ∙ (last_suc (n + suc k)
+      ap (last_stop ws br s) one ∙ (last_suc (n + suc k)
       ∙ (ap (λ (m : Bool). by_step m (breaks (n + suc k)) (n + suc k) (last_stop ws br s (n + suc k))) last.0
       ∙ (ap (λ (b : Bool). by_step false b (n + suc k) (last_stop ws br s (n + suc k))) last.1
       ∙ quiet n k unmet (λ i l. none i (omega (arith, l))))))
@@ -116,14 +108,11 @@ module _ (ws : List Watch) (to : ℕ) (old : RecordingState) (reached : IsReache
   abbrev n : ℕ
   n = taken old
 
-  in_time_first : IsInTime first
-  in_time_first = in_time (first_board old) first (begun_stands (first_board old) old.session.timed.inputs reached.rising)
-
   here : old.session.timed ≡ after first n
   here = ap (λ (r : RecordingState). r.session.timed) at
 
   later : (k : ℕ) → after old.session.timed k ≡ after first (n + k)
-  later k = ap (λ (t : TimedState). after t k) here ∙ after_more first n k in_time_first.rising
+  later k = search (rules, arith, here, after_more, in_time, begun_stands)
 
   pub moved : (new : RecordingState) (k : ℕ) → new ≡ with_timed old (after old.session.timed k)
       → new ≡ gone_back old (n + k)
@@ -136,27 +125,12 @@ module _ (ws : List Watch) (to : ℕ) (old : RecordingState) (reached : IsReache
   looked : (new : RecordingState) (k : ℕ) (found : Option Back) → new ≡ gone_back old (n + k) → n + k ≤ to
       → last_stop ws br first (n + k) ≡ or_else found (last_stop ws br first n) → IfSome found (λ b. b.steps ≤ n + k)
       → Looked ws to old new found
-  looked new k found e within last earlier =
-      let is = taken_then new k e in
-      record {
-        state = e ∙ ap (gone_back old) (sym is);
-        within = omega (arith, is, within);
-        last = ap (last_stop ws br first) is ∙ last;
-        earlier = subst (λ (m : ℕ). IfSome found (λ b. b.steps ≤ m)) (sym is) earlier;
-      }
-
-  pub may_move : may_step old.session ≡ true
-  may_move =
-      let runs : old.session.timed.board.machine.bus.halt ≡ None =
-      ap (λ (t : TimedState). t.board.machine.bus.halt) here ∙ running n below in
-      let may : nat_lt n old.session.limit ≡ true = grind (arith, nat_tests, below, room) in
-      rw (runs, may) refl
+  looked new k found e within last earlier = search (rules, arith, taken_then)
 
   -- a step
   pub stepped_one : (new : RecordingState) (o : Option Outcome) → TakesStep old.session new.session (Ok o)
       → new ≡ record old { session = new.session } → new ≡ with_timed old (after old.session.timed 1)
-  stepped_one new (Some did) t others = others ∙ ap (λ (s : SessionState). record old { session = s }) t.1
-  stepped_one new None t others = absurd (false≢true (sym t.0 ∙ may_move))
+  stepped_one new o t others = search (rules, arith, false≢true, here)
 
   pub moved_one : (new : RecordingState) → new ≡ with_timed old (after old.session.timed 1) → taken old < taken new
   moved_one new e = omega (arith, taken_then new 1 (moved new 1 e))
@@ -169,14 +143,12 @@ module _ (ws : List Watch) (to : ℕ) (old : RecordingState) (reached : IsReache
       looked new 1 (Some (record { steps = m + 1; watch = Some w })) (moved new 1 e) (omega (arith, below))
       (ap (last_stop ws br first) (add-one n)
       ∙ (met_step ws br first n w (ap (λ (t : TimedState). met ws t.board) (sym here) ∙ sym is)
-      ∙ ap (λ (k : ℕ). Some (record { steps = k; watch = Some w })) (omega (arith, same))))
-      (omega (arith, same))
+      ∙ ap (λ (k : ℕ). Some (record { steps = k; watch = Some w })) (omega (arith, same)))) (omega (arith, same))
 
   -- a run up to the next stop
   module _ (new : RecordingState) (most : ℕ) (end : End) (is : most ≡ to - n)
       (ran : HasRun (run_ends ws Stop 0 old.session) most old.session new.session end)
-      (others : new ≡ record old { session = new.session })
-      (unmet : met ws old.session.timed.board ≡ None) where
+      (others : new ≡ record old { session = new.session }) (unmet : met ws old.session.timed.board ≡ None) where
     abbrev ends : ℕ → Option End
     ends = run_ends ws Stop 0 old.session
 
@@ -187,15 +159,7 @@ module _ (ws : List Watch) (to : ℕ) (old : RecordingState) (reached : IsReache
     unmet_here = ap is_some (ap (λ (t : TimedState). met ws t.board) (sym here) ∙ unmet)
 
     none_first : ends 0 ≡ None
-    none_first =
-        let t : after old.session.timed 0 ≡ old.session.timed =
-        later 0 ∙ (ap (after first) (omega arith) ∙ sym here) in
-        let runs : old.session.timed.board.machine.bus.halt ≡ None =
-        ap (λ (t : TimedState). t.board.machine.bus.halt) here ∙ running n below in
-        let may : nat_lt n old.session.limit ≡ true = grind (arith, nat_tests, below, room) in
-        goes _ _ _ _ (ap (λ (t : TimedState). t.board.machine.bus.halt) t ∙ runs)
-        (ap (λ (m : Bool). m || false) (ap (λ (t : TimedState). is_some (met ws t.board)) t ∙ ap is_some unmet)) refl
-        (ap (λ (t : TimedState). nat_lt t.taken old.session.limit) t ∙ may)
+    none_first = search (rules, arith, later, here, goes)
 
     some_steps : 0 < count
     some_steps = takes_more ends 0 most (omega (arith, is, below)) (first_none ends none_first)
@@ -204,8 +168,7 @@ module _ (ws : List Watch) (to : ℕ) (old : RecordingState) (reached : IsReache
     few_steps = omega (arith, steps_within ends most, is, below)
 
     later_unbroken : (z b : Bool) → z ≡ true → (z && b) ≡ false → b ≡ false
-    later_unbroken true b e f = f
-    later_unbroken false b e f = absurd cc
+    later_unbroken z b e f = search (rules, arith)
 
     none_at : (i : ℕ) → suc i < count → (meets ws br first (n + suc i) ≡ false) × (breaks ws br first (n + suc i) ≡ false)
     none_at i l =
@@ -224,18 +187,13 @@ module _ (ws : List Watch) (to : ℕ) (old : RecordingState) (reached : IsReache
     after_run : new ≡ gone_back old (n + count)
     after_run = moved new count (others ∙ ap (λ (s : SessionState). record old { session = s }) ran.state)
 
-    breaks_is : (b : Bool) → b ≡ set.contains br old.session.timed.board.machine.pc → breaks ws br first n ≡ b
-    breaks_is b e = ap (λ (t : TimedState). set.contains br t.board.machine.pc) (sym here) ∙ sym e
-
     by_break : (b : Bool) → b ≡ set.contains br old.session.timed.board.machine.pc
         → last_stop ws br first (n + count) ≡ by_step ws br first false b n (last_stop ws br first n)
-    by_break b e =
-        quiet_run ∙ ap (λ (b : Bool). by_step ws br first false b n (last_stop ws br first n)) (breaks_is b e)
+    by_break b e = search (rules, arith, quiet_run, here)
 
     pub broke : true ≡ set.contains br old.session.timed.board.machine.pc → (m : ℕ) → m ≡ taken old
         → Looked ws to old new (Some (record { steps = m; watch = None }))
-    broke e m same =
-        looked new count (Some (record { steps = m; watch = None })) after_run few_steps
+    broke e m same = looked new count (Some (record { steps = m; watch = None })) after_run few_steps
         (by_break true e ∙ ap (λ (k : ℕ). Some (record { steps = k; watch = None })) (sym same)) (omega (arith, same))
 
     pub passed : false ≡ set.contains br old.session.timed.board.machine.pc → Looked ws to old new None
@@ -254,32 +212,20 @@ module _ (ws : List Watch) (to : ℕ) (old : RecordingState) where
     pub stands_mid : mid ≡ gone_back mid (taken mid)
     stands_mid = l.state ∙ sym (back_same old mid same_mid (taken mid))
 
-    last_same : (k : ℕ) → last_stop ws mid.session.breakpoints.addresses (first_state mid) k
-        ≡ last_stop ws old.session.breakpoints.addresses (first_state old) k
-    last_same k =
-        ap (λ (a : Addresses). last_stop ws a (first_state mid) k) (breaks_same old mid same_mid)
-        ∙ ap (λ (t : TimedState). last_stop ws old.session.breakpoints.addresses t k) (first_same old mid same_mid)
-
     state_on : (o : Option Back) → Looked ws to mid new o → new ≡ gone_back old (taken new)
     state_on o h = h.state ∙ back_same old mid same_mid (taken new)
 
     last_on : (o : Option Back) → Looked ws to mid new o
         → last_stop ws old.session.breakpoints.addresses (first_state old) (taken new)
         ≡ or_else o (last_stop ws old.session.breakpoints.addresses (first_state old) (taken mid))
-    last_on o h = sym (last_same (taken new)) ∙ (h.last ∙ ap (or_else o) (last_same (taken mid)))
+    last_on o h = search (rules, arith, breaks_same, same_mid, first_same)
 
     pub looks_some : (b : Back) → Looked ws to mid new (Some b) → Looked ws to old new (Some b)
-    looks_some b h = record {
-      state = state_on (Some b) h;
-      within = h.within;
-      last = last_on (Some b) h;
-      earlier = h.earlier;
-    }
+    looks_some b h = search (rules, arith, state_on, last_on)
 
     earlier_on : taken mid < taken new → (o : Option Back) → IfSome o (λ b. b.steps ≤ taken mid)
         → IfSome o (λ b. b.steps ≤ taken new)
-    earlier_on less None h = tt
-    earlier_on less (Some b) h = omega (arith, less, h)
+    earlier_on less o h = search (rules, arith)
 
     pub looks_on : taken mid < taken new → Looked ws to mid new None → Looked ws to old new found
     looks_on less h = record {
@@ -315,60 +261,35 @@ module _ (ws : List Watch) (old : RecordingState) where
     same_low = same_back old low_at low at_low
 
     pub stands_low : low_at ≡ gone_back low_at (taken low_at)
-    stands_low =
-        at_low ∙ (ap (gone_back old) (sym taken_low) ∙ sym (back_same old low_at same_low (taken low_at)))
+    stands_low = search (rules, arith, at_low, taken_low, same_low)
 
     pub below_high : taken low_at ≤ high
     below_high = omega (arith, taken_low, less)
 
     module _ (l : Looked ws high low_at new found) (all : taken new ≡ high) where
       same_new : Same old new
-      same_new =
-          same_back old new (taken new) (l.state ∙ back_same old low_at same_low (taken new))
+      same_new = same_back old new (taken new) (l.state ∙ back_same old low_at same_low (taken new))
 
       last_high : last_stop ws old.session.breakpoints.addresses (first_state old) high
           ≡ or_else found (last_stop ws old.session.breakpoints.addresses (first_state old) low)
-      last_high =
-          let here : (k : ℕ) → last_stop ws low_at.session.breakpoints.addresses (first_state low_at) k
-          ≡ last_stop ws old.session.breakpoints.addresses (first_state old) k =
-          λ k. ap (λ (a : Addresses). last_stop ws a (first_state low_at) k) (breaks_same old low_at same_low)
-          ∙ ap (λ (t : TimedState). last_stop ws old.session.breakpoints.addresses t k) (first_same old low_at same_low) in
-          sym (here high)
-          ∙ (ap (last_stop ws low_at.session.breakpoints.addresses (first_state low_at)) (sym all)
-          ∙ (l.last
-          ∙ ap (or_else found) (here (taken low_at)
-          ∙ ap (last_stop ws old.session.breakpoints.addresses (first_state old)) taken_low)))
+      last_high = search (rules, arith, here, breaks_same, same_low, first_same, taken_low)
 
       pub backs_on : found ≡ None → Backed ws old new low
-      backs_on none = record {
-        same = same_new;
-        within = omega (arith, all, less);
-        earlier = omega (arith, less, b.earlier);
-        last = b.last ∙ (last_high ∙ ap (λ (o : Option Back). or_else o
-            (last_stop ws old.session.breakpoints.addresses (first_state old) low)) none);
-      }
+      backs_on none = search (rules, arith, same_new, last_high)
 
       pub found_is : (stop : Back) → found ≡ Some stop
           → Some stop ≡ last_stop ws old.session.breakpoints.addresses (first_state old) (taken old)
-      found_is stop e = sym (b.last ∙ (last_high ∙ ap (λ (o : Option Back). or_else o
-          (last_stop ws old.session.breakpoints.addresses (first_state old) low)) e))
+      found_is stop e = search (rules, arith, last_high)
 
       pub goes_to : (stop : Back) (last : RecordingState) → found ≡ Some stop
           → last ≡ gone_back new (min stop.steps (taken new)) → last ≡ gone_back old (left_by (Some stop))
-      goes_to stop last e went =
-          let within : IfSome (Some stop) (λ b. b.steps ≤ taken new) =
-          subst (λ (o : Option Back). IfSome o (λ b. b.steps ≤ taken new)) e l.earlier in
-          let min_is : min stop.steps (taken new) ≡ stop.steps = omega (arith, within) in
-          went ∙ (ap (gone_back new) min_is ∙ back_same old new same_new stop.steps)
+      goes_to stop last e went = search (rules, arith, back_same, same_new)
 
   pub backs_none : (now : RecordingState) (high : ℕ) → Backed ws old now high → high ≡ 0
       → None ≡ last_stop ws old.session.breakpoints.addresses (first_state old) (taken old)
   unfolding last_stop
-  backs_none now high b e =
-      sym (b.last ∙ ap (last_stop ws old.session.breakpoints.addresses (first_state old)) e)
+  backs_none now high b e = search (rules, arith)
 
   pub goes_first : (now new : RecordingState) (high : ℕ) → Backed ws old now high
       → new ≡ gone_back now (min 0 (taken now)) → new ≡ gone_back old 0
-  goes_first now new high b e =
-      let least : min 0 (taken now) ≡ 0 = omega arith in
-      e ∙ (ap (gone_back now) least ∙ back_same old now b.same 0)
+  goes_first now new high b e = search (rules, arith, least, back_same)

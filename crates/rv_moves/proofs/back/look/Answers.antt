@@ -9,8 +9,7 @@ returns-in-Some-clause-looked c =
     (first_of (search rules, cc))
     (stepped_one c.args.watches.now c.args.to c.args.recording.now c.session-session.ensures.reached c.requires.at
     c.requires.below c.requires.running c.requires.room c.take_step.new.self c.in_ok-_outcome._outcome
-    c.in_ok-_outcome.ensures.step c.take_step.ensures.others)
-    c.steps-here.result (first_of (search rules, cc))
+    c.in_ok-_outcome.ensures.step c.take_step.ensures.others) c.steps-here.result (first_of (search rules, cc))
 
 pub returns-in-Some-clause-more : goal.returns-in-Some-clause-more
 returns-in-Some-clause-more c =

@@ -7,8 +7,7 @@ look-requires-clause-at c =
     c.loop-recording.invariant
 
 pub look-requires-clause-running : goal.look-requires-clause-running
-look-requires-clause-running c =
-    running_same c.args.recording.now c.loop-recording.recording
+look-requires-clause-running c = running_same c.args.recording.now c.loop-recording.recording
     (same_mid c.args.watches.now c.args.to c.args.recording.now c.loop-recording.recording c.loop-recording.recording c.loop-recording.found
     c.loop-recording.invariant) c.args.to c.requires.running
 

@@ -16,8 +16,7 @@ look_on-requires-clause-below c =
     (omega (arith, c.saturating_sub-low.ensures)) c.in_ok-go_back.ensures.ok
 
 pub look_on-requires-clause-running : goal.look_on-requires-clause-running
-look_on-requires-clause-running c =
-    running_same c.args.recording.now c.go_back.new.self
+look_on-requires-clause-running c = running_same c.args.recording.now c.go_back.new.self
     (same_low c.args.watches.now c.args.recording.now c.loop-high.recording c.go_back.new.self c.go_back.new.self
     c.loop-high.high c.saturating_sub-low.result None c.loop-high.invariant.0
     (omega (arith, c.saturating_sub-low.ensures)) c.in_ok-go_back.ensures.ok)

@@ -10,12 +10,10 @@ returns-in-Some-clause-ok c =
     (first_of (search rules, cc))
 
 pub returns-in-Some-clause-calls : goal.returns-in-Some-clause-calls
-returns-in-Some-clause-calls c =
-    number_before c.args.watches.now c.args.aim.now c.args.calls.now c.args.recording.now
+returns-in-Some-clause-calls c = number_before c.args.watches.now c.args.aim.now c.args.calls.now c.args.recording.now
 
 pub loop-done-init : goal.loop-done-init
-loop-done-init c =
-    begins c.args.watches.now c.args.aim.now c.args.calls.now c.args.recording.now
+loop-done-init c = begins c.args.watches.now c.args.aim.now c.args.calls.now c.args.recording.now
     (subst (λ (s : SessionState). IsInTime s.timed) c.session.ensures.value c.board-board.ensures.in_time)
     (first_of (search rules, cc))
 

@@ -5,8 +5,7 @@ use Rattle.rv_moves.proofs.Advancing.{one_out, opened_inside}
 use Rattle.rv_moves.proofs.forward.take_step.Goals as goal
 
 pub returns-clause-state : goal.returns-clause-state
-returns-clause-state c =
-    one_out c.args.calls.now c.args.recording.now c.run_out.new.self c.in_ok-_end._end
+returns-clause-state c = one_out c.args.calls.now c.args.recording.now c.run_out.new.self c.in_ok-_end._end
     (subst (λ (s : SessionState). IsInTime s.timed) c.session.ensures.value c.board-board.ensures.in_time)
     c.requires.may c.in_ok-_end.ensures.ok c.run_out.ensures.others
 
