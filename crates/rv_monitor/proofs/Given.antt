@@ -1,6 +1,6 @@
 -- Inputs that are given by hand, and states that a board comes to by its inputs and its steps.
-use Rattle.std.proofs.Common.{rules, ◌≡◌, ◌∙◌, ℕ, zero, suc, ◌+◌, ◌<◌, ◌≤◌, Bool, true, false, List, [], ◌∷◌, ◌++◌, length, drop, refl, sym, ap, subst, arith, inl, inr}
-use Rattle.std.specs.Prelude.{◌⊎◌, nat_eq, nat_le, nat_lt, filter, None, Result, Ok, Err, OnOk, OnErr}
+use Rattle.std.proofs.Common.{rules, ◌≡◌, ◌∙◌, ℕ, zero, suc, ◌+◌, ◌<◌, ◌≤◌, Bool, true, false, List, [], ◌∷◌, ◌++◌, length, drop, refl, sym, ap, subst, arith}
+use Rattle.std.specs.Prelude.{◌⊎◌, nat_le, nat_lt, filter, None, Result, Ok, Err, OnOk, OnErr}
 use Rattle.rv_base.specs.declared.memory.NoMemory.{NoMemory}
 use Rattle.rv_hart.specs.declared.trap.Outcome.{Outcome}
 use Rattle.std.proofs.lemmas.Bool.{and_from, and_parts, eq-eqb, le-leb, le-ltb, lt-ltb, ltb-false, ltb-true, ne_eqb}
@@ -12,7 +12,7 @@ use Rattle.rv_timeline.specs.declared.input.Input.{Input}
 use Rattle.rv_timeline.specs.declared.input.TimedInput.{TimedInput}
 use Rattle.rv_timeline.specs.Timed.{never_falls, inserted}
 use Rattle.rv_timeline.proofs.Inserted.{rises}
-use Rattle.rv_monitor.specs.Events.{event_of, inputs_at, events_of}
+use Rattle.rv_monitor.specs.Events.{inputs_at, events_of}
 use Rattle.rv_monitor.specs.Support.TimedCalls.{IsRefused}
 use Rattle.rv_monitor.specs.State.{Addresses, TimedState, IsInTime, rest, count_before, begun, after, with_due, given}
 use Rattle.rv_monitor.specs.Laws.{IsReached}
@@ -21,45 +21,16 @@ use Rattle.rv_monitor.proofs.Steps.{inputs_late, none_due, same}
 
 -- ---- a list with one input more
 
--- an input that a test leaves out
-left_out_by : (p : TimedInput → Bool) (y : TimedInput) (ys : List TimedInput) (x : TimedInput) (b : Bool)
-    → nat_lt x.step y.step ≡ b → p x ≡ false → filter p (inserted ys x) ≡ filter p ys
-    → filter p (inserted (y ∷ ys) x) ≡ filter p (y ∷ ys)
-unfolding inserted
-left_out_by p y ys x true e out more = rw (e, out) refl
-left_out_by p y ys x false e out more = rw (e, more) refl
-
 left_out : (p : TimedInput → Bool) (xs : List TimedInput) (x : TimedInput) → p x ≡ false
     → filter p (inserted xs x) ≡ filter p xs
 unfolding inserted
 left_out p [] x out = rw out refl
-left_out p (y ∷ ys) x out = left_out_by p y ys x (nat_lt x.step y.step) refl out (left_out p ys x out)
-
-length_by : (y : TimedInput) (ys : List TimedInput) (x : TimedInput) (b : Bool) → nat_lt x.step y.step ≡ b
-    → length (inserted ys x) ≡ length ys + 1 → length (inserted (y ∷ ys) x) ≡ length (y ∷ ys) + 1
-unfolding inserted
-length_by y ys x true e more = rw e (omega arith)
-length_by y ys x false e more = rw e (omega (arith, more))
+left_out p (y ∷ ys) x out = search (rules, arith, left_out p ys x out)
 
 length_inserted : (xs : List TimedInput) (x : TimedInput) → length (inserted xs x) ≡ length xs + 1
 unfolding inserted
 length_inserted [] x = omega arith
-length_inserted (y ∷ ys) x = length_by y ys x (nat_lt x.step y.step) refl (length_inserted ys x)
-
--- the inputs from an index on reach no further back
-inserted_from_by : (t : ℕ) (y : TimedInput) (ys : List TimedInput) (x : TimedInput) (n : ℕ) (b : Bool)
-    → nat_lt x.step y.step ≡ b → t ≤ x.step → never_falls (y ∷ ys) ≡ true
-    → from t (drop n (inserted ys x)) ≡ true → from t (drop (suc n) (inserted (y ∷ ys) x)) ≡ true
-unfolding inserted
-inserted_from_by t y ys x n true e k h more = search (rules, arith, ltb-true, drop_from, all_from)
-inserted_from_by t y ys x n false e k h more = rw e more
-
-inserted_all_by : (t : ℕ) (y : TimedInput) (ys : List TimedInput) (x : TimedInput) (b : Bool)
-    → nat_lt x.step y.step ≡ b → t ≤ x.step → from t (y ∷ ys) ≡ true → from t (inserted ys x) ≡ true
-    → from t (inserted (y ∷ ys) x) ≡ true
-unfolding inserted
-inserted_all_by t y ys x true e k h more = rw e (and_from (nat_le t x.step) _ (le-leb t x.step k) h)
-inserted_all_by t y ys x false e k h more = search (rules, arith, and_from, and_parts, from)
+length_inserted (y ∷ ys) x = search (rules, arith, length_inserted ys x)
 
 inserted_from : (t : ℕ) (xs : List TimedInput) (x : TimedInput) (n : ℕ) → t ≤ x.step → never_falls xs ≡ true
     → from t (drop n xs) ≡ true → from t (drop n (inserted xs x)) ≡ true
@@ -67,10 +38,8 @@ unfolding inserted
 inserted_from t [] x zero k h all = and_from (nat_le t x.step) true (le-leb t x.step k) refl
 inserted_from t [] x (suc zero) k h all = refl
 inserted_from t [] x (suc (suc n)) k h all = refl
-inserted_from t (y ∷ ys) x zero k h all =
-    search (rules, arith, inserted_all_by, tail_rises, tail_from, inserted_from t ys x zero k)
-inserted_from t (y ∷ ys) x (suc n) k h all =
-    search (rules, arith, inserted_from_by, tail_rises, inserted_from t ys x n k)
+inserted_from t (y ∷ ys) x zero k h all = search (rules, arith, and_from, le-leb, and_parts, from, tail_rises, tail_from, inserted_from t ys x zero k)
+inserted_from t (y ∷ ys) x (suc n) k h all = search (rules, arith, ltb-true, drop_from, all_from, tail_rises, inserted_from t ys x n k)
 
 -- the list with the input is in time as well
 pub inserted_in_time : (b : BoardState) (xs : List TimedInput) (place t : ℕ) (x : TimedInput) → t ≤ x.step
@@ -89,8 +58,7 @@ module _ (t : ℕ) (input : Input) where
   new = record { step = t; input = input }
 
   -- it stands after the others of its step, and before all later ones
-  here_by : (y : TimedInput) (ys : List TimedInput) (b : Bool) → nat_lt t y.step ≡ b
-      → never_falls (y ∷ ys) ≡ true
+  here_by : (y : TimedInput) (ys : List TimedInput) (b : Bool) → nat_lt t y.step ≡ b → never_falls (y ∷ ys) ≡ true
       → drop (count_before (t + 1) ys) (inserted ys new) ≡ new ∷ drop (count_before (t + 1) ys) ys
       → drop (count_before (t + 1) (y ∷ ys)) (inserted (y ∷ ys) new)
       ≡ new ∷ drop (count_before (t + 1) (y ∷ ys)) (y ∷ ys)
@@ -108,67 +76,26 @@ module _ (t : ℕ) (input : Input) where
   here [] h = refl
   here (y ∷ ys) h = here_by y ys (nat_lt t y.step) refl h (here ys (tail_rises y ys h))
 
-  last_by : (y : TimedInput) (ys : List TimedInput) (b c : Bool) → nat_lt t y.step ≡ b → nat_eq y.step t ≡ c
-      → never_falls (y ∷ ys) ≡ true → of t (inserted ys new) ≡ of t ys ++ new ∷ []
-      → of t (inserted (y ∷ ys) new) ≡ of t (y ∷ ys) ++ new ∷ []
-  unfolding inserted
-  last_by y ys true c e f h more = search (rules, arith, ltb-true, none_of, all_from, eq-eqb)
-  last_by y ys false true e f h more = rw (e, f, more) refl
-  last_by y ys false false e f h more = rw (e, f, more) refl
-
   last : (xs : List TimedInput) → never_falls xs ≡ true → of t (inserted xs new) ≡ of t xs ++ new ∷ []
   unfolding inserted
   last [] h = rw (eq-eqb t t refl) refl
-  last (y ∷ ys) h = last_by y ys (nat_lt t y.step) (nat_eq y.step t) refl refl h (last ys (tail_rises y ys h))
-
-  count_by : (y : TimedInput) (ys : List TimedInput) (b : Bool) → nat_lt t y.step ≡ b
-      → count_before (t + 1) (inserted ys new) ≡ count_before (t + 1) ys + 1
-      → count_before (t + 1) (inserted (y ∷ ys) new) ≡ count_before (t + 1) (y ∷ ys) + 1
-  unfolding inserted
-  count_by y ys true e more = rw (e, lt-ltb t (t + 1) (omega arith)) (omega arith)
-  count_by y ys false e more = search (rules, arith, ltb-false, lt-ltb)
+  last (y ∷ ys) h = search (rules, arith, ltb-true, none_of, all_from, eq-eqb, tail_rises, last ys (tail_rises y ys h))
 
   count_more : (xs : List TimedInput) → count_before (t + 1) (inserted xs new) ≡ count_before (t + 1) xs + 1
   unfolding inserted
   count_more [] = rw (lt-ltb t (t + 1) (omega arith)) refl
-  count_more (y ∷ ys) = count_by y ys (nat_lt t y.step) refl (count_more ys)
+  count_more (y ∷ ys) = search (rules, arith, lt-ltb, ltb-false, count_more ys)
 
   module _ (xs : List TimedInput) (rising : never_falls xs ≡ true) where
-    -- the events of the steps before are the same
-    before : (u : ℕ) → u < t → inputs_at (inserted xs new) u ≡ inputs_at xs u
-    unfolding inputs_at
-    before u k = search (rules, arith, left_out, ne_eqb, same)
-
     pub events_before : (k : ℕ) → k ≤ t → events_of (inserted xs new) 0 k ≡ events_of xs 0 k
-    unfolding events_of
+    unfolding events_of inputs_at
     events_before zero h = refl
-    events_before (suc k) h = rw (events_before k (omega arith), before (0 + k) (omega arith)) refl
-
-    count_same : (u : ℕ) → u ≤ t → count_before u (inserted xs new) ≡ count_before u xs
-    count_same u k = ap length (left_out (λ x. nat_lt x.step u) xs new (le-ltb t u k))
-
-    -- the event of the input comes last
-    inputs_more : inputs_at (inserted xs new) t ≡ inputs_at xs t ++ event_of input ∷ []
-    unfolding inputs_at
-    inputs_more = search (rules, arith, last, map-append)
+    events_before (suc k) h = search (rules, arith, left_out, ne_eqb, same, events_before k)
 
     abbrev late : List TimedInput
     late = drop (count_before (t + 1) xs) xs
 
-    no_more : of t late ≡ []
-    no_more = none_of t late (late_from (t + 1) xs rising)
-
-    one_left : inputs_at (drop (count_before (t + 1) xs) (inserted xs new)) t ≡ event_of input ∷ []
-    unfolding inputs_at
-    one_left = rw (here xs rising, eq-eqb t t refl, no_more) refl
-
-    one_counted : count_before (t + 1) (drop (count_before (t + 1) xs) (inserted xs new)) ≡ 1
-    one_counted = search (rules, arith, none_before, late_from, lt-ltb, here)
-
 -- ---- states that are reached
-
-zero_more : (n : ℕ) → 0 + n ≡ n
-zero_more n = omega arith
 
 -- a board with timed inputs after its first steps, by its fields
 module _ (board : BoardState) (xs : List TimedInput) where
@@ -185,23 +112,17 @@ module _ (board : BoardState) (xs : List TimedInput) where
 
   pub after_begun : (k : ℕ) → after (begun board xs) k ≡ after_steps k
   unfolding after
-  after_begun k = search (rules, arith, same, zero_more)
+  after_begun k = search (rules, arith, same)
 
   module _ (rising : never_falls xs ≡ true) (k : ℕ) where
-    due_steps : with_due (after_steps k) ≡ after_inputs k
-    unfolding with_due
-    due_steps = search (rules, arith, same, inputs_late, late_count)
-
     pub due_begun : with_due (after (begun board xs) k) ≡ after_inputs k
-    due_begun = ap with_due (after_begun k) ∙ due_steps
-
-    due_again : with_due (after_inputs k) ≡ after_inputs k
     unfolding with_due
-    due_again = search (rules, arith, none_before, late_from, same, none_due)
+    due_begun = search (rules, arith, after_begun, same, inputs_late, late_count)
 
     -- inputs are given once
     pub due_twice : with_due (with_due (after (begun board xs) k)) ≡ with_due (after (begun board xs) k)
-    due_twice = ap with_due due_begun ∙ (due_again ∙ sym due_begun)
+    unfolding with_due
+    due_twice = search (rules, arith, due_begun, none_before, late_from, same, none_due)
 
 -- ---- an input by hand
 
@@ -215,59 +136,42 @@ module _ (board : BoardState) (xs : List TimedInput) (rising : never_falls xs �
   -- before the other inputs of its step
   steps_before : (k : ℕ) → k ≤ t → with_longer (after_steps board xs k) ≡ after_steps board longer k
   unfolding with_longer
-  steps_before k h = search (rules, arith, same, events_before, count_same)
+  steps_before k h = search (rules, arith, same, events_before, left_out, le-ltb)
 
   running_before : (k : ℕ) → k ≤ t
       → halted_of (after (begun board longer) k).board ≡ halted_of (after (begun board xs) k).board
   unfolding with_longer
   running_before k h = search (rules, arith, after_begun, steps_before)
 
-  first : (s : TimedState) → s ≡ after (begun board xs) t
-      → with_due (with_longer s) ≡ with_due (after (begun board longer) t)
-  first s e = search (rules, arith, with_longer, after_begun, steps_before)
-
-  -- after them
-  after_others : with_due (with_longer (after_inputs board xs t)) ≡ after_inputs board longer t
-  unfolding with_due with_longer
-  after_others =
-      search (rules, arith, same, one_left, run_append, inputs_more, events_before, one_counted, count_more)
-
-  second : (s : TimedState) → s ≡ with_due (after (begun board xs) t)
-      → with_due (with_longer s) ≡ with_due (after (begun board longer) t)
-  second s e = search (rules, arith, with_longer, due_begun, after_others, rises)
-
 -- a state by its inputs and steps
 pub reached_steps : (board : BoardState) (xs : List TimedInput) (k : ℕ) (s : TimedState)
     → never_falls xs ≡ true → s ≡ after (begun board xs) k
     → ((i : ℕ) → i < k → halted_of (after (begun board xs) i).board ≡ None) → IsReached board s
 unfolding after
-reached_steps board xs k s h e goes = search (rules, arith, zero_more)
+reached_steps board xs k s h e goes = search (rules, arith)
 
 pub reached_due : (board : BoardState) (xs : List TimedInput) (k : ℕ) (s : TimedState)
     → never_falls xs ≡ true → s ≡ with_due (after (begun board xs) k)
     → ((i : ℕ) → i < k → halted_of (after (begun board xs) i).board ≡ None) → IsReached board s
 unfolding after with_due
-reached_due board xs k s h e goes = search (rules, arith, zero_more)
+reached_due board xs k s h e goes = search (rules, arith)
 
 pub given_listed : (board : BoardState) (s : TimedState) (input : Input) → never_falls s.inputs ≡ true
     → (s ≡ after (begun board s.inputs) s.taken) ⊎ (s ≡ with_due (after (begun board s.inputs) s.taken))
     → given s input ≡ with_due (after (begun board (inserted s.inputs (new s.taken input))) s.taken)
-unfolding with_longer
-given_listed board s input h (inl e) = first board s.inputs h s.taken input s e
-given_listed board s input h (inr e) = second board s.inputs h s.taken input s e
+unfolding with_longer with_due inputs_at
+given_listed board s input h is = search (rules, arith, after_begun, steps_before, due_begun, same, here, eq-eqb, none_of, late_from, run_append, last, map-append, events_before, none_before, lt-ltb, count_more, rises)
 
 pub given_stands : (board : BoardState) (s : TimedState) (input : Input) → IsReached board s
     → IsReached board (given s input)
-given_stands board s input r =
-    reached_due board (inserted s.inputs (new s.taken input)) s.taken (given s input)
+given_stands board s input r = reached_due board (inserted s.inputs (new s.taken input)) s.taken (given s input)
     (rises s.inputs (new s.taken input) r.rising) (given_listed board s input r.rising r.state)
     (λ i l. running_before board s.inputs r.rising s.taken input i (omega arith) ∙ r.running i l)
 
 -- ---- the calls that give an input, take a step and resume, by their fields
 
 pub grown_in_time : (b : BoardState) (xs ys : List TimedInput) (place t : ℕ) (x : TimedInput)
-    → ys ≡ inserted xs x → t ≤ x.step
-    → IsInTime (record { board = b; inputs = xs; place = place; taken = t })
+    → ys ≡ inserted xs x → t ≤ x.step → IsInTime (record { board = b; inputs = xs; place = place; taken = t })
     → IsInTime (record { board = b; inputs = ys; place = place; taken = t }) × (from t (drop place ys) ≡ true)
 grown_in_time b xs ys place t x is le h =
     let grown = inserted_in_time b xs place t x le h in (
@@ -297,26 +201,17 @@ pub restored_is : (b c : BoardState) (xs ys : List TimedInput) (place t : ℕ) (
     → record { board = c; inputs = ys; place = place; taken = t } ≡ s
 restored_is b c xs ys place t s e f g = rw (f, g) e
 
-pub same_inputs : (a : Addresses) (most : ℕ) (old new : TimedState) → IsRefused a most old new
-    → new.inputs ≡ old.inputs
+pub same_inputs : (a : Addresses) (most : ℕ) (old new : TimedState) → IsRefused a most old new → new.inputs ≡ old.inputs
 unfolding after with_due
 same_inputs a most old new r = ap (λ u. u.inputs) r.state
 
--- the steps taken stay within the limit
-due_taken : (old new : TimedState) → new ≡ with_due old → new.taken ≡ old.taken
-unfolding with_due
-due_taken old new e = ap (λ u. u.taken) e
-
-one_taken : (old new : TimedState) → new ≡ after old 1 → new.taken ≡ old.taken + 1
-unfolding after
-one_taken old new e = ap (λ u. u.taken) e
-
 pub give_within : (r : Result Unit NoMemory) (old new : TimedState) (input : Input) (limit : ℕ)
     → OnOk r (new ≡ given old input) → OnErr r (new ≡ old) → old.taken ≤ limit → new.taken ≤ limit
-give_within (Ok u) old new input limit ok err h = omega (arith, due_taken _ new ok)
-give_within (Err e) old new input limit ok err h = omega (arith, ap (λ u. u.taken) err)
+unfolding with_due
+give_within r old new input limit ok err h = search (rules, arith)
 
 pub step_within : (r : Result Outcome NoMemory) (old new : TimedState) (limit : ℕ)
     → OnOk r (new ≡ after old 1) → OnErr r (new ≡ with_due old) → old.taken < limit → new.taken ≤ limit
-step_within (Ok u) old new limit ok err h = omega (arith, one_taken old new ok)
-step_within (Err e) old new limit ok err h = omega (arith, due_taken old new err)
+unfolding with_due after
+step_within (Ok u) old new limit ok err h = search (rules, arith)
+step_within (Err e) old new limit ok err h = search (rules, arith)

@@ -1,9 +1,9 @@
 -- Each control register that has a name can be read.
-use Rattle.std.proofs.Common.{rules, arith, ◌≡◌, ℕ, Bool, true, false, cond, List, [], ◌∷◌, refl, ◌∙◌}
+use Rattle.std.proofs.Common.{rules, arith, ◌≡◌, ℕ, Bool, true, List, [], ◌∷◌, refl, ◌∙◌}
 use Rattle.std.proofs.lemmas.Bool.{and_parts}
 use Rattle.std.specs.Fmt.{digits}
 use Rattle.std.specs.List.{list_all}
-use Rattle.std.specs.Prelude.{Option, Some, None, ◌&&◌, is_some, IsSome, if◌then◌else◌}
+use Rattle.std.specs.Prelude.{Some, None, is_some, IsSome, if◌then◌else◌}
 use Rattle.rv_base.specs.Tables.{lookup}
 use Rattle.rv_isa.specs.Names.{csr_names}
 use Rattle.rv_isa.specs.declared.Lines.{Lines}
@@ -23,8 +23,7 @@ abbrev is_read_by_cases : CsrState → Lines → ℕ → Bool
 is_read_by_cases state lines addr =
     is_some (if may_read addr Machine then value_at state lines addr (register_at addr) else None)
 
-all_by_cases : (state : CsrState) (lines : Lines) →
-    list_all (λ e. is_read_by_cases state lines e.1) csr_names ≡ true
+all_by_cases : (state : CsrState) (lines : Lines) → list_all (λ e. is_read_by_cases state lines e.1) csr_names ≡ true
 unfolding csr_names digits register_at read_register
 all_by_cases state lines = refl
 
@@ -33,23 +32,15 @@ as_cases : (state : CsrState) (lines : Lines) (es : List (List ℕ × ℕ)) →
 as_cases state lines [] = refl
 as_cases state lines (e ∷ es) = search (rules, arith, read_by_cases, as_cases state lines es)
 
-all_are_read : (state : CsrState) (lines : Lines) →
-    list_all (λ e. is_read state lines e.1) csr_names ≡ true
+all_are_read : (state : CsrState) (lines : Lines) → list_all (λ e. is_read state lines e.1) csr_names ≡ true
 all_are_read state lines = as_cases state lines csr_names ∙ all_by_cases state lines
-
-found_by : (p : ℕ → Bool) (csr first : ℕ) (rest : Bool) (later : Option ℕ) (here : Bool) →
-    (p first && rest) ≡ true
-    → (rest ≡ true → later ≡ Some csr → p csr ≡ true) → cond here (Some first) later ≡ Some csr → p csr ≡ true
-found_by p csr first rest later true all more is = search (rules, arith, and_parts)
-found_by p csr first rest later false all more is = more (and_parts (p first) rest all).1 is
 
 found : (p : ℕ → Bool) (name : List ℕ) (csr : ℕ) (es : List (List ℕ × ℕ)) → list_all (λ e. p e.1) es ≡ true →
     lookup name es ≡ Some csr → p csr ≡ true
 found p name csr [] all is = absurd cc
-found p name csr (e ∷ es) all is = search (rules, arith, found_by, found p name csr es)
+found p name csr (e ∷ es) all is = search (rules, arith, and_parts, found p name csr es)
 
 pub named_is_read : (b : BoardState) (name : List ℕ) (csr : ℕ) → lookup name csr_names ≡ Some csr →
     IsSome (csr_of b csr)
-named_is_read b name csr is =
-    found (is_read b.machine.csrs (lines_of b.machine.bus)) name csr csr_names
+named_is_read b name csr is = found (is_read b.machine.csrs (lines_of b.machine.bus)) name csr csr_names
     (all_are_read b.machine.csrs (lines_of b.machine.bus)) is

@@ -1,5 +1,5 @@
 -- Pieces of text, one after another, after a head.
-use Rattle.std.proofs.Common.{rules, ◌≡◌, ℕ, zero, suc, ◌+◌, List, ◌++◌, sym, ◌∙◌, ap, add-one, append-nil, append_assoc, arith}
+use Rattle.std.proofs.Common.{rules, ◌≡◌, ℕ, zero, suc, ◌+◌, List, ◌++◌, sym, ◌∙◌, ap, append-nil, append_assoc, arith}
 use Rattle.std.specs.List.{flat_map, range_with_len}
 use Rattle.rv_monitor.specs.Views.{pieces}
 
@@ -12,13 +12,10 @@ more_from : (piece : ℕ → List ℕ) (a n : ℕ)
 more_from piece a zero = let none : a + 0 ≡ a = omega arith in append-nil (piece a) ∙ ap piece (sym none)
 more_from piece a (suc n) = search (rules, arith, append_assoc, more_from piece (a + 1) n)
 
-one_more_piece : (piece : ℕ → List ℕ) (n : ℕ) → pieces piece (n + 1) ≡ pieces piece n ++ piece n
-unfolding pieces
-one_more_piece piece n = search (rules, arith, add-one, more_from)
-
 pub one_more_after : (head : List ℕ) (piece : ℕ → List ℕ) (n : ℕ) →
     head ++ pieces piece (n + 1) ≡ head ++ pieces piece n ++ piece n
-one_more_after head piece n = search (rules, arith, one_more_piece, append_assoc)
+unfolding pieces
+one_more_after head piece n = search (rules, arith, more_from, append_assoc)
 
 -- a text of a head and the first n pieces, with the next piece appended, has n + 1 pieces
 pub piece_appended : (head before after : List ℕ) (piece : ℕ → List ℕ) (n : ℕ)

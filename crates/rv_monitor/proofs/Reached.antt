@@ -23,13 +23,8 @@ pub begun_stands : (board : BoardState) (xs : List TimedInput) → never_falls x
     → IsReached board (begun board xs)
 begun_stands board xs h = search (rules, arith, reached_steps, after_none, begun_in_time)
 
-in_time_by : (board : BoardState) (s : TimedState) (xs : List TimedInput) (k : ℕ) → never_falls xs ≡ true
-    → (s ≡ after (begun board xs) k) ⊎ (s ≡ with_due (after (begun board xs) k)) → IsInTime s
-in_time_by board s xs k h (inl e) = search (rules, arith, in_time_after, begun_in_time)
-in_time_by board s xs k h (inr e) = search (rules, arith, in_time_due, in_time_after, begun_in_time)
-
 pub in_time : (board : BoardState) (s : TimedState) → IsReached board s → IsInTime s
-in_time board s r = in_time_by board s s.inputs s.taken r.rising r.state
+in_time board s r = search (rules, arith, in_time_after, begun_in_time, in_time_due)
 
 module _ (board : BoardState) (s : TimedState) (r : IsReached board s) where
   h : IsInTime s
@@ -51,18 +46,15 @@ module _ (board : BoardState) (s : TimedState) (r : IsReached board s) where
   halted_same (inr e) (suc j) =
       let one : suc j ≡ 1 + j = omega arith in
       ap (λ n. halted_of (after s n).board) one
-      ∙ (ap (λ u. halted_of u.board) (more_due e j)
-      ∙ ap (λ n. halted_of (after first (s.taken + n)).board) (sym one))
+      ∙ (ap (λ u. halted_of u.board) (more_due e j) ∙ ap (λ n. halted_of (after first (s.taken + n)).board) (sym one))
 
   module _ (n : ℕ) (goes : (j : ℕ) → j < n → halted_of (after s j).board ≡ None) where
     goes_on : (i : ℕ) → i < s.taken + n → halted_of (after first i).board ≡ None
-    goes_on i l = ⊎_elim
-        (λ earlier. r.running i earlier)
+    goes_on i l = ⊎_elim (λ earlier. r.running i earlier)
         (λ later.
         let sum : i ≡ s.taken + (i - s.taken) = omega arith in
         ap (λ k. halted_of (after first k).board) sum
-        ∙ (sym (halted_same r.state (i - s.taken)) ∙ goes (i - s.taken) (omega arith)))
-        (cases_lt i s.taken)
+        ∙ (sym (halted_same r.state (i - s.taken)) ∙ goes (i - s.taken) (omega arith))) (cases_lt i s.taken)
 
   after_stands_by : (s ≡ after first s.taken) ⊎ (s ≡ with_due (after first s.taken))
       → (n : ℕ) → ((j : ℕ) → j < n → halted_of (after s j).board ≡ None) → IsReached board (after s n)
@@ -72,15 +64,12 @@ module _ (board : BoardState) (s : TimedState) (r : IsReached board s) where
   after_stands_by (inr e) (suc j) goes =
       let one : suc j ≡ 1 + j = omega arith in
       reached_steps board s.inputs (s.taken + suc j) (after s (suc j)) r.rising
-      (ap (after s) one ∙ (more_due e j ∙ ap (λ n. after first (s.taken + n)) (sym one)))
-      (goes_on (suc j) goes)
+      (ap (after s) one ∙ (more_due e j ∙ ap (λ n. after first (s.taken + n)) (sym one))) (goes_on (suc j) goes)
 
-  pub after_stands : (n : ℕ) → ((j : ℕ) → j < n → halted_of (after s j).board ≡ None)
-      → IsReached board (after s n)
+  pub after_stands : (n : ℕ) → ((j : ℕ) → j < n → halted_of (after s j).board ≡ None) → IsReached board (after s n)
   after_stands n goes = after_stands_by r.state n goes
 
-  due_stands_by : (s ≡ after first s.taken) ⊎ (s ≡ with_due (after first s.taken))
-      → IsReached board (with_due s)
+  due_stands_by : (s ≡ after first s.taken) ⊎ (s ≡ with_due (after first s.taken)) → IsReached board (with_due s)
   due_stands_by (inl e) = reached_due board s.inputs s.taken (with_due s) r.rising (ap with_due e) r.running
   due_stands_by (inr e) = search (rules, arith, reached_due, due_twice)
 
@@ -101,8 +90,7 @@ module _ (board : BoardState) (old new : TimedState) (r : IsReached board old) w
     refused_stands is = subst (IsReached board) (sym is) (due_stands board (after old n) gone_on)
 
   pub step_stands : halted_of old.board ≡ None → new ≡ after old 1 → IsReached board new
-  step_stands halt is =
-      subst (IsReached board) (sym is)
+  step_stands halt is = subst (IsReached board) (sym is)
       (after_stands board old r 1 (λ j l.
       let none : j ≡ 0 = omega arith in
       ap (λ i. halted_of (after old i).board) none ∙ (ap (λ u. halted_of u.board) (after_none old (in_time board old r)) ∙ halt)))

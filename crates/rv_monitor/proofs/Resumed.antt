@@ -1,6 +1,6 @@
 -- Boards that go on after some of their steps.
-use Rattle.std.proofs.Common.{rules, ◌≡◌, ◌∙◌, ℕ, zero, suc, ◌+◌, ◌-◌, ◌<◌, ◌≤◌, Bool, true, false, List, [], ◌∷◌, length, get_or, drop, refl, sym, ap, arith, inl, inr, ⊎_elim}
-use Rattle.std.specs.Prelude.{◌⊎◌, nat_eq, nat_lt, map, IsSome, Result, Ok, Err, OnErr, IfOk}
+use Rattle.std.proofs.Common.{rules, ◌≡◌, ◌∙◌, ℕ, zero, suc, ◌+◌, ◌-◌, ◌<◌, ◌≤◌, true, List, [], ◌∷◌, length, get_or, drop, refl, sym, ap, arith}
+use Rattle.std.specs.Prelude.{map, IsSome, Result, Ok, Err, OnErr, IfOk}
 use Rattle.std.specs.FinSet as set
 use Rattle.std.proofs.lemmas.Bool.{cases_lt, eqb-true, false≢true, lt-ltb}
 use Rattle.rv_base.specs.declared.memory.NoMemory.{NoMemory}
@@ -12,7 +12,7 @@ use Rattle.rv_monitor.specs.declared.stop.Stop.{Stop}
 use Rattle.rv_monitor.specs.Events.{event_of, inputs_at, events_of}
 use Rattle.rv_monitor.specs.Laws.{IsReached}
 use Rattle.rv_monitor.specs.Resumed.{resumed}
-use Rattle.rv_monitor.specs.State.{TimedState, IsInTime, count_before, begun, after, with_due}
+use Rattle.rv_monitor.specs.State.{TimedState, IsInTime, count_before, begun, after}
 use Rattle.rv_monitor.specs.Stops.{stop_after}
 use Rattle.rv_monitor.specs.Support.TimedCalls.{HasStopped}
 use Rattle.rv_monitor.proofs.Times.{from, of, from_first, from_place, from_earlier, none_before, late_from, late_of, late_count, count_most}
@@ -35,11 +35,9 @@ module _ (t : ℕ) where
   none_left (x ∷ xs) = none_left xs
 
   pub counted_till : (xs : List TimedInput) (i : ℕ) (x d : TimedInput) → never_falls xs ≡ true → i < length xs
-      → x ≡ get_or xs i d → t ≤ x.step → i + count_before t (drop i xs) ≡ count_before t xs
-      → i ≡ count_before t xs
+      → x ≡ get_or xs i d → t ≤ x.step → i + count_before t (drop i xs) ≡ count_before t xs → i ≡ count_before t xs
   counted_till xs i x d rising h e k more =
-      let none : count_before t (drop i xs) ≡ 0 =
-      none_before t (drop i xs)
+      let none : count_before t (drop i xs) ≡ 0 = none_before t (drop i xs)
       (from_earlier t (get_or xs i d).step (drop i xs) (from_place xs i d rising h)
       (omega (arith, ap (λ y. y.step) e))) in
       omega (arith, none, more)
@@ -66,16 +64,9 @@ resumed_within (Err e) old new b taken most limit ok err k h = omega (arith, ap 
 
 -- ---- where no input of the next step was given, the board is what the steps taken left
 
-none_counted_by : (t : ℕ) (x : TimedInput) (xs : List TimedInput) (b c : Bool) → nat_eq x.step t ≡ b
-    → nat_lt x.step (t + 1) ≡ c → (count_before (t + 1) xs ≡ 0 → of t xs ≡ [])
-    → count_before (t + 1) (x ∷ xs) ≡ 0 → of t (x ∷ xs) ≡ []
-none_counted_by t x xs true c e f more h = search (rules, arith, lt-ltb, eqb-true)
-none_counted_by t x xs false true e f more h = search (rules, arith)
-none_counted_by t x xs false false e f more h = search (rules, arith)
-
 none_counted : (t : ℕ) (xs : List TimedInput) → count_before (t + 1) xs ≡ 0 → of t xs ≡ []
 none_counted t [] h = refl
-none_counted t (x ∷ xs) h = search (rules, arith, none_counted_by, none_counted t xs)
+none_counted t (x ∷ xs) h = search (rules, arith, lt-ltb, eqb-true, none_counted t xs)
 
 none_at : (t : ℕ) (xs : List TimedInput) → never_falls xs ≡ true → count_before (t + 1) xs ≡ count_before t xs
     → inputs_at xs t ≡ []
@@ -89,14 +80,8 @@ module _ (first : BoardState) (s : TimedState) (r : IsReached first s) where
   abbrev from_reset_on : TimedState
   from_reset_on = begun first s.inputs
 
-  left_by : (s ≡ after from_reset_on s.taken) ⊎ (s ≡ with_due (after from_reset_on s.taken))
-      → s.place ≡ count_before s.taken s.inputs → s.board ≡ run first (events_of s.inputs 0 s.taken)
-  left_by (inl e) h = ap (λ u. u.board) (e ∙ after_begun first s.inputs s.taken)
-  left_by (inr e) h = search (rules, arith, due_begun, none_at)
-
-  pub left_by_steps : s.place ≡ count_before s.taken s.inputs
-      → s.board ≡ run first (events_of s.inputs 0 s.taken)
-  left_by_steps h = left_by r.state h
+  pub left_by_steps : s.place ≡ count_before s.taken s.inputs → s.board ≡ run first (events_of s.inputs 0 s.taken)
+  left_by_steps h = search (rules, arith, after_begun, due_begun, none_at)
 
   -- ---- the steps that are left are taken again
 
@@ -107,12 +92,5 @@ module _ (first : BoardState) (s : TimedState) (r : IsReached first s) where
     resumed_is : resumed b s.inputs k ≡ after from_reset_on k
     resumed_is = search (rules, arith, after_begun)
 
-    on : (j : ℕ) → after (resumed b s.inputs k) j ≡ after from_reset_on (k + j)
-    on j = ap (λ u. after u j) resumed_is ∙ after_more from_reset_on k j r.rising
-
-    -- the board hadn't halted before any of them
-    all_taken : k + count ≡ n
-    all_taken = search (rules, arith, on, no_reason, no_member, false≢true, cases_lt)
-
     pub resumed_back : new ≡ after from_reset_on n
-    resumed_back = state ∙ (on count ∙ ap (after from_reset_on) all_taken)
+    resumed_back = search (rules, arith, resumed_is, after_more, no_reason, no_member, false≢true, cases_lt)

@@ -13,8 +13,7 @@ module _ (a : Addresses) (n : ℕ) (old new : SessionState) where
 
   pub took : (r : Result Stop NoMemory) → IfOk r (HasStopped a (most_of old n) old.timed new.timed)
       → new ≡ put new.timed → OnOk r (Took a n old new)
-  took (Ok stop) h e = search (rules, arith)
-  took (Err refusal) h e = tt
+  took r h e = search (rules, arith)
 
   pub word : (r : Result Stop NoMemory) → IfOk r (HasStopped a (most_of old n) old.timed new.timed)
       → IfOk r (λ stop. stop ≡ stop_of a old new)
@@ -23,5 +22,4 @@ module _ (a : Addresses) (n : ℕ) (old new : SessionState) where
 
   pub was_refused : (r : Result Stop NoMemory) → OnErr r (IsRefused a (most_of old n) old.timed new.timed)
       → new ≡ put new.timed → OnErr r (WasRefused a n old new)
-  was_refused (Ok stop) h e = tt
-  was_refused (Err refusal) h e = search (rules, arith)
+  was_refused r h e = search (rules, arith)

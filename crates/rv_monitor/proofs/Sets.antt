@@ -13,32 +13,26 @@ is_in xs q = list_any (nat_eq q) xs
 -- the members of the set are the elements of the list
 pub has : (xs : List ℕ) (q : ℕ) → contains (from_list {R = nat_cmp} xs) q ≡ is_in xs q
 has [] q = contains-empty nat_cmp q
-has (x ∷ xs) q = contains-insert nat_cmp_total _ x q
-    ∙ (ap (λ b. b || contains (from_list {R = nat_cmp} xs) q) (unsigned_tied q x)
-    ∙ ap (λ b. nat_eq q x || b) (has xs q))
+has (x ∷ xs) q = search (rules, arith, contains-insert, nat_cmp_total, unsigned_tied, has xs q)
 
 or_else : (a b : Bool) → cond a true b ≡ (a || b)
-or_else true b = refl
-or_else false b = refl
+or_else a b = search (rules, arith)
 
 and_not : (a b : Bool) → cond a false b ≡ (not a && b)
-and_not true b = refl
-and_not false b = refl
+and_not a b = search (rules, arith)
 
 -- a list with one more address is the set with one more
 pub inserted : (xs ys : List ℕ) (x : ℕ) → ((q : ℕ) → is_in ys q ≡ cond (nat_eq x q) true (is_in xs q)) →
     from_list {R = nat_cmp} ys ≡ insert (from_list xs) x
 inserted xs ys x each = same_set nat_cmp_total nat_cmp-IsAntisymmetric _ _ (λ q.
-    has ys q ∙ (each q ∙ (or_else (nat_eq x q) (is_in xs q)
-    ∙ sym (contains-insert nat_cmp_total (from_list xs) x q
+    has ys q ∙ (each q ∙ (or_else (nat_eq x q) (is_in xs q) ∙ sym (contains-insert nat_cmp_total (from_list xs) x q
     ∙ (ap (λ b. b || contains (from_list {R = nat_cmp} xs) q) (unsigned_tied q x ∙ nat_eq_equiv.symm q x)
     ∙ ap (λ b. nat_eq x q || b) (has xs q))))))
 
 -- an address that is there already, inserted again
 with_same : (s : set.FinSet nat_cmp) (x q : ℕ) (b : Bool) → nat_eq x q ≡ b → contains s x ≡ true →
     (nat_eq x q || contains s q) ≡ contains s q
-with_same s x q true e h = search (rules, arith)
-with_same s x q false e h = ap (λ b. b || contains s q) e
+with_same s x q b e h = search (rules, arith)
 
 -- so inserting it changes nothing
 pub there : (s : set.FinSet nat_cmp) (x : ℕ) → contains s x ≡ true → s ≡ insert s x
@@ -50,8 +44,7 @@ there s x h = same_set nat_cmp_total nat_cmp-IsAntisymmetric _ _ (λ q.
 pub removed : (xs ys : List ℕ) (x : ℕ) → ((q : ℕ) → is_in ys q ≡ cond (nat_eq x q) false (is_in xs q)) →
     from_list {R = nat_cmp} ys ≡ remove (from_list xs) x
 removed xs ys x each = same_set nat_cmp_total nat_cmp-IsAntisymmetric _ _ (λ q.
-    has ys q ∙ (each q ∙ (and_not (nat_eq x q) (is_in xs q)
-    ∙ sym (contains-remove nat_cmp_total (from_list xs) x q
+    has ys q ∙ (each q ∙ (and_not (nat_eq x q) (is_in xs q) ∙ sym (contains-remove nat_cmp_total (from_list xs) x q
     ∙ (ap (λ b. not b && contains (from_list {R = nat_cmp} xs) q)
     (unsigned_tied q x ∙ nat_eq_equiv.symm q x) ∙ ap (λ b. not (nat_eq x q) && b) (has xs q))))))
 
@@ -67,8 +60,7 @@ no_member q = sym (contains-empty nat_cmp q)
 -- where no element of the list lies between two addresses, no member of the set does
 pub none_between : (xs : List ℕ) (low high q : ℕ) → list_any (λ a. nat_le low a && nat_le a high) xs ≡ false →
     low ≤ q → q ≤ high → contains (from_list {R = nat_cmp} xs) q ≡ false
-none_between xs low high q none from to = has xs q ∙ outside xs none
-  where
-    outside : (ys : List ℕ) → list_any (λ a. nat_le low a && nat_le a high) ys ≡ false → is_in ys q ≡ false
-    outside [] e = refl
-    outside (y ∷ ys) e = grind (arith, rules, outside ys)
+none_between xs low high q none from to = has xs q ∙ outside xs none where
+  outside : (ys : List ℕ) → list_any (λ a. nat_le low a && nat_le a high) ys ≡ false → is_in ys q ≡ false
+  outside [] e = refl
+  outside (y ∷ ys) e = grind (arith, rules, outside ys)

@@ -1,5 +1,5 @@
 -- Commands that answer nothing lack no room; and the command after which no other follows.
-use Rattle.std.proofs.Common.{rules, ◌≡◌, ◌∙◌, ℕ, Option, Some, None, ap, refl, arith}
+use Rattle.std.proofs.Common.{rules, ◌≡◌, ◌∙◌, ℕ, Option, Some, ap, arith}
 use Rattle.std.specs.Prelude.{◌≢◌}
 use Rattle.rv_ram.specs.Room.{RoomRule}
 use Rattle.rv_commands.specs.declared.command.Command.{Command}
@@ -21,14 +21,10 @@ no_nothing rule c room old new h e = search (rules, arith)
 -- ---- whether commands follow
 
 pub more_of : (c : Option Command) → c ≢ Some Quit → next_of c ≡ next.More
-more_of None other = refl
-more_of (Some Quit) other = absurd (other refl)
-more_of (Some command) other = refl
+more_of c other = search (rules, arith)
 
 pub quit_is : (c : Option Command) → next.Quit ≡ next_of c → c ≡ Some Quit
-quit_is None is = absurd cc
-quit_is (Some Quit) is = refl
-quit_is (Some command) is = absurd cc
+quit_is c is = search (rules, arith)
 
 pub not_quit : (c : Option Command) → next.More ≡ next_of c → c ≢ Some Quit
 not_quit c is e = let bad : next.More ≡ next.Quit = is ∙ ap next_of e in cc
@@ -41,6 +37,4 @@ more_next n c other is = is ∙ more_of c other
 
 pub next_is : (n : Next) (c : Option Command) → (c ≡ Some Quit → n ≡ next.Quit)
     → (c ≢ Some Quit → n ≡ next.More) → n ≡ next_of c
-next_is n None quits more = more (λ e. cc)
-next_is n (Some Quit) quits more = quits refl
-next_is n (Some command) quits more = more (λ e. cc)
+next_is n c quits more = search (rules, arith)

@@ -2,19 +2,17 @@
 use Rattle.std.proofs.lemmas.Bool.Decides.{nat_tests}
 use Rattle.std.proofs.lemmas.Grind.{common_steps}
 use Rattle.std.proofs.Common.{rules, ◌≡◌, ◌∙◌, ℕ, zero, suc, ◌+◌, ◌<◌, ◌≤◌, true, false, List, [], ◌∷◌, ◌++◌, length, get_or, take, drop, replicate, refl, sym, ap, arith, append-nil, append_assoc, add_assoc}
-use Rattle.std.specs.Prelude.{nat_eq, map, Option, Some, None}
+use Rattle.std.specs.Prelude.{nat_eq, map}
 use Rattle.std.proofs.lemmas.List.{map-append, length-drop, drop-drop, replicate_more}
 use Rattle.std.proofs.lemmas.List.Elements.{filter_more}
 use Rattle.std.proofs.lemmas.List.Filters.{length-filter_more}
 use Rattle.std.proofs.lemmas.Bool.{eq-eqb, lt-ltb}
 use Rattle.rv_board.specs.Support.State.{BoardState, halted_of}
 use Rattle.rv_board.specs.Move.{moved, run, writes}
-use Rattle.rv_board.specs.Support.MoveParts.{happens}
 use Rattle.rv_board.specs.PlainSteps.{after_steps}
 use Rattle.rv_board.specs.declared.event.Event.TheVariants.{Step}
 use Rattle.rv_board.proofs.Runs.{run_append, run_more}
 use Rattle.rv_timeline.specs.declared.input.Input.{Input}
-use Rattle.rv_timeline.specs.declared.input.Input.TheVariants.{Rx, Line}
 use Rattle.rv_timeline.specs.declared.input.TimedInput.{TimedInput}
 use Rattle.rv_timeline.specs.Timed.{never_falls}
 use Rattle.rv_monitor.specs.Events.{event_of, inputs_at, events_of}
@@ -25,8 +23,7 @@ use Rattle.rv_monitor.proofs.Times.{from, of, from_earlier, late_from, late_of, 
 
 pub input_writes_not : (b : BoardState) (i : Input) → writes b (event_of i) ≡ false
 unfolding writes
-input_writes_not b (Rx byte) = refl
-input_writes_not b (Line source high) = refl
+input_writes_not b i = search (rules, arith)
 
 -- ---- events of more steps
 
@@ -52,8 +49,7 @@ events_join xs t k (suc j) =
     ap (events_of xs t) e ∙ rw (
       events_join xs t k j,
       f,
-    ) (append_assoc (events_of xs t k) (events_of xs (t + k) j)
-    (inputs_at xs ((t + k) + j) ++ Step ∷ []))
+    ) (append_assoc (events_of xs t k) (events_of xs (t + k) j) (inputs_at xs ((t + k) + j) ++ Step ∷ []))
 
 -- the run of a first step's events
 pub run_step : (b : BoardState) (xs : List TimedInput) (t : ℕ) →
@@ -61,27 +57,11 @@ pub run_step : (b : BoardState) (xs : List TimedInput) (t : ℕ) →
 unfolding events_of
 run_step b xs t = search (rules, arith, run_more)
 
--- steps and then more steps, with the inputs that are left
-pub run_join : (b : BoardState) (xs : List TimedInput) (t k j : ℕ) → never_falls xs ≡ true
-    → run (run b (events_of xs t k)) (events_of (drop (count_before (t + k) xs) xs) (t + k) j)
-    ≡ run b (events_of xs t (k + j))
-run_join b xs t k j h = search (rules, arith, events_late, run_append, events_join)
-
 -- steps after inputs that were given ahead of them
 pub none_due : (xs : List TimedInput) (t : ℕ) → never_falls xs ≡ true →
     inputs_at (drop (count_before (t + 1) xs) xs) t ≡ []
 unfolding inputs_at
 none_due xs t h = search (rules, arith, none_of, late_from)
-
--- a first step and more steps
-run_first : (b : BoardState) (xs : List TimedInput) (t j : ℕ) →
-    run b (events_of xs t (1 + j)) ≡ run (moved (run b (inputs_at xs t)) Step) (events_of xs (t + 1) j)
-run_first b xs t j = search (rules, arith, events_join, run_append, run_step)
-
-pub run_due : (b : BoardState) (xs : List TimedInput) (t j : ℕ) → never_falls xs ≡ true
-    → run (run b (inputs_at xs t)) (events_of (drop (count_before (t + 1) xs) xs) t (1 + j))
-    ≡ run b (events_of xs t (1 + j))
-run_due b xs t j h = search (rules, arith, run_first, none_due, events_late)
 
 -- ---- states
 
@@ -108,15 +88,13 @@ after_none s h =
     ap (λ t. count_before t (rest s)) now ∙ none_before s.taken (rest s) h.ahead in
     same s.board s.board s.inputs _ _ _ _ refl (omega (arith, none)) now
 
-pub after_more : (s : TimedState) (k j : ℕ) → never_falls s.inputs ≡ true →
-    after (after s k) j ≡ after s (k + j)
+pub after_more : (s : TimedState) (k j : ℕ) → never_falls s.inputs ≡ true → after (after s k) j ≡ after s (k + j)
 unfolding after
-after_more s k j h = search (rules, arith, same, rest_late, run_join, drop_rises, place_late)
+after_more s k j h = search (rules, arith, same, rest_late, events_late, run_append, events_join, drop_rises, place_late)
 
-pub after_due : (s : TimedState) (j : ℕ) → never_falls s.inputs ≡ true →
-    after (with_due s) (1 + j) ≡ after s (1 + j)
+pub after_due : (s : TimedState) (j : ℕ) → never_falls s.inputs ≡ true → after (with_due s) (1 + j) ≡ after s (1 + j)
 unfolding after with_due
-after_due s j h = search (rules, arith, same, rest_late, run_due, drop_rises, place_late)
+after_due s j h = search (rules, arith, same, rest_late, events_join, run_append, run_step, none_due, events_late, drop_rises, place_late)
 
 pub after_rises : (s : TimedState) (k : ℕ) → never_falls s.inputs ≡ true → never_falls (after s k).inputs ≡ true
 unfolding after
@@ -145,20 +123,10 @@ after_quiet s n h = search (rules, arith, none_before, same, events_quiet)
 
 -- ---- no input halts a board
 
-halted_input : (h : Option ℕ) (b : BoardState) (i : Input) → halted_of b ≡ h →
-    halted_of (happens h b (event_of i)) ≡ h
-halted_input None b (Rx byte) e = e
-halted_input None b (Line source high) e = e
-halted_input (Some code) b i e = e
-
-halted_moved : (b : BoardState) (i : Input) → halted_of (moved b (event_of i)) ≡ halted_of b
+halted_run : (b : BoardState) (is : List TimedInput) → halted_of (run b (map (λ x. event_of x.input) is)) ≡ halted_of b
 unfolding moved
-halted_moved b i = halted_input (halted_of b) b i refl
-
-halted_run : (b : BoardState) (is : List TimedInput) →
-    halted_of (run b (map (λ x. event_of x.input) is)) ≡ halted_of b
 halted_run b [] = refl
-halted_run b (x ∷ xs) = halted_run (moved b (event_of x.input)) xs ∙ halted_moved b x.input
+halted_run b (x ∷ xs) = search (rules, arith, halted_run (moved b (event_of x.input)) xs)
 
 pub halted_due : (s : TimedState) → halted_of (with_due s).board ≡ halted_of s.board
 unfolding with_due inputs_at
@@ -188,16 +156,9 @@ module _ (b : BoardState) (xs : List TimedInput) (place t later : ℕ)
   abbrev quiet_state : TimedState
   quiet_state = record { board = b; inputs = xs; place = place; taken = t }
 
-  all_later : from (t + 1) (drop place xs) ≡ true
-  all_later = from_earlier (t + 1) later (drop place xs) quiet (omega arith)
-
-  none_now : inputs_at (drop place xs) t ≡ []
-  unfolding inputs_at
-  none_now = ap (map (λ x. event_of x.input)) (none_of t (drop place xs) all_later)
-
   pub none_is_due : quiet_state ≡ with_due quiet_state
-  unfolding with_due
-  none_is_due = search (rules, arith, none_before, all_later, same, none_now)
+  unfolding with_due inputs_at
+  none_is_due = search (rules, arith, none_before, from_earlier, same, none_of)
 
 -- a state whose next n inputs were given, by its fields
 module _ (b : BoardState) (xs more : List TimedInput) (place t n : ℕ) (is : more ≡ drop place xs)
@@ -215,10 +176,8 @@ module _ (b : BoardState) (xs more : List TimedInput) (place t n : ℕ) (is : mo
       in record { within = g.within; rising = g.rising; ahead = g.ahead })
 
   pub given_all : (p : ℕ) → IsInTime old → p ≡ place + n → from (t + 1) (drop p xs) ≡ true
-  given_all p h at =
-      ap (λ i. from (t + 1) (drop i xs)) (at ∙ ap (λ i. place + i) number)
-      ∙ (ap (from (t + 1)) (rest_late old (t + 1))
-      ∙ late_from (t + 1) (rest old) (drop_rises place xs h.rising))
+  given_all p h at = ap (λ i. from (t + 1) (drop i xs)) (at ∙ ap (λ i. place + i) number)
+      ∙ (ap (from (t + 1)) (rest_late old (t + 1)) ∙ late_from (t + 1) (rest old) (drop_rises place xs h.rising))
 
   pub given_is_due : (c : BoardState) (p : ℕ) → c ≡ run b (inputs_at more t) → p ≡ place + n →
       ◌≡◌ {A = TimedState} (record { board = c; inputs = xs; place = p; taken = t }) (with_due old)
@@ -227,16 +186,14 @@ module _ (b : BoardState) (xs more : List TimedInput) (place t n : ℕ) (is : mo
 
 -- ---- the inputs of a time are given one after another
 
-inputs_more : (xs : List TimedInput) (t i : ℕ) (d : TimedInput) → i < length xs →
-    nat_eq (get_or xs i d).step t ≡ true
+inputs_more : (xs : List TimedInput) (t i : ℕ) (d : TimedInput) → i < length xs → nat_eq (get_or xs i d).step t ≡ true
     → inputs_at (take (i + 1) xs) t ≡ inputs_at (take i xs) t ++ event_of (get_or xs i d).input ∷ []
 unfolding inputs_at
 inputs_more xs t i d lt e = rw (filter_more (λ x. nat_eq x.step t) xs i d lt, e, map-append) refl
 
 -- one more input is given
 pub ran_more : (b s new : BoardState) (xs : List TimedInput) (t i : ℕ) (x d : TimedInput) → from t xs ≡ true →
-    i < length xs
-    → x ≡ get_or xs i d → x.step ≤ t → s ≡ run b (inputs_at (take i xs) t) →
+    i < length xs → x ≡ get_or xs i d → x.step ≤ t → s ≡ run b (inputs_at (take i xs) t) →
     new ≡ moved s (event_of x.input) → new ≡ run b (inputs_at (take (i + 1) xs) t)
 ran_more b s new xs t i x d h lt at le was is =
     let here : (get_or xs i d).step ≤ t = rw (← at) le in
@@ -246,15 +203,13 @@ ran_more b s new xs t i x d h lt at le was is =
     ∙ (sym (run_more b (inputs_at (take i xs) t) (event_of (get_or xs i d).input))
     ∙ ap (run b) (sym (inputs_more xs t i d lt due)))))
 
-pub count_more : (xs : List TimedInput) (t i : ℕ) (x d : TimedInput) → i < length xs → x ≡ get_or xs i d →
-    x.step ≤ t
+pub count_more : (xs : List TimedInput) (t i : ℕ) (x d : TimedInput) → i < length xs → x ≡ get_or xs i d → x.step ≤ t
     → count_before (t + 1) (take i xs) ≡ i → count_before (t + 1) (take (i + 1) xs) ≡ i + 1
 count_more xs t i x d lt at le was = grind (arith, nat_tests, common_steps, length-filter_more, lt-ltb)
 
 -- at an input of a later time all inputs of this time are given
 pub ran_all : (b s : BoardState) (xs : List TimedInput) (t i : ℕ) (x d : TimedInput) → never_falls xs ≡ true →
-    i < length xs
-    → x ≡ get_or xs i d → t < x.step → s ≡ run b (inputs_at (take i xs) t) → s ≡ run b (inputs_at xs t)
+    i < length xs → x ≡ get_or xs i d → t < x.step → s ≡ run b (inputs_at (take i xs) t) → s ≡ run b (inputs_at xs t)
 unfolding inputs_at
 ran_all b s xs t i x d h lt at later was = search (rules, arith, later_of)
 
@@ -267,11 +222,7 @@ count_all xs t i x d h lt at later was = search (rules, arith, later_count)
 pub runs_join : (b : BoardState) (timed : List TimedInput) (k j : ℕ) → never_falls timed ≡ true
     → run (run b (events_of timed 0 k)) (events_of (drop (count_before k timed) timed) k j)
     ≡ run b (events_of timed 0 (k + j))
-runs_join b timed k j h =
-    let z : 0 + k ≡ k = omega arith in
-    let joined = run_join b timed 0 k j h in
-    rw z at joined
+runs_join b timed k j h = search (rules, arith, events_late, run_append, events_join)
 
-pub again : (s : TimedState) → IsInTime s → (k j : ℕ)
-    → after (with_due (after s k)) (1 + j) ≡ after s (k + (1 + j))
+pub again : (s : TimedState) → IsInTime s → (k j : ℕ) → after (with_due (after s k)) (1 + j) ≡ after s (k + (1 + j))
 again s h k j = after_due (after s k) j (after_rises s k h.rising) ∙ after_more s k (1 + j) h.rising

@@ -1,5 +1,5 @@
 -- When a call ends.
-use Rattle.std.proofs.Common.{rules, ◌≡◌, ◌∙◌, ℕ, zero, suc, ◌+◌, ◌-◌, ◌<◌, ◌≤◌, Bool, true, false, cond, List, drop, refl, sym, ap, arith, below_more, ⊎_elim}
+use Rattle.std.proofs.Common.{rules, ◌≡◌, ◌∙◌, ℕ, ◌+◌, ◌-◌, ◌<◌, ◌≤◌, true, false, List, drop, refl, sym, ap, arith, below_more, ⊎_elim}
 use Rattle.std.specs.Prelude.{Option, Some, None, unwrap_or, is_some}
 use Rattle.std.specs.FinSet as set
 use Rattle.std.proofs.lemmas.Bool.{cases_lt, false≢true, lt-ltb}
@@ -9,7 +9,7 @@ use Rattle.rv_board.specs.Move.{writes}
 use Rattle.rv_board.specs.PlainSteps.{after_steps}
 use Rattle.rv_board.specs.declared.event.Event.TheVariants.{Step}
 use Rattle.rv_monitor.specs.declared.stop.Stop.{Stop}
-use Rattle.rv_monitor.specs.declared.stop.Stop.TheVariants.{Halted, Breakpoint, Limit}
+use Rattle.rv_monitor.specs.declared.stop.Stop.TheVariants.{Halted, Limit}
 use Rattle.rv_monitor.specs.State.{Addresses, TimedState, IsInTime, rest, after, with_due}
 use Rattle.rv_monitor.specs.Stops.{stop_after}
 use Rattle.rv_monitor.specs.Support.TimedCalls.{HasStopped, IsRefused}
@@ -28,22 +28,12 @@ same_stop a b m n h k = rw (lt-ltb 0 m h, lt-ltb 0 n k) refl
 pub no_reason : (a : Addresses) (b : BoardState) (n : ℕ) → halted_of b ≡ None
     → (0 < n → set.contains a (pc_of b) ≡ false) → stop_after a b n ≡ None
 unfolding stop_after
-no_reason a b zero runs unmarked = rw runs refl
-no_reason a b (suc n) runs unmarked = rw (runs, unmarked (omega arith), lt-ltb 0 (suc n) (omega arith)) refl
-
-halted_first : (a : Addresses) (b : BoardState) → is_some (halted_of b) ≡ true → stop_after a b 0 ≡ Some Halted
-unfolding stop_after
-halted_first a b e = rw e refl
-
-running_by : (h : Option ℕ) (marked : Bool)
-    → cond (is_some h) (Some Halted) (cond marked (Some Breakpoint) None) ≡ None → h ≡ None
-running_by None marked e = refl
-running_by (Some code) marked e = absurd cc
+no_reason a b n runs unmarked = search (rules, arith, lt-ltb)
 
 -- where there is none the board hasn't halted
 pub running : (a : Addresses) (b : BoardState) (n : ℕ) → stop_after a b n ≡ None → halted_of b ≡ None
 unfolding stop_after
-running a b n e = running_by (halted_of b) _ e
+running a b n e = search (rules, arith)
 
 -- the number of steps that a call took
 pub taken_is : (s new : TimedState) (n : ℕ) → new ≡ after s n → new.taken ≡ s.taken + n
@@ -72,22 +62,13 @@ module _ (a : Addresses) (s : TimedState) where
       rw (first, after_none s h) (no_reason a s.board 0 e (λ above. absurd (omega arith)))
 
   pub stopped_at_once : (most : ℕ) → IsInTime s → is_some (halted_of s.board) ≡ true → HasStopped a most s s Halted
-  stopped_at_once most h e =
-      let halted = halted_first a s.board e in
-      record {
-        count = 0;
-        within = omega arith;
-        going = λ i less. absurd (omega arith);
-        least = λ less. ap is_some halted;
-        state = sym (after_none s h);
-        word = ended_for a s s 0 Halted (Some Halted) (sym (after_none s h)) halted refl;
-      }
+  unfolding stop_after
+  stopped_at_once most h e = search (rules, arith, after_none, ended_for)
 
   pub stopped_at_limit : (most n : ℕ) (new : TimedState) → GoesOn a s (n + 1) → n ≡ most → new ≡ after s n
       → HasStopped a most s new Limit
   stopped_at_limit most n new before all is =
-      let none : stop_after a new.board n ≡ None =
-      ap (λ u. stop_after a u.board n) is ∙ before n (omega arith) in
+      let none : stop_after a new.board n ≡ None = ap (λ u. stop_after a u.board n) is ∙ before n (omega arith) in
       record {
         count = n;
         within = omega arith;
@@ -139,15 +120,13 @@ module _ (a : Addresses) (s : TimedState) (h : IsInTime s) (n : ℕ) (mid given 
         is ∙ (ap (λ b. with_board b (given.taken + k)) took.state ∙ (sym (alone k (omega arith)) ∙ joined k some))
 
     goes_to : GoesOn a s (n + k)
-    goes_to i less = ⊎_elim
-        (λ earlier. before i earlier)
+    goes_to i less = ⊎_elim (λ earlier. before i earlier)
         (λ further.
         let sum : n + (i - n) ≡ i = omega arith in
         ap (λ m. stop_after a (after s m).board i) (sym sum)
         ∙ (ap (λ b. stop_after a b i) (board_at (i - n) (omega arith) (omega arith))
         ∙ (same_stop a (after_steps given.board (i - n)) i (i - n) (omega arith) (omega arith)
-        ∙ took.going (i - n) (omega arith))))
-        (cases_lt i (n + 1))
+        ∙ took.going (i - n) (omega arith)))) (cases_lt i (n + 1))
 
     ends : 0 < k → stop_after a new.board (n + k) ≡ reason
     ends some = same_stop a new.board (n + k) k (omega arith) some ∙ sym took.ends

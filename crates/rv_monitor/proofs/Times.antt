@@ -1,5 +1,5 @@
 -- Lists of inputs whose times never fall.
-use Rattle.std.proofs.Common.{rules, ◌≡◌, ◌∙◌, ℕ, suc, ◌+◌, ◌<◌, ◌≤◌, Bool, true, false, List, [], ◌∷◌, length, get_or, take, drop, refl, ap, arith, zero-add, zero}
+use Rattle.std.proofs.Common.{rules, ◌≡◌, ℕ, suc, ◌+◌, ◌<◌, ◌≤◌, Bool, true, false, List, [], ◌∷◌, length, get_or, take, drop, refl, arith, zero-add, zero}
 use Rattle.std.specs.Prelude.{nat_le, nat_lt, ◌==◌, filter}
 use Rattle.std.specs.List.{list_all}
 use Rattle.std.proofs.lemmas.List.Sums.{length-filter, count_by-le-length}
@@ -7,9 +7,6 @@ use Rattle.std.proofs.lemmas.Bool.{and_parts, leb-true, ltb-true, ltb-false, le-
 use Rattle.rv_timeline.specs.declared.input.TimedInput.{TimedInput}
 use Rattle.rv_timeline.specs.Timed.{never_falls}
 use Rattle.rv_monitor.specs.State.{count_before}
-
-suc_sum : (a b c : ℕ) → a + b ≡ c → suc a + b ≡ suc c
-suc_sum a b c h = omega arith
 
 -- ---- lists that never fall
 
@@ -29,22 +26,17 @@ of t xs = filter (λ x. x.step == t) xs
 
 pub tail_rises : (x : TimedInput) (xs : List TimedInput) → never_falls (x ∷ xs) ≡ true → never_falls xs ≡ true
 unfolding never_falls
-tail_rises x [] h = refl
-tail_rises x (y ∷ ys) h = (and_parts (nat_le x.step y.step) (never_falls (y ∷ ys)) h).1
-
-head_least : (x y : TimedInput) (ys : List TimedInput) → never_falls (x ∷ y ∷ ys) ≡ true → x.step ≤ y.step
-unfolding never_falls
-head_least x y ys h = leb-true x.step y.step (and_parts (nat_le x.step y.step) (never_falls (y ∷ ys)) h).0
+tail_rises x xs h = search (rules, arith, and_parts)
 
 pub all_from : (t : ℕ) (x : TimedInput) (xs : List TimedInput) → never_falls (x ∷ xs) ≡ true → t ≤ x.step →
     from t (x ∷ xs) ≡ true
+unfolding never_falls
 all_from t x [] h k = rw (le-leb t x.step k) refl
-all_from t x (y ∷ ys) h k = search (rules, arith, head_least, le-leb, tail_rises, all_from t y ys)
+all_from t x (y ∷ ys) h k = search (rules, arith, leb-true, and_parts, le-leb, tail_rises, all_from t y ys)
 
 pub drop_rises : (n : ℕ) (xs : List TimedInput) → never_falls xs ≡ true → never_falls (drop n xs) ≡ true
-drop_rises zero xs h = h
-drop_rises (suc n) [] h = h
 drop_rises (suc n) (x ∷ xs) h = drop_rises n xs (tail_rises x xs h)
+drop_rises n xs h = h
 
 -- the time of the input at an index is the least from there on, and after the last there is none
 pub from_place : (xs : List TimedInput) (n : ℕ) (d : TimedInput) → never_falls xs ≡ true → n < length xs →
@@ -54,10 +46,9 @@ from_place (x ∷ xs) zero d h k = all_from x.step x xs h (omega arith)
 from_place (x ∷ xs) (suc n) d h k = from_place xs n d (tail_rises x xs h) (omega arith)
 
 pub from_end : (t n : ℕ) (xs : List TimedInput) → length xs ≤ n → from t (drop n xs) ≡ true
-from_end t zero [] h = refl
-from_end t (suc n) [] h = refl
 from_end t zero (x ∷ xs) h = absurd (omega arith)
 from_end t (suc n) (x ∷ xs) h = from_end t n xs (omega arith)
+from_end t n xs h = refl
 
 -- a time that all inputs have reached is at most the time of the first
 pub place_from : (xs : List TimedInput) (n : ℕ) (d : TimedInput) (t : ℕ) → n < length xs →
@@ -72,9 +63,8 @@ from_earlier t u [] h k = refl
 from_earlier t u (x ∷ xs) h k = search (rules, arith, head_from, le-leb, tail_from, from_earlier t u xs)
 
 pub drop_from : (t n : ℕ) (xs : List TimedInput) → from t xs ≡ true → from t (drop n xs) ≡ true
-drop_from t zero xs h = h
-drop_from t (suc n) [] h = h
 drop_from t (suc n) (x ∷ xs) h = drop_from t n xs (tail_from t x xs h)
+drop_from t n xs h = h
 
 -- no input is before a time that all have reached
 pub none_before : (t : ℕ) (xs : List TimedInput) → from t xs ≡ true → count_before t xs ≡ 0
@@ -98,38 +88,19 @@ module _ (t : ℕ) where
       count_before t (x ∷ xs) ≡ 0
   late_all x xs h e = none_before t (x ∷ xs) (all_from t x xs h (ltb-false x.step t e))
 
-  late_rest : (x : TimedInput) (xs : List TimedInput) → nat_lt x.step t ≡ true → late (x ∷ xs) ≡ late xs
-  late_rest x xs e = rw e refl
-
-  late_from_by : (x : TimedInput) (xs : List TimedInput) (b : Bool) → nat_lt x.step t ≡ b →
-      never_falls (x ∷ xs) ≡ true → from t (late xs) ≡ true → from t (late (x ∷ xs)) ≡ true
-  late_from_by x xs true e h more = ap (from t) (late_rest x xs e) ∙ more
-  late_from_by x xs false e h more = search (rules, arith, late_all, all_from, ltb-false)
-
   pub late_from : (xs : List TimedInput) → never_falls xs ≡ true → from t (late xs) ≡ true
   late_from [] h = refl
-  late_from (x ∷ xs) h = late_from_by x xs (nat_lt x.step t) refl h (late_from xs (tail_rises x xs h))
+  late_from (x ∷ xs) h = search (rules, arith, late_all, all_from, ltb-false, tail_rises, late_from xs (tail_rises x xs h))
 
   module _ (u : ℕ) (k : t ≤ u) where
-    late_of_by : (x : TimedInput) (xs : List TimedInput) (b : Bool) → nat_lt x.step t ≡ b →
-        never_falls (x ∷ xs) ≡ true → of u (late xs) ≡ of u xs → of u (late (x ∷ xs)) ≡ of u (x ∷ xs)
-    late_of_by x xs true e h more = search (rules, arith, ltb-true, ne_eqb, late_rest)
-    late_of_by x xs false e h more = ap (λ n. of u (drop n (x ∷ xs))) (late_all x xs h e)
-
     pub late_of : (xs : List TimedInput) → never_falls xs ≡ true → of u (late xs) ≡ of u xs
     late_of [] h = refl
-    late_of (x ∷ xs) h = late_of_by x xs (nat_lt x.step t) refl h (late_of xs (tail_rises x xs h))
-
-    late_count_by : (x : TimedInput) (xs : List TimedInput) (b : Bool) → nat_lt x.step t ≡ b →
-        never_falls (x ∷ xs) ≡ true → count_before t xs + count_before u (late xs) ≡ count_before u xs
-        → count_before t (x ∷ xs) + count_before u (late (x ∷ xs)) ≡ count_before u (x ∷ xs)
-    late_count_by x xs true e h more = search (rules, arith, ltb-true, lt-ltb, suc_sum)
-    late_count_by x xs false e h more = search (rules, arith, late_all, zero-add)
+    late_of (x ∷ xs) h = search (rules, arith, ltb-true, ne_eqb, late_all, tail_rises, late_of xs (tail_rises x xs h))
 
     pub late_count : (xs : List TimedInput) → never_falls xs ≡ true →
         count_before t xs + count_before u (late xs) ≡ count_before u xs
     late_count [] h = refl
-    late_count (x ∷ xs) h = late_count_by x xs (nat_lt x.step t) refl h (late_count xs (tail_rises x xs h))
+    late_count (x ∷ xs) h = search (rules, arith, ltb-true, lt-ltb, late_all, zero-add, tail_rises, late_count xs (tail_rises x xs h))
 
 -- ---- the inputs of a time that all have reached, one after another
 
@@ -152,13 +123,8 @@ module _ (t : ℕ) where
   later_of (x ∷ xs) zero d h k l = none_of (x ∷ xs) (all_from (t + 1) x xs h (omega arith))
   later_of (x ∷ xs) (suc i) d h k l = search (rules, arith, tail_rises, later_of xs i d)
 
-  more_count : (x : TimedInput) (xs ys : List TimedInput) →
-      count_before (t + 1) xs ≡ count_before (t + 1) ys →
-      count_before (t + 1) (x ∷ xs) ≡ count_before (t + 1) (x ∷ ys)
-  more_count x xs ys e = search (rules, arith)
-
   pub later_count : (xs : List TimedInput) (i : ℕ) (d : TimedInput) → never_falls xs ≡ true → i < length xs →
       t < (get_or xs i d).step → count_before (t + 1) xs ≡ count_before (t + 1) (take i xs)
   later_count [] i d h k l = absurd (omega arith)
   later_count (x ∷ xs) zero d h k l = none_before (t + 1) (x ∷ xs) (all_from (t + 1) x xs h (omega arith))
-  later_count (x ∷ xs) (suc i) d h k l = search (rules, arith, more_count, tail_rises, later_count xs i d)
+  later_count (x ∷ xs) (suc i) d h k l = search (rules, arith, tail_rises, later_count xs i d)

@@ -1,25 +1,20 @@
 -- The lines of traps, one after another.
-use Rattle.std.proofs.Common.{◌≡◌, ◌∙◌, ℕ, zero, suc, ◌+◌, ◌<◌, ◌≤◌, List, [], ◌∷◌, ◌++◌, length, take, refl, ap, add-one, append-nil, append_assoc, rules, arith}
+use Rattle.std.proofs.Common.{◌≡◌, ℕ, zero, suc, ◌+◌, ◌<◌, ◌≤◌, List, [], ◌∷◌, ◌++◌, length, take, ap, add-one, append-nil, append_assoc, rules, arith}
 use Rattle.std.specs.Prelude.{Option, Some, IsSome, slice_get}
 use Rattle.std.specs.List.{flat_map}
 use Rattle.std.proofs.lemmas.List.{take_all}
 use Rattle.rv_board.specs.declared.event.TrapRecord.{TrapRecord}
 use Rattle.rv_monitor.specs.Views.{trap_text}
 
-none : (ts : List TrapRecord) → flat_map trap_text (take 0 ts) ≡ []
-none [] = refl
-none (t ∷ ts) = refl
-
 more : (ts : List TrapRecord) (i : ℕ) (t : TrapRecord) → Some t ≡ slice_get ts i →
     flat_map trap_text (take (suc i) ts) ≡ flat_map trap_text (take i ts) ++ trap_text t
-more [] zero t e = absurd cc
-more [] (suc i) t e = absurd cc
 more (x ∷ xs) zero t e = let same : t ≡ x = cc in rw same (append-nil (trap_text x))
 more (x ∷ xs) (suc i) t e = search (rules, arith, append_assoc, more xs i t e)
+more ts i t e = cc
 
 -- no line after a text
 pub no_trap : (text : List ℕ) (ts : List TrapRecord) → text ++ flat_map trap_text (take 0 ts) ≡ text
-no_trap text ts = ap (λ lines. text ++ lines) (none ts) ∙ append-nil text
+no_trap text ts = search (rules, arith, append-nil)
 
 -- one more line
 pub one_more_trap : (text : List ℕ) (ts : List TrapRecord) (i : ℕ) (t : TrapRecord) → Some t ≡ slice_get ts i
@@ -33,8 +28,7 @@ all_traps text ts n h = ap (λ lines. text ++ flat_map trap_text lines) (take_al
 
 -- a text with the lines of the first i traps, with the next line appended, has those of i + 1
 pub trap_appended : (text before after : List ℕ) (ts : List TrapRecord) (i : ℕ) (t : TrapRecord) →
-    Some t ≡ slice_get ts i
-    → before ≡ text ++ flat_map trap_text (take i ts) → after ≡ before ++ trap_text t →
+    Some t ≡ slice_get ts i → before ≡ text ++ flat_map trap_text (take i ts) → after ≡ before ++ trap_text t →
     after ≡ text ++ flat_map trap_text (take (i + 1) ts)
 trap_appended text before after ts i t here stands appended = search (rules, arith, one_more_trap)
 

@@ -6,7 +6,5 @@ use Rattle.rv_monitor.proofs.views.memory.write_memory.Given as goal
 
 -- the lines below the number were appended, and there is room for the others
 abbrev pub invariant-loop-number : goal.invariant-loop-number
-invariant-loop-number g l =
-    (l.text.items ≡ l.fn.text.items ++ pieces (memory_line l.board l.addr l.count) l.number)
-    × (vec_len l.text + 10 * (div_ceil l.count 16 - l.number) + 3 * (l.count - 16 * l.number)
-    ≤ vec_capacity l.text)
+invariant-loop-number g l = (l.text.items ≡ l.fn.text.items ++ pieces (memory_line l.board l.addr l.count) l.number)
+    × (vec_len l.text + 10 * (div_ceil l.count 16 - l.number) + 3 * (l.count - 16 * l.number) ≤ vec_capacity l.text)

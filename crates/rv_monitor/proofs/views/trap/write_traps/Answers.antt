@@ -11,8 +11,7 @@ append_trap-requires g c = search (rules, arith)
 
 pub loop-index-preserved : goal.loop-index-preserved
 loop-index-preserved g c =
-    let here : Some c.unwrap-trap.result ≡ slice_get c.args.board.now.traps c.loop-index.index =
-    search rules in (
+    let here : Some c.unwrap-trap.result ≡ slice_get c.args.board.now.traps c.loop-index.index = search rules in (
       trap_appended c.args.text.now.items c.loop-index.text.items c.append_trap.new.text.items
           c.args.board.now.traps c.loop-index.index c.unwrap-trap.result
           here c.loop-index.invariant.0 c.append_trap.ensures.0,

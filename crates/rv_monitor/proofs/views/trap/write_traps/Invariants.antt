@@ -5,6 +5,5 @@ use Rattle.rv_monitor.proofs.views.trap.write_traps.Given as goal
 
 -- the lines of the traps before the index were appended, and there is room for the others
 abbrev pub invariant-loop-index : goal.invariant-loop-index
-invariant-loop-index g l =
-    (l.text.items ≡ l.fn.text.items ++ flat_map trap_text (take l.index l.board.traps))
+invariant-loop-index g l = (l.text.items ≡ l.fn.text.items ++ flat_map trap_text (take l.index l.board.traps))
     × (vec_len l.text + 47 * (length l.board.traps - l.index) ≤ vec_capacity l.text)
