@@ -92,9 +92,6 @@ module _ (t : ℕ) (input : Input) where
     events_before zero h = refl
     events_before (suc k) h = search (rules, arith, left_out, ne_eqb, same, events_before k)
 
-    abbrev late : List TimedInput
-    late = drop (count_before (t + 1) xs) xs
-
 -- ---- states that are reached
 
 -- a board with timed inputs after its first steps, by its fields

@@ -1,5 +1,5 @@
 -- Boards that go on after some of their steps.
-use Rattle.std.proofs.Common.{rules, ◌≡◌, ◌∙◌, ℕ, zero, suc, ◌+◌, ◌-◌, ◌<◌, ◌≤◌, true, List, [], ◌∷◌, length, get_or, drop, refl, sym, ap, arith}
+use Rattle.std.proofs.Common.{rules, ◌≡◌, ◌∙◌, ℕ, ◌+◌, ◌-◌, ◌<◌, ◌≤◌, true, List, [], ◌∷◌, length, get_or, drop, refl, sym, ap, arith}
 use Rattle.std.specs.Prelude.{map, IsSome, Result, Ok, Err, OnErr, IfOk}
 use Rattle.std.specs.FinSet as set
 use Rattle.std.proofs.lemmas.Bool.{cases_lt, eqb-true, false≢true, lt-ltb}
@@ -24,16 +24,6 @@ use Rattle.rv_monitor.proofs.Given.{after_begun, due_begun}
 -- ---- the number of inputs before a step, one after another
 
 module _ (t : ℕ) where
-  one_less : (xs : List TimedInput) (i : ℕ) (d : TimedInput) → i < length xs → (get_or xs i d).step < t
-      → count_before t (drop i xs) ≡ suc (count_before t (drop (suc i) xs))
-  one_less [] i d h k = absurd (omega arith)
-  one_less (x ∷ xs) zero d h k = rw (lt-ltb x.step t k) refl
-  one_less (x ∷ xs) (suc i) d h k = one_less xs i d (omega arith) k
-
-  none_left : (xs : List TimedInput) → count_before t (drop (length xs) xs) ≡ 0
-  none_left [] = refl
-  none_left (x ∷ xs) = none_left xs
-
   pub counted_till : (xs : List TimedInput) (i : ℕ) (x d : TimedInput) → never_falls xs ≡ true → i < length xs
       → x ≡ get_or xs i d → t ≤ x.step → i + count_before t (drop i xs) ≡ count_before t xs → i ≡ count_before t xs
   counted_till xs i x d rising h e k more =

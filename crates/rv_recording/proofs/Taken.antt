@@ -1,25 +1,16 @@
 -- Calls of a session are runs.
-use Rattle.std.proofs.Common.{rules, ◌≡◌, ℕ, ◌+◌, ◌<◌, Bool, true, false, refl, ap, subst, arith, ⊎_elim}
-use Rattle.std.specs.Prelude.{nat_lt, if◌then◌else◌, is_some, Option, Some, None, Result, OnErr}
+use Rattle.std.proofs.Common.{rules, ◌≡◌, ℕ, ◌+◌, ◌<◌, true, false, refl, ap, subst, arith, ⊎_elim}
+use Rattle.std.specs.Prelude.{nat_lt, is_some, Option, None, Result, OnErr}
 use Rattle.rv_base.specs.declared.memory.NoMemory.{NoMemory}
 use Rattle.std.proofs.lemmas.Bool.{cases_lt, false≢true}
 use Rattle.rv_monitor.specs.State.{Addresses, SessionState, TimedState, after, with_due}
 use Rattle.rv_monitor.specs.Stops.{Took, WasRefused, steps_between, stop_after, stop_of}
 use Rattle.rv_monitor.specs.declared.stop.Stop.{Stop}
-use Rattle.rv_monitor.specs.declared.stop.Stop.TheVariants as stopped
 use Rattle.rv_recording.specs.Until.{HasRun, end_at, steps_of}
 use Rattle.rv_recording.specs.Refused.{IsRefusedIn, NoneEnds}
 use Rattle.rv_recording.specs.Support.Steps.{end_by}
 use Rattle.rv_recording.specs.declared.until.End.{End}
-use Rattle.rv_recording.specs.declared.until.End.TheVariants.{Halted, Reached, Breakpoint, Stuck}
 use Rattle.rv_recording.proofs.Counting.{all_steps, over_at, takes_more}
-
-abbrev stop_is : Option ℕ → Bool → Option Stop
-stop_is h b = if is_some h then Some stopped.Halted else (if b then Some stopped.Breakpoint else None)
-
-abbrev end_is : Option ℕ → Bool → Bool → Bool → Option End
-end_is h r b l = if is_some h then Some Halted
-    else (if r then Some Reached else (if b then Some Breakpoint else (if l then None else Some Stuck)))
 
 module _ (a : Addresses) (n : ℕ) (s t : SessionState) where
   abbrev ends : ℕ → Option End
