@@ -1,6 +1,5 @@
 -- A run from a later session on is the rest of a run.
-use Rattle.std.proofs.Common.{◌≡◌, ◌∙◌, ℕ, zero, suc, ◌+◌, ◌-◌, Bool, true, false, List, [], ◌∷◌, refl, sym, ap, arith}
-use Rattle.std.proofs.lemmas.Bool.{false≢true}
+use Rattle.std.proofs.Common.{◌≡◌, ◌∙◌, ℕ, zero, suc, ◌+◌, Bool, true, false, List, [], ◌∷◌, refl, sym, ap, arith}
 use Rattle.std.proofs.lemmas.Bool.Decides.{nat_tests}
 use native.Mathlib.Numerals.{unary_clauses}
 use Rattle.std.specs.FinSet as set
@@ -9,18 +8,16 @@ use Rattle.std.specs.List.{list_any}
 use Rattle.std.specs.Option.{option_eq}
 use Rattle.rv_board.specs.BoardState.{BoardState}
 use Rattle.rv_board.specs.Support.State.{halted_of, pc_of}
-use Rattle.rv_hart.specs.Step.{step}
-use Rattle.rv_monitor.specs.State.{Addresses, IsInTime, SessionState, TimedState, after, with_due}
+use Rattle.rv_monitor.specs.State.{Addresses, IsInTime, SessionState, TimedState, after}
 use Rattle.rv_monitor.proofs.Steps.{after_more, after_none, in_time_after}
 use Rattle.rv_recording.specs.Out.{is_out, open_at}
-use Rattle.rv_recording.specs.Until.{comes, end_at, holds, watched_value}
-use Rattle.rv_recording.specs.declared.out.Span.{Span}
+use Rattle.rv_recording.specs.Until.{comes, end_at, watched_value}
 use Rattle.rv_recording.specs.declared.until.Condition.{Condition}
 use Rattle.rv_recording.specs.declared.until.End.{End}
 use Rattle.rv_recording.specs.declared.until.End.TheVariants.{Breakpoint, Halted, Reached, Stuck}
 use Rattle.rv_recording.specs.declared.until.Watched.{Watched}
 use Rattle.rv_runs.specs.Ends.{Stops, goal_after, guarded_ends, guards_after, plain_ends, run_ends}
-use Rattle.rv_runs.specs.Guards.{counted, counted_by, end_here, hits, is_break, is_hit, is_met, passing, stops}
+use Rattle.rv_runs.specs.Guards.{counted, counted_by, end_here, hits, is_hit, is_met, passing}
 use Rattle.rv_runs.specs.Marks.{is_marked}
 use Rattle.rv_runs.specs.Support.Plain.{watched_ends}
 use Rattle.rv_runs.specs.Watches.{changes_at, differs, watching}
@@ -38,48 +35,24 @@ taken_after s n = refl
 
 -- ---- the rest of a run is a run
 
-goes_on_at_first : (h : Option ℕ) (r b l : Bool) → is_some (end_is h r b l) ≡ false
-    → end_is h false false l ≡ None
-goes_on_at_first (Some code) r b l e = absurd (false≢true (sym e))
-goes_on_at_first None true b l e = absurd (false≢true (sym e))
-goes_on_at_first None false true l e = absurd (false≢true (sym e))
-goes_on_at_first None false false true e = refl
-goes_on_at_first None false false false e = absurd (false≢true (sym e))
+goes_on_at_first : (h : Option ℕ) (r b l : Bool) → is_some (end_is h r b l) ≡ false → end_is h false false l ≡ None
+goes_on_at_first h r b l e = grind arith
 
 -- also where it went on at a breakpoint
-goes_on_there : (st l : Bool) → is_some (if st then Some Breakpoint else (if l then None else Some Stuck)) ≡ false
-    → end_is None false false l ≡ None
-goes_on_there true l e = absurd (false≢true (sym e))
-goes_on_there false true e = refl
-goes_on_there false false e = absurd (false≢true (sym e))
-
 goes_on_past : (gs : List Guard) (t : SessionState) (h : Option ℕ) (r b : Bool)
     → is_some (option_and_then (end_here gs t) (end_is h r b (nat_lt t.timed.taken t.limit))) ≡ false
     → end_is h false false (nat_lt t.timed.taken t.limit) ≡ None
-goes_on_past gs t (Some code) r b e = absurd (false≢true (sym e))
-goes_on_past gs t None true b e = absurd (false≢true (sym e))
-goes_on_past gs t None false true e = goes_on_there (stops gs t.timed.board) (nat_lt t.timed.taken t.limit) e
-goes_on_past gs t None false false e = by_rest (nat_lt t.timed.taken t.limit) e
-  where
-    by_rest : (l : Bool) → is_some (option_and_then (end_here gs t) (end_is None false false l)) ≡ false
-        → end_is None false false l ≡ None
-    by_rest true e = refl
-    by_rest false e = absurd (false≢true (sym e))
+goes_on_past gs t h r b e = grind arith
 
 pub none_of : {A : Type 0} (o : Option A) → is_some o ≡ false → o ≡ None
-none_of None e = refl
-none_of (Some x) e = absurd (false≢true (sym e))
+none_of o e = grind arith
 
 above : (n : ℕ) → nat_lt 0 (suc n) ≡ true
 above n = grind (arith, nat_tests)
 
 -- a board differs from itself in nothing
-same_number : (n : ℕ) → nat_eq n n ≡ true
-same_number n = grind (arith, nat_tests)
-
 same_option : (o : Option ℕ) → option_eq nat_eq o o ≡ true
-same_option None = refl
-same_option (Some n) = same_number n
+same_option o = grind (arith, nat_tests)
 
 no_difference : (b : BoardState) (w : Watched) → differs b b w ≡ false
 unfolding differs
@@ -92,10 +65,7 @@ no_change b (w ∷ ws) = rw (no_difference b w) (no_change b ws)
 -- where a run isn't over, its last step changed nothing
 pub open_part : (changes : Bool) (o : Option End) → is_some (watching changes o) ≡ false
     → (changes ≡ false) × (is_some o ≡ false)
-open_part false o e = (refl, e)
-open_part true None e = absurd (false≢true (sym e))
-open_part true (Some Halted) e = absurd (false≢true (sym e))
-open_part true (Some _) e = absurd (false≢true (sym e))
+open_part changes o e = grind arith
 
 -- what stops a run after some of its steps
 abbrev pub stops_after : Stops → Goal → SessionState → ℕ → Stops
@@ -111,36 +81,22 @@ module _ (s : SessionState) (k : ℕ) (h : IsInTime s.timed) where
   -- before its first step it isn't over
   none_first : (g : ℕ → Bool) (a : Addresses)
       → end_is (halted_of mid.timed.board) false false (nat_lt mid.timed.taken s.limit) ≡ None → end_at g a mid 0 ≡ None
-  none_first g a e =
-      ap (λ (t : TimedState). end_is (halted_of t.board) false false (nat_lt t.taken s.limit))
-      (after_none mid.timed (in_time_after s.timed k h)) ∙ e
+  none_first g a e = grind (arith, nat_tests, after_none, in_time_after)
 
   first_is : (f g : ℕ → Bool) (a : Addresses) → is_some (end_at f a s k) ≡ false → end_at g a mid 0 ≡ None
-  first_is f g a e =
-      none_first g a (goes_on_at_first (halted_of mid.timed.board) (nat_lt 0 k && f k)
+  first_is f g a e = none_first g a (goes_on_at_first (halted_of mid.timed.board) (nat_lt 0 k && f k)
       (nat_lt 0 k && set.contains a (pc_of mid.timed.board)) (nat_lt mid.timed.taken s.limit) e)
 
   first_past : (gs hs : List Guard) (f g : ℕ → Bool) (a : Addresses) → is_some (passing gs s (end_at f a s) k) ≡ false
       → passing hs mid (end_at g a mid) 0 ≡ None
   first_past gs hs f g a e =
-      ap (option_and_then (end_here (counted hs mid (end_at g a mid) 0) (record mid { timed = after mid.timed 0 })))
-      (none_first g a (goes_on_past (counted gs s (end_at f a s) (pred k)) mid (halted_of mid.timed.board) (nat_lt 0 k && f k)
-      (nat_lt 0 k && set.contains a (pc_of mid.timed.board)) e))
+      rw (none_first g a (goes_on_past (counted gs s (end_at f a s) (pred k)) mid (halted_of mid.timed.board)
+      (nat_lt 0 k && f k) (nat_lt 0 k && set.contains a (pc_of mid.timed.board)) e))
 
   -- after others it is over where the whole run is
   then_is : (f g : ℕ → Bool) (a : Addresses) (j : ℕ) → g (suc j) ≡ f (k + suc j)
       → end_at g a mid (suc j) ≡ end_at f a s (k + suc j)
-  then_is f g a j same =
-      let here : nat_lt 0 (suc j) ≡ true = above j in
-      let there : nat_lt 0 (k + suc j) ≡ true = grind (arith, nat_tests) in
-      ap (λ (b : Bool). end_is (halted_of (after mid.timed (suc j)).board) (nat_lt 0 (suc j) && b)
-      (nat_lt 0 (suc j) && set.contains a (pc_of (after mid.timed (suc j)).board))
-      (nat_lt (after mid.timed (suc j)).taken s.limit)) same
-      ∙ (ap (λ (c : Bool). end_is (halted_of (after mid.timed (suc j)).board) (c && f (k + suc j))
-      (c && set.contains a (pc_of (after mid.timed (suc j)).board)) (nat_lt (after mid.timed (suc j)).taken s.limit))
-      (here ∙ sym there)
-      ∙ ap (λ (t : TimedState). end_is (halted_of t.board) (nat_lt 0 (k + suc j) && f (k + suc j))
-      (nat_lt 0 (k + suc j) && set.contains a (pc_of t.board)) (nat_lt t.taken s.limit)) (later (suc j)))
+  then_is f g a j same = grind (arith, nat_tests, above, later)
 
   rest_is : (f g : ℕ → Bool) (a : Addresses) → ((j : ℕ) → g (suc j) ≡ f (k + suc j))
       → is_some (end_at f a s k) ≡ false → (i : ℕ) → end_at g a mid i ≡ end_at f a s (k + i)
@@ -153,9 +109,7 @@ module _ (s : SessionState) (k : ℕ) (h : IsInTime s.timed) where
   module _ (E F : ℕ → Option End) (same : (j : ℕ) → F (suc j) ≡ E (k + suc j)) where
     hit_later : (g : Guard) (p j : ℕ) → is_hit (record g { passes = p }) mid F (suc j) ≡ is_hit g s E (k + suc j)
     unfolding is_hit is_met
-    hit_later g p j =
-        ap (λ (o : Option End). is_break o && is_met g (after mid.timed (suc j)).board) (same j)
-        ∙ ap (λ (t : TimedState). is_break (E (k + suc j)) && is_met g t.board) (later (suc j))
+    hit_later g p j = grind (arith, nat_tests, later)
 
     hits_later : (g : Guard) (p i : ℕ) → hits g s E k + hits (record g { passes = p }) mid F i ≡ hits g s E (k + i)
     unfolding hits
@@ -172,16 +126,11 @@ module _ (s : SessionState) (k : ℕ) (h : IsInTime s.timed) where
         by_hit false c e so = rw (sym e) so
 
     one_later : (i : ℕ) (g : Guard) → counted_by mid F i (counted_by s E k g) ≡ counted_by s E (k + i) g
-    one_later i g =
-        let all = hits_later g (g.passes - hits g s E k) i in
-        let left : (g.passes - hits g s E k) - hits (record g { passes = g.passes - hits g s E k }) mid F i
-        ≡ g.passes - hits g s E (k + i) = omega (arith, all) in
-        ap (λ (n : ℕ). record g { passes = n }) left
+    one_later i g = grind (arith, nat_tests, hits_later)
 
     pub counted_later : (gs : List Guard) (i : ℕ) → counted (counted gs s E k) mid F i ≡ counted gs s E (k + i)
     counted_later [] i = refl
-    counted_later (g ∷ gs) i =
-        ap (λ (x : Guard). x ∷ counted (counted gs s E k) mid F i) (one_later i g)
+    counted_later (g ∷ gs) i = ap (λ (x : Guard). x ∷ counted (counted gs s E k) mid F i) (one_later i g)
         ∙ ap (λ (xs : List Guard). counted_by s E (k + i) g ∷ xs) (counted_later gs i)
 
   rest_past : (gs : List Guard) (f g : ℕ → Bool) (a : Addresses) → ((j : ℕ) → g (suc j) ≡ f (k + suc j))
@@ -193,16 +142,8 @@ module _ (s : SessionState) (k : ℕ) (h : IsInTime s.timed) where
       ∙ sym (ap (λ (n : ℕ). passing gs s (end_at f a s) n) none ∙ none_of (passing gs s (end_at f a s) k) e)
   rest_past gs f g a same e (suc j) =
       let E = end_at f a s in
-      let F = end_at g a mid in
       let one : pred (k + suc j) ≡ k + j = omega arith in
-      ap (λ (hs : List Guard). option_and_then (end_here hs (record mid { timed = after mid.timed (suc j) })) (F (suc j)))
-      (counted_later E F (λ i. then_is f g a i (same i)) gs j)
-      ∙ (ap (λ (o : Option End). option_and_then (end_here (counted gs s E (k + j)) (record mid { timed = after mid.timed (suc j) })) o)
-      (then_is f g a j (same j))
-      ∙ (ap (λ (t : TimedState). option_and_then (end_here (counted gs s E (k + j)) (record s { timed = t })) (E (k + suc j)))
-      (later (suc j))
-      ∙ ap (λ (n : ℕ). option_and_then (end_here (counted gs s E n) (record s { timed = after s.timed (k + suc j) })) (E (k + suc j)))
-      (sym one)))
+      rw (one, counted_later E (end_at g a mid) (λ i. then_is f g a i (same i)) gs j, then_is f g a j (same j), later (suc j))
 
   pub open_later : (calls i : ℕ) → open_at (open_at calls s.timed k) mid.timed i ≡ open_at calls s.timed (k + i)
   unfolding open_at
@@ -213,23 +154,13 @@ module _ (s : SessionState) (k : ℕ) (h : IsInTime s.timed) where
   unfolding comes
   comes_later c j =
       let one : pred (k + suc j) ≡ k + j = omega arith in
-      ap (λ (t : TimedState). holds c (step (with_due t).board.machine).1 (after mid.timed (suc j)).board) (later j)
-      ∙ (ap (λ (t : TimedState). holds c (step (with_due (after s.timed (k + j))).board.machine).1 t.board) (later (suc j))
-      ∙ ap (λ (n : ℕ). holds c (step (with_due (after s.timed n)).board.machine).1 (after s.timed (k + suc j)).board) (sym one))
+      rw (one, later j, later (suc j))
 
-  out_later : (calls : ℕ) (line : Option Span) (j : ℕ)
-      → is_out line (open_at (open_at calls s.timed k) mid.timed (suc j)) (after mid.timed (suc j)).board
-      ≡ is_out line (open_at calls s.timed (k + suc j)) (after s.timed (k + suc j)).board
-  out_later calls line j =
-      ap (λ n. is_out line n (after mid.timed (suc j)).board) (open_later calls (suc j))
-      ∙ ap (λ (t : TimedState). is_out line (open_at calls s.timed (k + suc j)) t.board) (later (suc j))
-
-  marked_later : (ms : List ℕ) (calls j : ℕ)
-      → is_marked ms (open_at (open_at calls s.timed k) mid.timed (suc j)) (after mid.timed (suc j)).board
-      ≡ is_marked ms (open_at calls s.timed (k + suc j)) (after s.timed (k + suc j)).board
-  marked_later ms calls j =
-      ap (λ n. is_marked ms n (after mid.timed (suc j)).board) (open_later calls (suc j))
-      ∙ ap (λ (t : TimedState). is_marked ms (open_at calls s.timed (k + suc j)) t.board) (later (suc j))
+  -- a test of the open calls and the board after its steps is that of the whole run
+  tests_later : (test : ℕ → BoardState → Bool) (calls j : ℕ)
+      → test (open_at (open_at calls s.timed k) mid.timed (suc j)) (after mid.timed (suc j)).board
+      ≡ test (open_at calls s.timed (k + suc j)) (after s.timed (k + suc j)).board
+  tests_later test calls j = rw (open_later calls (suc j), later (suc j))
 
   -- why the rest of a run would be over without guards, after its first step
   plain_later : (ms : List ℕ) (g : Goal) (j : ℕ)
@@ -237,22 +168,19 @@ module _ (s : SessionState) (k : ℕ) (h : IsInTime s.timed) where
   plain_later ms goal.Count j = then_is (λ n. false) (λ n. false) set.empty j refl
   plain_later ms goal.Trace j = then_is (λ n. false) (λ n. false) set.empty j refl
   plain_later ms goal.Break j = then_is (λ n. false) (λ n. false) s.breakpoints.addresses j refl
-  plain_later ms (goal.Out calls line) j =
-      then_is (λ n. is_out line (open_at calls s.timed n) (after s.timed n).board)
+  plain_later ms (goal.Out calls line) j = then_is (λ n. is_out line (open_at calls s.timed n) (after s.timed n).board)
       (λ n. is_out line (open_at (open_at calls s.timed k) mid.timed n) (after mid.timed n).board)
-      s.breakpoints.addresses j (out_later calls line j)
-  plain_later ms (goal.Mark calls) j =
-      then_is (λ n. is_marked ms (open_at calls s.timed n) (after s.timed n).board)
+      s.breakpoints.addresses j (tests_later (is_out line) calls j)
+  plain_later ms (goal.Mark calls) j = then_is (λ n. is_marked ms (open_at calls s.timed n) (after s.timed n).board)
       (λ n. is_marked ms (open_at (open_at calls s.timed k) mid.timed n) (after mid.timed n).board)
-      s.breakpoints.addresses j (marked_later ms calls j)
+      s.breakpoints.addresses j (tests_later (is_marked ms) calls j)
   plain_later ms (goal.Until c) j =
       then_is (comes c s.timed) (comes c mid.timed) s.breakpoints.addresses j (comes_later c j)
 
   -- the guards that it leaves
   pub guards_later : (ms : List ℕ) (gs : List Guard) (g : Goal) (i : ℕ)
       → guards_after ms (guards_after ms gs g s k) (goal_after g s.timed k) mid i ≡ guards_after ms gs g s (k + i)
-  guards_later ms gs g i =
-      counted_later (plain_ends ms g s) (plain_ends ms (goal_after g s.timed k) mid) (plain_later ms g) gs i
+  guards_later ms gs g i = grind (arith, nat_tests, counted_later, plain_later)
 
   -- why it is over where nothing is watched
   pub guarded_later : (ms : List ℕ) (gs : List Guard) (g : Goal) → is_some (guarded_ends ms gs g s k) ≡ false → (i : ℕ)
@@ -263,11 +191,11 @@ module _ (s : SessionState) (k : ℕ) (h : IsInTime s.timed) where
   guarded_later ms gs (goal.Out calls line) e i =
       rest_past gs (λ n. is_out line (open_at calls s.timed n) (after s.timed n).board)
       (λ n. is_out line (open_at (open_at calls s.timed k) mid.timed n) (after mid.timed n).board)
-      s.breakpoints.addresses (out_later calls line) e i
+      s.breakpoints.addresses (tests_later (is_out line) calls) e i
   guarded_later ms gs (goal.Mark calls) e i =
       rest_past gs (λ n. is_marked ms (open_at calls s.timed n) (after s.timed n).board)
       (λ n. is_marked ms (open_at (open_at calls s.timed k) mid.timed n) (after mid.timed n).board)
-      s.breakpoints.addresses (marked_later ms calls) e i
+      s.breakpoints.addresses (tests_later (is_marked ms) calls) e i
   guarded_later ms gs (goal.Until c) e i =
       rest_past gs (comes c s.timed) (comes c mid.timed) s.breakpoints.addresses (comes_later c) e i
 
@@ -276,20 +204,16 @@ module _ (s : SessionState) (k : ℕ) (h : IsInTime s.timed) where
       → changes_at ws mid.timed i ≡ changes_at ws s.timed (k + i)
   changes_later ws e zero =
       let none : k + 0 ≡ k = omega arith in
-      no_change (after mid.timed 0).board ws ∙ sym (ap (changes_at ws s.timed) none ∙ e)
+      rw (none, e) (no_change (after mid.timed 0).board ws)
   changes_later ws e (suc j) =
       let one : pred (k + suc j) ≡ k + j = omega arith in
-      ap (λ (t : TimedState). list_any (differs t.board (after mid.timed (suc j)).board) ws) (later j)
-      ∙ (ap (λ (t : TimedState). list_any (differs (after s.timed (k + j)).board t.board) ws) (later (suc j))
-      ∙ ap (λ (n : ℕ). list_any (differs (after s.timed n).board (after s.timed (k + suc j)).board) ws) (sym one))
+      rw (one, later j, later (suc j))
 
   pub watched_later : (st : Stops) (g : Goal) → is_some (watched_ends st g s k) ≡ false → (i : ℕ)
       → watched_ends (stops_after st g s k) (goal_after g s.timed k) mid i ≡ watched_ends st g s (k + i)
   watched_later st g e i =
       let o = open_part (changes_at st.watches s.timed k) (guarded_ends st.marks st.guards g s k) e in
-      let hs = guards_after st.marks st.guards g s k in
-      ap (λ (b : Bool). watching b (guarded_ends st.marks hs (goal_after g s.timed k) mid i)) (changes_later st.watches o.0 i)
-      ∙ ap (watching (changes_at st.watches s.timed (k + i))) (guarded_later st.marks st.guards g o.1 i)
+      rw (changes_later st.watches o.0 i, guarded_later st.marks st.guards g o.1 i)
 
   -- why it is over
   pub ends_later : (st : Stops) (g : Goal) → is_some (run_ends st g s k) ≡ false → (i : ℕ)
@@ -299,6 +223,4 @@ module _ (s : SessionState) (k : ℕ) (h : IsInTime s.timed) where
   ends_later st g e i = watched_later st g e i
 
   pub goal_later : (g : Goal) (i : ℕ) → goal_after (goal_after g s.timed k) mid.timed i ≡ goal_after g s.timed (k + i)
-  goal_later (goal.Out calls line) i = ap (λ n. goal.Out n line) (open_later calls i)
-  goal_later (goal.Mark calls) i = ap goal.Mark (open_later calls i)
-  goal_later _ i = refl
+  goal_later g i = grind (arith, open_later)

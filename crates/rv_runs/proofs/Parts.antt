@@ -1,7 +1,7 @@
 -- Runs by their parts: what is left of a run makes it whole.
-use Rattle.std.proofs.Common.{◌≡◌, ◌∙◌, ℕ, ◌+◌, ◌-◌, ◌≤◌, false, refl, sym, ap, subst, arith}
-use Rattle.std.proofs.lemmas.Bool.{false≢true}
-use Rattle.std.specs.Prelude.{is_some, unwrap_or, IfOk, IsErr, OnErr, Option, None, Result, Ok, Err}
+use Rattle.std.proofs.lemmas.Bool.Decides.{nat_tests}
+use Rattle.std.proofs.Common.{◌≡◌, ◌∙◌, ℕ, ◌+◌, ◌-◌, ◌≤◌, false, refl, sym, ap, arith}
+use Rattle.std.specs.Prelude.{is_some, unwrap_or, IfOk, IsErr, OnErr, Option, None, Result, Ok}
 use Rattle.rv_base.specs.declared.memory.NoMemory.{NoMemory}
 use Rattle.rv_monitor.specs.State.{IsInTime, SessionState, TimedState, after, with_due}
 use Rattle.rv_monitor.specs.Stops.{steps_between}
@@ -11,7 +11,7 @@ use Rattle.rv_recording.specs.Refused.{IsRefusedIn, NoneEnds}
 use Rattle.rv_recording.specs.Until.{HasRun, steps_of}
 use Rattle.rv_recording.specs.declared.until.End.{End}
 use Rattle.rv_recording.specs.declared.until.End.TheVariants.{Limit}
-use Rattle.rv_recording.proofs.Counting.{all_steps, joins, same_steps}
+use Rattle.rv_recording.proofs.Counting.{all_steps, joins, over_at, over_or_all, same_steps, steps_within, takes_more}
 use Rattle.rv_runs.specs.Support.Plain.{Ran}
 use Rattle.rv_runs.proofs.Later.{taken_after}
 
@@ -20,12 +20,36 @@ unfolding with_due
 taken_due s = refl
 
 pub on_err : {A E : Type 0} (r : Result A E) (P : Type 0) → P → OnErr r P
-on_err (Ok a) P p = tt
-on_err (Err e) P p = p
+on_err r P p = grind (arith, nat_tests)
 
 if_err : {A E : Type 0} (r : Result A E) (P : A → Type 0) → IsErr r → IfOk r P
-if_err (Ok a) P is = absurd (false≢true is)
-if_err (Err e) P is = tt
+if_err r P is = grind (arith, nat_tests)
+
+-- ---- a run by the steps of another one, before which it isn't over
+
+-- a run that isn't over after the steps that it takes takes all that it may
+pub all_of : (ends : ℕ → Option End) (m : ℕ) → is_some (ends (steps_of ends m)) ≡ false → steps_of ends m ≡ m
+all_of ends m going = grind (arith, steps_within, over_or_all)
+
+pub as_far : (full : ℕ → Option End) (k most : ℕ) → k ≤ most → NoneEnds full k → (is_some (full k) ≡ false → k ≡ most)
+    → steps_of full most ≡ k
+as_far full k most within none last = grind (arith, over_at full k most, all_steps full most, all_steps full k)
+
+module _ (full plain : ℕ → Option End) (m most : ℕ) (within : steps_of plain m ≤ most)
+    (none : NoneEnds full (steps_of plain m)) (s t : SessionState) where
+  pub ran_too : (end said : End) → (is_some (full (steps_of plain m)) ≡ false → steps_of plain m ≡ most)
+      → said ≡ unwrap_or (full (steps_of plain m)) Limit → HasRun plain m s t end → HasRun full most s t said
+  ran_too end said last told run =
+      let same = as_far full (steps_of plain m) most within none last in
+      record { state = rw same run.state; ended = rw same told }
+
+  pub refused_too : IsRefusedIn plain m s t → IsRefusedIn full most s t
+  refused_too r = record {
+    within = takes_more full (steps_between s.timed t.timed) most (omega (arith, r.within, within))
+        (λ i l. none i (omega (arith, l, r.within)));
+    state = r.state;
+    next_writes = r.next_writes;
+  }
 
 -- ---- the first steps of a run, which isn't over after them, and the rest
 
@@ -38,32 +62,16 @@ module _ (full rest : ℕ → Option End) (s : SessionState) (m k : ℕ) (h : Is
   more =
       let all : k + (m - k) ≡ m = omega (arith, within) in
       let now : steps_of full k ≡ k = all_steps full k before in
-      let going : is_some (full (steps_of full k)) ≡ false =
-      ap (λ (n : ℕ). is_some (full n)) now ∙ ap is_some here in
+      let going : is_some (full (steps_of full k)) ≡ false = ap (λ (n : ℕ). is_some (full n)) now ∙ ap is_some here in
       sym (ap (steps_of full) all) ∙ (joins full k (m - k) going
       ∙ (ap (λ (n : ℕ). n + steps_of (λ i. full (n + i)) (m - k)) now
       ∙ ap (λ (n : ℕ). k + n) (sym (same_steps rest (λ i. full (k + i)) (λ i. ap is_some (same_rest i)) (m - k)))))
 
   ran_on : (t : SessionState) (e : End) → HasRun rest (m - k) there t e → HasRun full m s t e
-  ran_on t e r =
-      let n = steps_of rest (m - k) in record {
-        state = r.state ∙ ap (λ (x : TimedState). record s { timed = x })
-            (after_more s.timed k n h.rising ∙ ap (after s.timed) (sym more));
-        ended = r.ended ∙ ap (λ (o : Option End). unwrap_or o Limit) (same_rest n ∙ ap full (sym more));
-      }
+  ran_on t e r = grind (arith, nat_tests, after_more, more)
 
   refused_on : (t : SessionState) → IsRefusedIn rest (m - k) there t → IsRefusedIn full m s t
-  refused_on t r =
-      let j = steps_between there.timed t.timed in
-      let now : t.timed.taken ≡ (with_due (after there.timed j)).taken = ap (λ (u : SessionState). u.timed.taken) r.state in
-      let between : steps_between s.timed t.timed ≡ k + j =
-      omega (arith, now, taken_due (after there.timed j), taken_after there.timed j, taken_after s.timed k) in
-      record {
-        within = omega (arith, between, r.within, more);
-        state = r.state ∙ ap (λ (x : TimedState). record s { timed = with_due x })
-            (after_more s.timed k j h.rising ∙ ap (after s.timed) (sym between));
-        next_writes = r.next_writes;
-      }
+  refused_on t r = grind (arith, nat_tests, taken_due, taken_after, more, after_more)
 
 -- ---- the whole run
 
@@ -83,19 +91,7 @@ pub record Rests {A : Type 0} (ends : A → SessionState → ℕ → Option End)
 pub begins : (A : Type 0) (ends : A → SessionState → ℕ → Option End) (later : A → SessionState → ℕ → A) (a : A)
     (r : RecordingState) (most : ℕ) (s : SessionState) → s ≡ r.session → IsInTime s.timed
     → Rests ends later a r most a r most
-begins A ends later a r most s e h = record {
-  in_time = subst (λ (x : SessionState). IsInTime x.timed) e h;
-  others = refl;
-  rises = omega arith;
-  ran = λ t end x. x;
-  refused = λ t x. x;
-  aims = λ n. none_more n;
-}
-  where
-    none_more : (n : ℕ) → later a r.session n
-        ≡ later a r.session (steps_between r.session.timed r.session.timed + n)
-    none_more n =
-        let same : n ≡ steps_between r.session.timed r.session.timed + n = omega arith in ap (later a r.session) same
+begins A ends later a r most s e h = grind (arith, nat_tests)
 
 module _ {A : Type 0} {ends : A → SessionState → ℕ → Option End} {later : A → SessionState → ℕ → A} {a0 : A}
     {r0 : RecordingState} {most : ℕ} {a : A} {r : RecordingState} {left : ℕ} (before : Rests ends later a0 r0 most a r left) where
@@ -106,10 +102,7 @@ module _ {A : Type 0} {ends : A → SessionState → ℕ → Option End} {later 
   aims_at : (b : A) (t : SessionState) → r.session.timed.taken ≤ t.timed.taken
       → b ≡ later a r.session (steps_between r.session.timed t.timed)
       → b ≡ later a0 r0.session (steps_between r0.session.timed t.timed)
-  aims_at b t rises e =
-      let all : steps_between r0.session.timed r.session.timed + steps_between r.session.timed t.timed
-      ≡ steps_between r0.session.timed t.timed = omega (arith, before.rises, rises) in
-      e ∙ (before.aims (steps_between r.session.timed t.timed) ∙ ap (later a0 r0.session) all)
+  aims_at b t rises e = grind (arith, nat_tests)
 
   -- it is over after them, or memory runs out
   module _ {b : A} {q : RecordingState} (aim : b ≡ later a r.session (steps_between r.session.timed q.session.timed))
@@ -127,15 +120,7 @@ module _ {A : Type 0} {ends : A → SessionState → ℕ → Option End} {later 
 
     pub short_with : (result : Result End NoMemory) → IsErr result
         → IsRefusedIn (ends a r.session) left r.session q.session → Ran ends later most a0 b r0 q result
-    short_with result is out =
-        let k = steps_between r.session.timed q.session.timed in
-        let took = ap (λ (u : SessionState). u.timed.taken) out.state in record {
-          ok = if_err result (HasRun (ends a0 r0.session) most r0.session q.session) is;
-          err = on_err result (IsRefusedIn (ends a0 r0.session) most r0.session q.session) (before.refused q.session out);
-          aim = aims_at b q.session
-              (omega (arith, took, taken_due (after r.session.timed k), taken_after r.session.timed k)) aim;
-          others = others_still q others;
-        }
+    short_with result is out = grind (arith, nat_tests, if_err, on_err, aims_at, taken_due, taken_after, others_still)
 
   -- it isn't over after some
   module _ (k : ℕ) (within : k ≤ left) (none : NoneEnds (ends a r.session) k) (here : ends a r.session k ≡ None) where
@@ -170,11 +155,4 @@ module _ {A : Type 0} {ends : A → SessionState → ℕ → Option End} {later 
       pub goes_at : (q : RecordingState) (b : A) (less : ℕ) → q.session ≡ landing
           → b ≡ later a r.session (steps_between r.session.timed q.session.timed)
           → q ≡ record r { session = q.session } → less ≡ left - k → Rests ends later a0 r0 most b q less
-      goes_at q b less is aim others less_is =
-          let took = ap (λ (u : SessionState). u.timed.taken) is in
-          let between : steps_between r.session.timed q.session.timed ≡ k =
-          omega (arith, took, taken_after r.session.timed k) in
-          let q_is : q ≡ further = others ∙ ap (λ (u : SessionState). record r { session = u }) is in
-          subst (λ (x : A). Rests ends later a0 r0 most x q less) (sym (aim ∙ ap (later a r.session) between))
-          (subst (λ (x : RecordingState). Rests ends later a0 r0 most (later a r.session k) x less) (sym q_is)
-          (subst (λ (i : ℕ). Rests ends later a0 r0 most (later a r.session k) further i) (sym less_is) goes))
+      goes_at q b less is aim others less_is = grind (arith, nat_tests, taken_after, goes)

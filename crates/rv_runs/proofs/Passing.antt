@@ -1,11 +1,11 @@
 -- Runs past the breakpoints that don't stop them, and past the places that are no marks.
+use Rattle.std.proofs.lemmas.Bool.Decides.{nat_tests}
 use Rattle.std.proofs.Common.{◌≡◌, ◌∙◌, ℕ, zero, suc, ◌+◌, ◌-◌, ◌<◌, Bool, true, false, List, [], ◌∷◌, refl, sym, ap, arith}
 use Rattle.std.proofs.lemmas.Bool.{false≢true}
-use Rattle.std.specs.FinSet as set
-use Rattle.std.specs.Prelude.{◌&&◌, map, nat_lt, pred, if◌then◌else◌, option_and_then, unwrap_or, Option, Some, None, Result, Ok, Err, IsErr}
+use Rattle.std.specs.Prelude.{◌&&◌, map, pred, if◌then◌else◌, option_and_then, unwrap_or, Option, Some, None, Result, Ok, Err, IsErr}
 use Rattle.std.specs.Option.{option_map_or}
 use Rattle.rv_base.specs.declared.memory.NoMemory.{NoMemory}
-use Rattle.rv_board.specs.Support.State.{halted_of, pc_of}
+use Rattle.rv_board.specs.Support.State.{halted_of}
 use Rattle.rv_monitor.specs.State.{IsInTime, SessionState, after}
 use Rattle.rv_monitor.specs.Stops.{steps_between}
 use Rattle.rv_monitor.proofs.Sets.{no_member}
@@ -13,7 +13,7 @@ use Rattle.rv_recording.specs.Recording.{RecordingState}
 use Rattle.rv_recording.specs.Refused.{NoneEnds}
 use Rattle.rv_recording.specs.Until.{steps_of}
 use Rattle.rv_recording.specs.declared.until.End.{End}
-use Rattle.rv_recording.specs.declared.until.End.TheVariants.{Breakpoint, Limit}
+use Rattle.rv_recording.specs.declared.until.End.TheVariants.{Limit}
 use Rattle.rv_runs.specs.Ends.{guarded_ends, guards_after, plain_ends}
 use Rattle.rv_runs.specs.Guards.{counted, counted_by, end_here, hits, is_break, is_hit, is_met, passing}
 use Rattle.rv_runs.specs.Support.Plain.{Aim, Ran, aim_after, bare_ends, goal_at, guards_here, hit_here, hit_once, past_ends, past_here, plain_here}
@@ -30,19 +30,11 @@ use Rattle.rv_runs.proofs.Sifting.{Sifts, fewer, goes_on, is_over, is_short, non
 -- steps past any breakpoint come to none
 no_break : (gs : List Guard) (t : SessionState) (b : Bool) (h : Option ℕ) (z l : Bool) → b ≡ false
     → end_is h (z && false) (z && b) l ≡ option_and_then (end_here gs t) (end_is h (z && false) (z && b) l)
-no_break gs t b (Some code) z l e = refl
-no_break gs t b None true true e = rw e refl
-no_break gs t b None true false e = rw e refl
-no_break gs t b None false true e = refl
-no_break gs t b None false false e = refl
+no_break gs t b h z l e = grind arith
 
 past_any : (ms : List ℕ) (gs : List Guard) (s : SessionState) (n : ℕ)
     → plain_ends ms goal.Count s n ≡ passing gs s (plain_ends ms goal.Count s) n
-past_any ms gs s n =
-    let b = (after s.timed n).board in
-    no_break (counted gs s (plain_ends ms goal.Count s) (pred n)) (record s { timed = after s.timed n })
-    (set.contains set.empty (pc_of b)) (halted_of b) (nat_lt 0 n) (nat_lt (after s.timed n).taken s.limit)
-    (sym (no_member (pc_of b)))
+past_any ms gs s n = grind (arith, nat_tests, no_break, no_member)
 
 is_passing : (ms : List ℕ) (gs : List Guard) (g : Goal) (s : SessionState) (n : ℕ)
     → guarded_ends ms gs g s n ≡ passing gs s (plain_ends ms g s) n
@@ -53,14 +45,10 @@ is_passing ms gs _ s n = refl
 -- none is a breakpoint before the first step
 first_by : (gs : List Guard) (t : SessionState) (h : Option ℕ) (l : Bool)
     → option_and_then (end_here gs t) (end_is h false false l) ≡ end_is h false false l
-first_by gs t (Some code) l = refl
-first_by gs t None true = refl
-first_by gs t None false = refl
+first_by gs t h l = grind arith
 
 not_before : (h : Option ℕ) (l : Bool) → is_break (end_is h false false l) ≡ false
-not_before (Some code) l = refl
-not_before None true = refl
-not_before None false = refl
+not_before h l = grind arith
 
 -- ---- the hits
 
@@ -69,21 +57,15 @@ module _ (s : SessionState) (ends : ℕ → Option End) where
   unfolding is_hit
   no_hit g n e = rw e refl
 
-  none_hit : (g : Guard) (n : ℕ) → ends n ≡ None → is_hit g s ends n ≡ false
-  none_hit g n e = no_hit g n (ap is_break e)
-
   no_hits : (g : Guard) (k : ℕ) → NoneEnds ends k → (n : ℕ) → n < k → hits g s ends n ≡ 0
   unfolding hits
   no_hits g k none zero l = refl
-  no_hits g k none (suc n) l = rw (none_hit g (suc n) (none (suc n) l)) (no_hits g k none n (omega (arith, l)))
+  no_hits g k none (suc n) l = rw (no_hit g (suc n) (ap is_break (none (suc n) l))) (no_hits g k none n (omega (arith, l)))
 
   -- before one, the guards are as they were
   none_counted : (gs : List Guard) (n : ℕ) → ((g : Guard) → hits g s ends n ≡ 0) → counted gs s ends n ≡ gs
   none_counted [] n none = refl
-  none_counted (g ∷ gs) n none =
-      let same : g.passes - hits g s ends n ≡ g.passes = omega (arith, none g) in
-      ap (λ (p : ℕ). record g { passes = p } ∷ counted gs s ends n) same
-      ∙ ap (λ (xs : List Guard). g ∷ xs) (none_counted gs n none)
+  none_counted (g ∷ gs) n none = grind (arith, nat_tests, (none_counted gs n none))
 
   same_before : (gs : List Guard) (k : ℕ) → NoneEnds ends k → (n : ℕ) → n < k → counted gs s ends n ≡ gs
   same_before gs k none n l = none_counted gs n (λ g. no_hits g k none n l)
@@ -93,59 +75,38 @@ module _ (s : SessionState) (ends : ℕ → Option End) where
   first_hits g = refl
 
   pred_same : (gs : List Guard) (n : ℕ) → NoneEnds ends n → counted gs s ends (pred n) ≡ gs
-  pred_same gs zero none = none_counted gs 0 first_hits
-  pred_same gs (suc n) none = same_before gs (suc n) none n (omega arith)
+  pred_same gs n none = grind (arith, nat_tests, none_counted, first_hits, same_before)
 
   -- the step that comes to the first end may be a hit
   hit_by : (g : Guard) (o : Option End) (b c : Bool) (n : ℕ) → n ≡ 0 → b ≡ is_break o && c
       → record g { passes = g.passes - (if b then suc n else n) }
       ≡ (if is_break o && c then record g { passes = g.passes - 1 } else g)
-  hit_by g o b c n e is = by_both b (is_break o && c) is
-    where
-      by_both : (b d : Bool) → b ≡ d → record g { passes = g.passes - (if b then suc n else n) }
-          ≡ (if d then record g { passes = g.passes - 1 } else g)
-      by_both true true is = ap (λ (m : ℕ). record g { passes = g.passes - suc m }) e
-      by_both false false is =
-          let same : g.passes - n ≡ g.passes = omega (arith, e) in ap (λ (m : ℕ). record g { passes = m }) same
-      by_both true false is = absurd (false≢true (sym is))
-      by_both false true is = absurd (false≢true is)
+  hit_by g o b c n e is = grind arith
 
-  one_hit : (g : Guard) (n : ℕ) → NoneEnds ends (suc n)
-      → counted_by s ends (suc n) g
+  one_hit : (g : Guard) (n : ℕ) → NoneEnds ends (suc n) → counted_by s ends (suc n) g
       ≡ (if is_break (ends (suc n)) && is_met g (after s.timed (suc n)).board then record g { passes = g.passes - 1 } else g)
   unfolding hits is_hit
-  one_hit g n none =
-      hit_by g (ends (suc n)) (is_break (ends (suc n)) && is_met g (after s.timed (suc n)).board)
-      (is_met g (after s.timed (suc n)).board) (hits g s ends n) (no_hits g (suc n) none n (omega arith)) refl
+  one_hit g n none = grind (arith, nat_tests, hit_by, no_hits)
 
   hits_there : (gs : List Guard) (n : ℕ) → NoneEnds ends (suc n) → is_break (ends (suc n)) ≡ true
       → counted gs s ends (suc n) ≡ map (hit_once (after s.timed (suc n)).board) gs
   hits_there [] n none e = refl
-  hits_there (g ∷ gs) n none e =
-      ap (λ (x : Guard). x ∷ counted gs s ends (suc n)) (one_hit g n none
-      ∙ ap (λ (b : Bool). if b && is_met g (after s.timed (suc n)).board then record g { passes = g.passes - 1 } else g) e)
-      ∙ ap (λ (xs : List Guard). hit_once (after s.timed (suc n)).board g ∷ xs) (hits_there gs n none e)
+  hits_there (g ∷ gs) n none e = rw (one_hit g n none, e, hits_there gs n none e)
 
   no_hits_there : (gs : List Guard) (n : ℕ) → NoneEnds ends (suc n) → is_break (ends (suc n)) ≡ false
       → counted gs s ends (suc n) ≡ gs
   no_hits_there [] n none e = refl
-  no_hits_there (g ∷ gs) n none e =
-      ap (λ (x : Guard). x ∷ counted gs s ends (suc n)) (one_hit g n none
-      ∙ ap (λ (b : Bool). if b && is_met g (after s.timed (suc n)).board then record g { passes = g.passes - 1 } else g) e)
-      ∙ ap (λ (xs : List Guard). g ∷ xs) (no_hits_there gs n none e)
+  no_hits_there (g ∷ gs) n none e = rw (one_hit g n none, e, no_hits_there gs n none e)
 
   -- the guards after the steps up to the first end
   here_by : (gs hs : List Guard) (t : SessionState) (o : Option End)
       → (is_break o ≡ true → hs ≡ map (hit_once t.timed.board) gs) → (is_break o ≡ false → hs ≡ gs)
       → hs ≡ option_map_or (hit_here gs t) o gs
-  here_by gs hs t (Some Breakpoint) is other = is refl
-  here_by gs hs t None is other = other refl
-  here_by gs hs t (Some _) is other = other refl
+  here_by gs hs t o is other = grind arith
 
   counted_here : (gs : List Guard) (n : ℕ) → NoneEnds ends n → is_break (ends 0) ≡ false
       → counted gs s ends n ≡ option_map_or (hit_here gs (record s { timed = after s.timed n })) (ends n) gs
-  counted_here gs zero none first =
-      here_by gs (counted gs s ends 0) (record s { timed = after s.timed 0 }) (ends 0)
+  counted_here gs zero none first = here_by gs (counted gs s ends 0) (record s { timed = after s.timed 0 }) (ends 0)
       (λ is. absurd (false≢true (sym first ∙ is))) (λ is. pred_same gs 0 none)
   counted_here gs (suc n) none first =
       here_by gs (counted gs s ends (suc n)) (record s { timed = after s.timed (suc n) }) (ends (suc n))
@@ -154,11 +115,7 @@ module _ (s : SessionState) (ends : ℕ → Option End) where
 -- ---- steps past any breakpoint
 
 no_break_by : (b : Bool) (h : Option ℕ) (z l : Bool) → b ≡ false → is_break (end_is h (z && false) (z && b) l) ≡ false
-no_break_by b (Some code) z l e = refl
-no_break_by b None true true e = rw e refl
-no_break_by b None true false e = rw e refl
-no_break_by b None false true e = refl
-no_break_by b None false false e = refl
+no_break_by b h z l e = grind arith
 
 never_hits : (s : SessionState) (ends : ℕ → Option End) (g : Guard) → ((n : ℕ) → is_break (ends n) ≡ false) → (n : ℕ)
     → hits g s ends n ≡ 0
@@ -168,47 +125,31 @@ never_hits s ends g none (suc n) = rw (no_hit s ends g (suc n) (none (suc n))) (
 
 -- they count no hit
 pub traced_guards : (ms : List ℕ) (gs : List Guard) (s : SessionState) (n : ℕ) → guards_after ms gs goal.Trace s n ≡ gs
-traced_guards ms gs s n =
-    none_counted s (plain_ends ms goal.Trace s) gs n
-    (λ g. never_hits s (plain_ends ms goal.Trace s) g (λ i. no_break_by
-    (set.contains set.empty (pc_of (after s.timed i).board)) (halted_of (after s.timed i).board) (nat_lt 0 i)
-    (nat_lt (after s.timed i).taken s.limit) (sym (no_member (pc_of (after s.timed i).board)))) n)
+traced_guards ms gs s n = grind (arith, nat_tests, none_counted, never_hits, no_break_by, no_member)
 
 -- ---- the law of runs past breakpoints and places that are no marks
 
 pub aims_later : (ms : List ℕ) (a : Aim) (s : SessionState) (k : ℕ) → IsInTime s.timed → (i : ℕ)
     → aim_after ms (aim_after ms a s k) (record s { timed = after s.timed k }) i ≡ aim_after ms a s (k + i)
-aims_later ms a s k h i =
-    let later = aim_after ms (aim_after ms a s k) (record s { timed = after s.timed k }) i in
-    ap (λ (gs : List Guard). record later { guards = gs }) (guards_later s k h ms a.guards a.goal i)
-    ∙ ap (λ (g : Goal). record (aim_after ms a s (k + i)) { goal = g }) (goal_later s k h a.goal i)
+aims_later ms a s k h i = rw (guards_later s k h ms a.guards a.goal i, goal_later s k h a.goal i)
 
 abbrev aim_bare : Aim → SessionState → ℕ → Option End
 aim_bare a s = bare_ends a.goal s
 
 in_turn : (f g : End → Option End) (o : Option End)
     → option_and_then f (option_and_then g o) ≡ option_and_then (λ end. option_and_then f (g end)) o
-in_turn f g None = refl
-in_turn f g (Some end) = refl
+in_turn f g o = grind arith
 
 past_at : (ms : List ℕ) (a : Aim) (s : SessionState) (n : ℕ) → NoneEnds (aim_bare a s) n
     → past_ends ms a s n ≡ option_and_then (past_here ms a (record s { timed = after s.timed n })) (aim_bare a s n)
 past_at ms a s n none =
     let t : SessionState = record s { timed = after s.timed n } in
     is_passing ms a.guards a.goal s n
-    ∙ (ap (λ (gs : List Guard). option_and_then (end_here gs t) (plain_ends ms a.goal s n))
-    (pred_same s (plain_ends ms a.goal s) a.guards n (plain_none ms a.goal s n none))
-    ∙ (ap (option_and_then (end_here a.guards t)) (plain_at ms a.goal s n)
-    ∙ in_turn (end_here a.guards t) (plain_here ms a.goal t) (bare_ends a.goal s n)))
+    ∙ rw (pred_same s (plain_ends ms a.goal s) a.guards n (plain_none ms a.goal s n none), plain_at ms a.goal s n)
+    (in_turn (end_here a.guards t) (plain_here ms a.goal t) (bare_ends a.goal s n))
 
 past_first : (ms : List ℕ) (a : Aim) (s : SessionState) → past_ends ms a s 0 ≡ aim_bare a s 0
-past_first ms a s =
-    is_passing ms a.guards a.goal s 0
-    ∙ (ap (option_and_then (end_here (counted a.guards s (plain_ends ms a.goal s) 0) (record s { timed = after s.timed 0 })))
-    (plain_first ms a.goal s)
-    ∙ (first_by (counted a.guards s (plain_ends ms a.goal s) 0) (record s { timed = after s.timed 0 })
-    (halted_of (after s.timed 0).board) (nat_lt (after s.timed 0).taken s.limit)
-    ∙ (sym (plain_first ms a.goal s) ∙ bare_first ms a.goal s)))
+past_first ms a s = grind (arith, nat_tests, is_passing, plain_first, first_by, bare_first)
 
 pub past_law : (ms : List ℕ) → Sifts (past_ends ms) aim_bare (aim_after ms) (past_here ms)
 past_law ms = record {
@@ -224,34 +165,25 @@ past_law ms = record {
 -- the guards, by why it ended
 by_bare : (ms : List ℕ) (a : Aim) (t : SessionState) (o : Option End) (end : End) → end ≡ unwrap_or o Limit
     → option_map_or (hit_here a.guards t) (option_and_then (plain_here ms a.goal t) o) a.guards ≡ guards_here ms a t end
-by_bare ms a t None end e =
-    ap (λ (x : Option End). option_map_or (hit_here a.guards t) x a.guards)
-    (sym (ap (plain_here ms a.goal t) e ∙ limit_here ms a.goal t))
-by_bare ms a t (Some x) end e = ap (guards_here ms a t) (sym e)
+by_bare ms a t o end e = grind (arith, nat_tests, limit_here)
 
 guards_by : (ms : List ℕ) (a : Aim) (s : SessionState) (n : ℕ) (end : End) → NoneEnds (aim_bare a s) n
     → end ≡ unwrap_or (aim_bare a s n) Limit
     → guards_after ms a.guards a.goal s n ≡ guards_here ms a (record s { timed = after s.timed n }) end
 guards_by ms a s n end none e =
-    let t : SessionState = record s { timed = after s.timed n } in
     let first : is_break (plain_ends ms a.goal s 0) ≡ false =
     ap is_break (plain_first ms a.goal s) ∙ not_before (halted_of (after s.timed 0).board) _ in
     counted_here s (plain_ends ms a.goal s) a.guards n (plain_none ms a.goal s n none) first
-    ∙ (ap (λ (o : Option End). option_map_or (hit_here a.guards t) o a.guards) (plain_at ms a.goal s n)
-    ∙ by_bare ms a t (bare_ends a.goal s n) end e)
+    ∙ rw (plain_at ms a.goal s n) (by_bare ms a (record s { timed = after s.timed n }) (bare_ends a.goal s n) end e)
 
 joined : (ms : List ℕ) (gs hs : List Guard) (g h : Goal) (s : SessionState) (k : ℕ) → hs ≡ guards_after ms gs g s k
     → h ≡ goal_at g s k
     → ◌≡◌ {A = Aim} (record { guards = hs; goal = h }) (aim_after ms (record { guards = gs; goal = g }) s k)
-joined ms gs hs g h s k counts aim =
-    ap (λ (x : List Guard). record { guards = x; goal = h }) counts
-    ∙ ap (λ (x : Goal). record { guards = guards_after ms gs g s k; goal = x }) aim
+joined ms gs hs g h s k counts aim = rw (counts, aim)
 
 -- what it goes on for after some steps heeds the same marks
 same_here : (ms : List ℕ) (g : Goal) (s : SessionState) (k : ℕ) → plain_here ms (goal_at g s k) ≡ plain_here ms g
-same_here ms (goal.Out calls line) s k = refl
-same_here ms (goal.Mark calls) s k = refl
-same_here ms _ s k = refl
+same_here ms g s k = grind (arith, nat_tests)
 
 -- ---- a part of a run
 
@@ -267,8 +199,7 @@ module _ (ms : List ℕ) {a0 : Aim} {r0 : RecordingState} {most : ℕ} {a : Aim}
       (none_before (bare_ends a.goal r.session) left) in
       is_short (past_law ms) before (joined ms a.guards a.guards a.goal h r.session k
       (sym (same_before r.session (plain_ends ms a.goal r.session) a.guards
-      (steps_of (bare_ends a.goal r.session) left) none k part.err.within)) part.aim)
-      part.others result is part.err
+      (steps_of (bare_ends a.goal r.session) left) none k part.err.within)) part.aim) part.others result is part.err
 
   -- it came to an end
   module _ {end : End} (part : Ran bare_ends goal_at left a.goal h r q (Ok end)) {s : SessionState} (stands : s ≡ q.session)
@@ -279,8 +210,7 @@ module _ (ms : List ℕ) {a0 : Aim} {r0 : RecordingState} {most : ℕ} {a : Aim}
         ap (plain_here ms) part.aim ∙ same_here ms a.goal r.session (steps_between r.session.timed q.session.timed)
 
     end_is_here : o ≡ past_here ms a s end
-    end_is_here =
-        here ∙ ap (λ (f : SessionState → End → Option End). option_and_then (end_here a.guards s) (f s end)) same_marks
+    end_is_here = grind (arith, nat_tests, same_marks)
 
     aim_is : ◌≡◌ {A = Aim} (record { guards = hs; goal = h })
         (aim_after ms a r.session (steps_between r.session.timed q.session.timed))
@@ -307,5 +237,4 @@ module _ (ms : List ℕ) {a0 : Aim} {r0 : RecordingState} {most : ℕ} {a : Aim}
           fewer (past_law ms) before aim_is part.others part.ok stands end_is_here none first last done fewer_is
 
       pub past_on : Rests (past_ends ms) (aim_after ms) a0 r0 most (record { guards = hs; goal = h }) q less
-      past_on =
-          goes_on (past_law ms) before aim_is part.others part.ok stands end_is_here none first last done fewer_is
+      past_on = goes_on (past_law ms) before aim_is part.others part.ok stands end_is_here none first last done fewer_is

@@ -1,46 +1,35 @@
 -- What goes on after a call of a run.
-use Rattle.std.proofs.Common.{◌≡◌, ◌∙◌, ℕ, ◌+◌, ◌-◌, ◌≤◌, Bool, true, false, refl, sym, ap, subst, arith, ⊎_elim}
-use Rattle.std.proofs.lemmas.Bool.{cases_lt, false≢true}
+use Rattle.std.proofs.Common.{◌≡◌, ◌∙◌, ℕ, ◌+◌, ◌-◌, Bool, true, false, sym, ap, subst, arith}
 use Rattle.std.proofs.lemmas.Bool.Decides.{nat_tests}
 use Rattle.std.specs.Prelude.{◌&&◌, nat_lt, is_none, is_some, min, if◌then◌else◌, unwrap_or, Option, Some, None}
 use Rattle.rv_monitor.specs.State.{IsInTime, SessionState, after}
 use Rattle.rv_recording.specs.Until.{steps_of}
 use Rattle.rv_recording.specs.declared.until.End.{End}
-use Rattle.rv_recording.specs.declared.until.End.TheVariants.{Halted, Limit}
-use Rattle.rv_recording.proofs.Counting.{joins, joins_over, over_or_all, same_steps, steps_within}
-use Rattle.rv_runs.specs.Ends.{Stops, goal_after, guarded_ends, run_ends}
-use Rattle.rv_runs.specs.Support.Plain.{watched_ends}
+use Rattle.rv_recording.specs.declared.until.End.TheVariants.{Limit}
+use Rattle.rv_recording.proofs.Counting.{joins, same_steps, steps_within}
+use Rattle.rv_runs.specs.Ends.{Stops, goal_after, heeds, run_ends}
 use Rattle.rv_runs.specs.Plans.{plan_after, rest_of, resumed_by, resumes_after, resumes_of}
 use Rattle.rv_runs.specs.Watches.{changes_at, watching}
 use Rattle.rv_runs.specs.declared.goal.Goal.{Goal}
 use Rattle.rv_runs.specs.declared.goal.Goal.TheVariants as goal
 use Rattle.rv_runs.specs.declared.plan.Plan.{Plan}
 use Rattle.rv_runs.proofs.Later.{ends_later, goal_later, stops_after}
+use Rattle.rv_runs.proofs.Parts.{all_of, as_far}
+use Rattle.rv_runs.proofs.Sifting.{none_before}
 use Rattle.rv_runs.proofs.Watching.{is_limit, never}
 
 -- ---- after a call that ended so
 
-never_watching : (changes : Bool) (o : Option End) → is_limit o ≡ false → is_limit (watching changes o) ≡ false
-never_watching false o e = e
-never_watching true None e = refl
-never_watching true (Some Halted) e = refl
-never_watching true (Some _) e = refl
-
-never_heeding : (st : Stops) (g : Goal) (s : SessionState) (n : ℕ) → is_limit (watched_ends st g s n) ≡ false
-never_heeding st g s n =
-    never_watching (changes_at st.watches s.timed n) (guarded_ends st.marks st.guards g s n) (never st.marks st.guards g s n)
+never_watching : (b changes : Bool) (o : Option End) → is_limit o ≡ false
+    → is_limit (if b then watching changes o else o) ≡ false
+never_watching b changes o e = grind arith
 
 never_run : (st : Stops) (g : Goal) (s : SessionState) (n : ℕ) → is_limit (run_ends st g s n) ≡ false
-never_run st goal.Count s n = never st.marks st.guards goal.Count s n
-never_run st goal.Trace s n = never st.marks st.guards goal.Trace s n
-never_run st g s n = never_heeding st g s n
+never_run st g s n = never_watching (heeds g) (changes_at st.watches s.timed n) _ (never st.marks st.guards g s n)
 
-rest_by : (p : Plan) (g : Goal) (n : ℕ) (o : Option End) → is_limit o ≡ false
-    → rest_of p g (unwrap_or o Limit) n
+rest_by : (p : Plan) (g : Goal) (n : ℕ) (o : Option End) → is_limit o ≡ false → rest_of p g (unwrap_or o Limit) n
     ≡ (if is_none o && nat_lt n p.left then Some (record p { goal = g; left = p.left - n }) else None)
-rest_by p g n None e = refl
-rest_by p g n (Some Limit) e = absurd (false≢true (sym e))
-rest_by p g n (Some _) e = refl
+rest_by p g n o e = grind arith
 
 pub plan_is : (st : Stops) (p : Plan) (s : SessionState) (n : ℕ)
     → rest_of p (goal_after p.goal s.timed n) (unwrap_or (run_ends st p.goal s n) Limit) n ≡ plan_after st p s n
@@ -49,9 +38,7 @@ plan_is st p s n = rest_by p (goal_after p.goal s.timed n) n (run_ends st p.goal
 
 resumes_by : (g : Goal) (o : Option End) → is_limit o ≡ false
     → resumes_of g (unwrap_or o Limit) ≡ (if is_none o then resumed_by g else goal.Break)
-resumes_by g None e = refl
-resumes_by g (Some Limit) e = absurd (false≢true (sym e))
-resumes_by g (Some _) e = refl
+resumes_by g o e = grind arith
 
 pub resumes_is : (st : Stops) (g : Goal) (s : SessionState) (n : ℕ)
     → resumes_of (goal_after g s.timed n) (unwrap_or (run_ends st g s n) Limit) ≡ resumes_after st g s n
@@ -61,25 +48,18 @@ resumes_is st g s n = resumes_by (goal_after g s.timed n) (run_ends st g s n) (n
 pub resumes_later : (s : SessionState) (k : ℕ) → IsInTime s.timed → (st : Stops) (g : Goal) → is_some (run_ends st g s k) ≡ false
     → (i : ℕ) → resumes_after (stops_after st g s k) (goal_after g s.timed k) (record s { timed = after s.timed k }) i
     ≡ resumes_after st g s (k + i)
-resumes_later s k h st g e i =
-    ap (λ (o : Option End). if is_none o then resumed_by (goal_after (goal_after g s.timed k) (after s.timed k) i) else goal.Break)
-    (ends_later s k h st g e i)
-    ∙ ap (λ (x : Goal). if is_none (run_ends st g s (k + i)) then resumed_by x else goal.Break) (goal_later s k h g i)
+resumes_later s k h st g e i = rw (ends_later s k h st g e i, goal_later s k h g i)
 
 -- ---- a run and its rest
 
 -- the plan that is kept, and what was not yet over
 kept_by : (o : Option End) (b : Bool) (q r : Plan) → (if is_none o && b then Some q else None) ≡ Some r
     → (is_some o ≡ false) × (b ≡ true) × (q ≡ r)
-kept_by None true q r e = (refl, refl, cc)
-kept_by None false q r e = absurd cc
-kept_by (Some end) b q r e = absurd cc
+kept_by o b q r e = grind arith
 
 lost_by : (o : Option End) (b : Bool) (q : Plan) → (if is_none o && b then Some q else None) ≡ None
     → (is_some o ≡ false → b ≡ false)
-lost_by None true q e h = absurd cc
-lost_by None false q e h = refl
-lost_by (Some end) b q e h = absurd (false≢true (sym h))
+lost_by o b q e h = grind arith
 
 module _ (st : Stops) (p : Plan) (s : SessionState) (m : ℕ) where
   abbrev ends : ℕ → Option End
@@ -99,28 +79,15 @@ module _ (st : Stops) (p : Plan) (s : SessionState) (m : ℕ) where
 
   -- where no plan is left, the steps are all of the run
   pub all_taken : plan_after st p s k ≡ None → steps_of ends p.left ≡ k
-  all_taken e = by_end (is_some (ends k)) refl
-    where
-      by_end : (b : Bool) → is_some (ends k) ≡ b → steps_of ends p.left ≡ k
-      by_end true is =
-          let all : min p.left m + (p.left - min p.left m) ≡ p.left = omega arith in
-          subst (λ (n : ℕ). steps_of ends n ≡ k) all (joins_over ends (min p.left m) (p.left - min p.left m) is)
-      by_end false is =
-          let last : nat_lt k p.left ≡ false = lost e is in
-          let most = steps_within ends (min p.left m) in
-          let enough : p.left ≤ k = grind (arith, nat_tests) in
-          let same : min p.left m ≡ p.left = omega (arith, most, enough) in
-          ap (steps_of ends) (sym same)
+  all_taken e = as_far ends k p.left (omega (arith, steps_within ends (min p.left m))) (none_before ends (min p.left m))
+      (λ going. let last = lost e going in let most = steps_within ends (min p.left m) in grind (arith, nat_tests))
 
   -- where one is, the rest of the run makes it whole
   pub rest_steps : IsInTime s.timed → (r : Plan) → plan_after st p s k ≡ Some r
       → k + steps_of (run_ends (stops_after st p.goal s k) r.goal (record s { timed = after s.timed k })) r.left ≡ steps_of ends p.left
   rest_steps h r e =
       let now = kept r e in
-      let full : k ≡ min p.left m = ⊎_elim
-      (λ less. absurd (false≢true (sym now.0 ∙ over_or_all ends (min p.left m) less)))
-      (λ enough. omega (arith, enough, steps_within ends (min p.left m)))
-      (cases_lt k (min p.left m)) in
+      let full = all_of ends (min p.left m) now.0 in
       let all : min p.left m + (p.left - k) ≡ p.left = omega (arith, full) in
       subst (λ (q : Plan). k + steps_of (run_ends (stops_after st p.goal s k) q.goal (record s { timed = after s.timed k })) q.left ≡ steps_of ends p.left) now.2
       (ap (λ n. k + n) (same_steps (run_ends (stops_after st p.goal s k) (goal_after p.goal s.timed k) (record s { timed = after s.timed k }))
