@@ -1,12 +1,13 @@
 -- The search for the last step of a kind.
-use Rattle.std.proofs.Common.{◌≡◌, ◌∙◌, ℕ, zero, suc, ◌+◌, ◌<◌, ◌≤◌, Bool, true, false, add-one, refl, sym, ap, subst, arith}
+use Rattle.std.proofs.lemmas.Bool.Decides.{nat_tests}
+use Rattle.std.proofs.Common.{rules, ◌≡◌, ◌∙◌, ℕ, zero, suc, ◌+◌, ◌<◌, ◌≤◌, Bool, true, false, add-one, refl, sym, ap, subst, arith}
 use native.Mathlib.Numerals.{unary_clauses}
 use Rattle.std.specs.Prelude.{if◌then◌else◌, IfOk, IfSome, Option, Some, None, Result}
 use Rattle.rv_base.specs.declared.memory.NoMemory.{NoMemory}
 use Rattle.rv_board.specs.Support.State.{halted_of}
 use Rattle.rv_monitor.specs.Laws.{IsReached}
 use Rattle.rv_monitor.specs.State.{IsInTime, SessionState, TimedState, after}
-use Rattle.rv_monitor.proofs.Steps.{after_more, in_time_after}
+use Rattle.rv_monitor.proofs.Steps.{after_more}
 use Rattle.rv_recording.specs.Recording.{RecordingState, first_board, gone_back}
 use Rattle.rv_why.specs.Origins.{last_sought, is_sought}
 use Rattle.rv_why.specs.Support.Found.{next_of}
@@ -31,8 +32,7 @@ unfolding last_sought
 last_suc x s n = ap (last_sought x s) (add-one n)
 
 more_within : (found : Option ℕ) (n : ℕ) → IfSome found (λ k. k < n) → IfSome found (λ k. k < n + 1)
-more_within None n h = tt
-more_within (Some k) n h = omega (arith, h)
+more_within found n h = search (rules, arith, nat_tests)
 
 module _ (x : Sought) (first now next : SessionState) (found : Option ℕ) (n : ℕ) (h : IsInTime first.timed)
     (at : Following x first now found n) (moves : next ≡ next_of now) where
@@ -41,16 +41,10 @@ module _ (x : Sought) (first now next : SessionState) (found : Option ℕ) (n : 
 
   chosen : (b : Bool) → b ≡ is_sought x now.timed
       → last_sought x first.timed (n + 1) ≡ (if b then Some n else last_sought x first.timed n)
-  chosen b e =
-      last_suc x first.timed n
-      ∙ ap (λ (b : Bool). if b then Some n else last_sought x first.timed n) (writes_is b e)
+  chosen b e = search (rules, arith, nat_tests, last_suc, writes_is)
 
   pub was : true ≡ is_sought x now.timed → Following x first next (Some n) (n + 1)
-  was e = record {
-    state = next_is first now n h at.state next moves;
-    last = sym (chosen true e);
-    within = omega arith;
-  }
+  was e = record { state = next_is first now n h at.state next moves; last = sym (chosen true e); within = omega arith }
 
   pub kept : false ≡ is_sought x now.timed → Following x first next found (n + 1)
   kept e = record {
@@ -68,8 +62,7 @@ later k (Some n) before = Some (k + n)
 
 later_by : (b : Bool) (k m : ℕ) (late before : Option ℕ)
     → (if b then Some (k + m) else later k late before) ≡ later k (if b then Some m else late) before
-later_by true k m late before = refl
-later_by false k m late before = refl
+later_by b k m late before = search (rules, arith, nat_tests)
 
 pub last_later : (x : Sought) (s : TimedState) (k m : ℕ) → IsInTime s
     → last_sought x s (k + m) ≡ later k (last_sought x (after s k) m) (last_sought x s k)
@@ -85,28 +78,19 @@ last_later x s k (suc m) h =
 module _ (r : RecordingState) (reached : IsReached (first_board r) r.session.timed) (t : TimedState) (k : ℕ)
     (e : t ≡ (gone_back r k).session.timed) where
   pub near_running : (most i : ℕ) → k + most ≤ r.session.timed.taken → i < most → halted_of (after t i).board ≡ None
-  near_running most i h l =
-      ap (λ (u : TimedState). halted_of (after u i).board) e
-      ∙ (ap (λ (u : TimedState). halted_of u.board) (after_more (first_state r) k i reached.rising)
-      ∙ reached.running (k + i) (omega (arith, h, l)))
+  near_running most i h l = search (rules, arith, nat_tests, after_more)
 
   pub near_taken : t.taken ≡ k
   unfolding after
-  near_taken =
-      let sum : t.taken ≡ 0 + k = ap (λ (u : TimedState). u.taken) e in omega (arith, sum)
+  near_taken = search (rules, arith, nat_tests)
 
   pub last_near : (x : Sought) (m n : ℕ) → k + m ≡ n
       → last_sought x (first_state r) n ≡ later k (last_sought x t m) (last_sought x (first_state r) k)
-  last_near x m n sum =
-      ap (last_sought x (first_state r)) (sym sum)
-      ∙ (last_later x (first_state r) k m (first_in_time r reached)
-      ∙ ap (λ (u : TimedState). later k (last_sought x u m) (last_sought x (first_state r) k)) (sym e))
+  last_near x m n sum = search (rules, arith, nat_tests, last_later, first_in_time)
 
   module _ (x : Sought) (m n : ℕ) (sum : k + m ≡ n) (found : Option ℕ) (late : found ≡ last_sought x t m) where
-    by_late : (o : Option ℕ) → found ≡ o
-        → last_sought x (first_state r) n ≡ later k o (last_sought x (first_state r) k)
-    by_late o e =
-        last_near x m n sum ∙ ap (λ (p : Option ℕ). later k p (last_sought x (first_state r) k)) (sym late ∙ e)
+    by_late : (o : Option ℕ) → found ≡ o → last_sought x (first_state r) n ≡ later k o (last_sought x (first_state r) k)
+    by_late o e = search (rules, arith, nat_tests, last_near)
 
     pub found_late : (done : ℕ) → found ≡ Some done → Some (k + done) ≡ last_sought x (first_state r) n
     found_late done e = sym (by_late (Some done) e)

@@ -1,5 +1,6 @@
 -- Sessions that take the steps of a recording again.
-use Rattle.std.proofs.Common.{◌≡◌, ◌∙◌, ℕ, ◌<◌, ◌≤◌, refl, sym, ap, subst, arith}
+use Rattle.std.proofs.lemmas.Bool.Decides.{nat_tests}
+use Rattle.std.proofs.Common.{rules, ◌≡◌, ◌∙◌, ℕ, ◌<◌, ◌≤◌, refl, ap, subst, arith}
 use Rattle.std.specs.Prelude.{◌-◌, min, Option, Some, None}
 use Rattle.std.specs.Option.{option_and_then}
 use Rattle.rv_board.specs.Support.State.{halted_of}
@@ -21,9 +22,7 @@ use Rattle.rv_why.specs.declared.search.Found.{Found}
 
 pub stands_at : (r : RecordingState) (t : TimedState) (n : ℕ) → n ≤ r.session.timed.taken
     → t ≡ (gone_back r (min n r.session.timed.taken)).session.timed → t.board ≡ board_at (first_state r) n
-stands_at r t n h e =
-    let least : min n r.session.timed.taken ≡ n = omega (arith, h) in
-    ap (λ (u : TimedState). u.board) e ∙ ap (λ (k : ℕ). board_at (first_state r) k) least
+stands_at r t n h e = search (rules, arith, nat_tests)
 
 pub first_in_time : (r : RecordingState) → IsReached (first_board r) r.session.timed → IsInTime (first_state r)
 first_in_time r reached =
@@ -32,13 +31,10 @@ first_in_time r reached =
 module _ (r : RecordingState) (reached : IsReached (first_board r) r.session.timed) (t : TimedState)
     (e : t ≡ (gone_back r (min 0 r.session.timed.taken)).session.timed) where
   pub is_first : t ≡ first_state r
-  is_first =
-      let none : min 0 r.session.timed.taken ≡ 0 = omega arith in
-      e ∙ (ap (after (first_state r)) none ∙ after_none (first_state r) (first_in_time r reached))
+  is_first = search (rules, arith, nat_tests, after_none, first_in_time)
 
   pub begins_running : (most i : ℕ) → most ≤ r.session.timed.taken → i < most → halted_of (after t i).board ≡ None
-  begins_running most i h l =
-      ap (λ (u : TimedState). halted_of (after u i).board) is_first ∙ reached.running i (omega (arith, h, l))
+  begins_running most i h l = search (rules, arith, nat_tests, is_first)
 
   pub begins_at : t.taken ≡ 0
   begins_at = ap (λ (u : TimedState). u.taken) is_first
@@ -55,12 +51,7 @@ module _ (r : RecordingState) (most unseen : ℕ) (all : most ≡ min r.session.
   told_by : (trap : Option Explained) (n : Option ℕ) → told (first_state r) most ≡ n → trap_of n ≡ trap
       → ◌≡◌ {A = Explanation} (record { trap = trap; unseen = unseen; repeated = repeated }) (explanation r)
   unfolding explanation
-  told_by trap n is e =
-      let here : trap_of (told (first_state r) (min r.session.timed.taken 20000000)) ≡ trap =
-      ap (λ (k : ℕ). trap_of (told (first_state r) k)) (sym all) ∙ (ap trap_of is ∙ e) in
-      ap (λ (o : Option Explained). record { trap = o; unseen = unseen; repeated = repeated }) (sym here)
-      ∙ (ap (λ (k : ℕ). record { trap = trap_of (told (first_state r) (min r.session.timed.taken 20000000)); unseen = k; repeated = repeated }) left
-      ∙ ap (λ (t : Option Repeated). record { trap = trap_of (told (first_state r) (min r.session.timed.taken 20000000)); unseen = r.session.timed.taken - 20000000; repeated = t }) again)
+  told_by trap n is e = search (rules, arith, nat_tests)
 
   pub none_told : IsTold (first_state r) most None
       → ◌≡◌ {A = Explanation} (record { trap = None; unseen = unseen; repeated = repeated }) (explanation r)

@@ -1,6 +1,6 @@
 -- A session after some of its steps.
-use Rattle.std.proofs.Common.{◌≡◌, ◌∙◌, ℕ, ◌+◌, ◌<◌, ◌≤◌, Bool, true, refl, sym, ap, arith}
-use Rattle.std.specs.Prelude.{is_none, nat_lt, Option, Some, None}
+use Rattle.std.proofs.Common.{rules, ◌≡◌, ℕ, ◌+◌, ◌<◌, ◌≤◌, true, sym, ap, arith}
+use Rattle.std.specs.Prelude.{is_none, Option, None}
 use Rattle.std.proofs.lemmas.Bool.Decides.{nat_tests}
 use Rattle.rv_hart.specs.Step.{step}
 use Rattle.rv_board.specs.Support.State.{halted_of}
@@ -17,8 +17,7 @@ pub stands_first : (first : SessionState) → IsInTime first.timed → first ≡
 stands_first first h = ap (λ (t : TimedState). record first { timed = t }) (sym (after_none first.timed h))
 
 running_by : (h : Option ℕ) → h ≡ None → is_none h ≡ true
-running_by None e = refl
-running_by (Some code) e = absurd cc
+running_by h e = search (rules, arith, nat_tests)
 
 module _ (first now : SessionState) (n : ℕ) (h : IsInTime first.timed) (state : now ≡ stands first n) where
   pub timed_is : now.timed ≡ after first.timed n
@@ -30,18 +29,10 @@ module _ (first now : SessionState) (n : ℕ) (h : IsInTime first.timed) (state 
 
   pub may_go : (most : ℕ) → n < most → first.timed.taken + most ≤ first.limit
       → ((i : ℕ) → i < most → halted_of (after first.timed i).board ≡ None) → may_step now ≡ true
-  may_go most l room runs =
-      let running : is_none (halted_of now.timed.board) ≡ true =
-      running_by _ (ap (λ (t : TimedState). halted_of t.board) timed_is ∙ runs n l) in
-      let limit : now.limit ≡ first.limit = ap (λ (u : SessionState). u.limit) state in
-      let less : now.timed.taken < now.limit = omega (arith, taken_is, limit, l, room) in
-      let is_less : nat_lt now.timed.taken now.limit ≡ true = grind (arith, nat_tests, less) in
-      rw (running, is_less) refl
+  may_go most l room runs = search (rules, arith, nat_tests, running_by, timed_is, taken_is)
 
   pub next_is : (next : SessionState) → next ≡ next_of now → next ≡ stands first (n + 1)
-  next_is next moves =
-      moves ∙ (ap next_of state
-      ∙ ap (λ (t : TimedState). record first { timed = t }) (after_more first.timed n 1 h.rising))
+  next_is next moves = search (rules, arith, nat_tests, after_more)
 
   pub did : step (with_due now.timed).board.machine ≡ step (with_due (after first.timed n)).board.machine
   did = ap (λ (t : TimedState). step (with_due t).board.machine) timed_is

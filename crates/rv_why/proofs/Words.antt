@@ -1,10 +1,10 @@
 -- Control registers by their words.
-use Rattle.std.proofs.Common.{◌≡◌, ◌∙◌, ℕ, ◌+◌, ◌*◌, ◌/◌, ◌%◌, ◌≤◌, ◌==◌, Bool, true, false, refl, sym, ap, arith}
+use Rattle.std.proofs.lemmas.Bool.Decides.{nat_tests}
+use Rattle.std.proofs.Common.{rules, ◌≡◌, ◌∙◌, ℕ, ◌≤◌, ◌==◌, Bool, true, false, refl, sym, ap, arith}
 use Rattle.std.specs.Prelude.{if◌then◌else◌, unwrap_or, Option, Some}
-use Rattle.std.proofs.lemmas.Bool.{false≢true}
 use Rattle.rv_isa.specs.Number.{flag, truth}
 use Rattle.rv_isa.specs.Names.{csr_names}
-use Rattle.rv_pmp.specs.Mode.{is_machine, level}
+use Rattle.rv_pmp.specs.Mode.{is_machine}
 use Rattle.rv_pmp.specs.Pmp.{read_register}
 use Rattle.rv_pmp.specs.declared.mode.Mode.{Mode}
 use Rattle.rv_pmp.specs.declared.mode.Mode.TheVariants.{User, Machine}
@@ -28,35 +28,19 @@ module _ (b : BoardState) where
   mstatus_is r e = e ∙ ap (λ (w : Option ℕ). unwrap_or w 0) mstatus_word
 
 pub most : (b : Bool) → truth b ≤ 1
-most true = omega arith
-most false = omega arith
+most b = search (rules, arith, nat_tests)
 
 pub is_one : (b : Bool) → (truth b == 1) ≡ b
-is_one true = refl
-is_one false = refl
-
-levels : (m : Mode) → level m ≤ 3
-levels User = omega arith
-levels Machine = omega arith
-
-is_odd : (m : Mode) → (level m % 2 == 1) ≡ is_machine m
-is_odd User = refl
-is_odd Machine = refl
+is_one b = search (rules, arith, nat_tests)
 
 module _ (s : Mstatus) where
   mprv_bit : flag (status_word s) 17 ≡ s.mprv
   unfolding status_word
-  mprv_bit =
-      let here : (truth s.mie * 8 + truth s.mpie * 128 + level s.mpp * 2048 + truth s.mprv * 131072 + truth s.tw * 2097152) / 131072 % 2
-      ≡ truth s.mprv = omega (arith, most s.mie, most s.mpie, levels s.mpp, most s.mprv) in
-      ap (λ n. n == 1) here ∙ is_one s.mprv
+  mprv_bit = search (rules, arith, nat_tests, most, is_one)
 
   mpp_bit : flag (status_word s) 11 ≡ is_machine s.mpp
   unfolding status_word
-  mpp_bit =
-      let here : (truth s.mie * 8 + truth s.mpie * 128 + level s.mpp * 2048 + truth s.mprv * 131072 + truth s.tw * 2097152) / 2048 % 2
-      ≡ level s.mpp % 2 = omega (arith, most s.mie, most s.mpie) in
-      ap (λ n. n == 1) here ∙ is_odd s.mpp
+  mpp_bit = search (rules, arith, nat_tests, most)
 
   module _ (mode : Mode) (w : ℕ) (is : w ≡ status_word s) where
     abbrev mode_of : Bool → Mode → Mode
@@ -69,20 +53,16 @@ module _ (s : Mstatus) where
     mpp_by b e = sym mpp_bit ∙ (ap (λ (n : ℕ). flag n 11) (sym is) ∙ e)
 
     machine_by : (m : Mode) → is_machine m ≡ true → Machine ≡ m
-    machine_by Machine e = refl
-    machine_by User e = absurd (false≢true e)
+    machine_by m e = search (rules, arith, nat_tests)
 
     user_by : (m : Mode) → is_machine m ≡ false → User ≡ m
-    user_by User e = refl
-    user_by Machine e = absurd (false≢true (sym e))
+    user_by m e = search (rules, arith, nat_tests)
 
     pub own_mode : flag w 17 ≡ false → mode ≡ mode_of s.mprv s.mpp
     own_mode e = sym (ap (λ (b : Bool). mode_of b s.mpp) (mprv_by false e))
 
     pub machine_mode : flag w 17 ≡ true → flag w 11 ≡ true → Machine ≡ mode_of s.mprv s.mpp
-    machine_mode e f =
-        machine_by s.mpp (mpp_by true f) ∙ sym (ap (λ (b : Bool). mode_of b s.mpp) (mprv_by true e))
+    machine_mode e f = search (rules, arith, nat_tests, machine_by, mpp_by, mprv_by)
 
     pub user_mode : flag w 17 ≡ true → flag w 11 ≡ false → User ≡ mode_of s.mprv s.mpp
-    user_mode e f =
-        user_by s.mpp (mpp_by false f) ∙ sym (ap (λ (b : Bool). mode_of b s.mpp) (mprv_by true e))
+    user_mode e f = search (rules, arith, nat_tests, user_by, mpp_by, mprv_by)

@@ -23,12 +23,10 @@ pub loop-done-preserved : goal.loop-done-preserved
 loop-done-preserved c = elim c.match-branch-2.branch [
   | in-Some+else-is_some w ↦
       let met : is_some w.in-Some.trap.handler.missing ≡ false = first_of (search rules, cc) in
-      rw w.found-is
-      (found_one c.args.run.now c.loop-done.run c.loop-done.found c.loop-done.done c.requires.in_time
+      rw w.found-is (found_one c.args.run.now c.loop-done.run c.loop-done.found c.loop-done.done c.requires.in_time
       c.loop-done.invariant c.take_step.new.run c.in_ok-trap.ensures.state w.in-Some.trap
       (rw w.in-Some.is at c.in_ok-trap.ensures.trap) met)
-  | in_default w ↦
-      rw w.found-is
+  | in_default w ↦ rw w.found-is
       (went_on c.args.run.now c.loop-done.run c.loop-done.found c.loop-done.done c.requires.in_time
       c.loop-done.invariant c.take_step.new.run c.in_ok-trap.ensures.state
       (rw w.in_default.is at c.in_ok-trap.ensures.trap))

@@ -36,12 +36,10 @@ returns c =
     let told = told_first c.args.recording.now c.session.ensures.reached c.in_ok-run.run'.timed
     c.in_ok-run.ensures.timed c.min.result c.in_ok-found.field-0 c.in_ok-found.ensures in
     elim c.match-branch-3.branch [
-      | in-Some+in_ok-explained-in-Some w ↦
-          rw w.trap-is
+      | in-Some+in_ok-explained-in-Some w ↦ rw w.trap-is
           (some_told c.args.recording.now c.min.result c.saturating_sub.result most left c.last_of.result c.last_of.ensures w.in-Some.found _
           (rw w.in-Some.is at told) w.in_ok-explained-in-Some.ensures)
-      | in-None w ↦
-          rw w.trap-is
+      | in-None w ↦ rw w.trap-is
           (none_told c.args.recording.now c.min.result c.saturating_sub.result most left c.last_of.result c.last_of.ensures
           (rw w.in-None.is at told))
     ]

@@ -1,4 +1,4 @@
-use Rattle.std.proofs.Common.{◌-◌, sym, arith}
+use Rattle.std.proofs.Common.{◌-◌, arith}
 use Rattle.rv_why.specs.Origins.{last_sought}
 use Rattle.rv_why.specs.Taken.{first_state}
 use Rattle.rv_why.proofs.LastSought.{found_late, if_same, last_none, near_running, near_taken, none_late}
