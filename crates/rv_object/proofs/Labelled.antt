@@ -1,5 +1,6 @@
 -- The labels among the symbols of a file, and how many bytes it has.
-use Rattle.std.proofs.Common.{◌≡◌, ◌∙◌, ℕ, Bool, true, false, ◌+◌, ◌-◌, ◌*◌, ◌^◌, ◌≤◌, List, [], ◌∷◌, ◌++◌, map, drop, length, Some, None, refl, ap, arith}
+use Rattle.std.proofs.lemmas.Bool.Decides.{nat_tests}
+use Rattle.std.proofs.Common.{rules, ◌≡◌, ◌∙◌, ℕ, Bool, ◌+◌, ◌-◌, ◌*◌, ◌^◌, ◌≤◌, List, [], ◌∷◌, ◌++◌, map, drop, length, Some, refl, ap, arith}
 use Rattle.std.specs.Prelude.{Option, codes, nat_lt, if◌then◌else◌}
 use Rattle.std.specs.Option.{option_map, unwrap_or}
 use Rattle.rv_elf.specs.Elf.{contents}
@@ -34,9 +35,7 @@ after_first (s ∷ ss) p ls e = let rest : map name_and_value ss ≡ ls = cc in 
 pub labelled : (file : List ℕ) (symbols : List Symbol) (name : List ℕ) (ls : List (List ℕ × ℕ)) →
     symbols_of file ≡ Some (null_symbol ∷ map named symbols) → map name_and_value symbols ≡ (name, 0) ∷ ls →
     option_map names_and_values (symbols_of file) ≡ Some (texts ls)
-labelled file symbols name ls is e =
-    ap (λ (o : Option (List Symbol)). option_map names_and_values o) is
-    ∙ ap (λ (x : List (List ℕ × ℕ)). Some x) (after_first symbols (name, 0) ls e)
+labelled file symbols name ls is e = search (rules, arith, nat_tests, after_first)
 
 -- ---- sizes
 
@@ -48,22 +47,17 @@ firsts (s ∷ ss) = ap (λ (x : List (List ℕ)). s.name ∷ x) (firsts ss)
 names_are : (symbols : List Symbol) (name : List ℕ) (ls : List (List ℕ × ℕ)) →
     map name_and_value symbols ≡ (name, 0) ∷ ls →
     map (λ (s : Symbol). s.name) symbols ≡ name ∷ map (λ (p : List ℕ × ℕ). p.0) ls
-names_are symbols name ls is =
-    firsts symbols ∙ ap (λ (x : List (List ℕ × ℕ)). map (λ (p : List ℕ × ℕ). p.0) x) is
+names_are symbols name ls is = search (rules, arith, nat_tests, firsts)
 
 sizes_are : (image : List ℕ) (symbols : List Symbol) (lines : List PlacedLine) (name : List ℕ) (l : Listed) →
     image ≡ l.assembly.bytes → map name_and_value symbols ≡ (name, 0) ∷ all_labels l →
     lines ≡ placed_from l 1 (length l.addresses - 1) →
     file_size image (map (λ (s : Symbol). s.name) symbols) lines name ≡ size_of l name
-sizes_are image symbols lines name l i s p =
-    ap (λ (x : List ℕ). file_size x (map (λ (s : Symbol). s.name) symbols) lines name) i
-    ∙ ap (λ (x : List (List ℕ)). file_size l.assembly.bytes x lines name) (names_are symbols name (all_labels l) s)
-    ∙ ap (λ (x : List PlacedLine). file_size l.assembly.bytes (name ∷ map (λ (p : List ℕ × ℕ). p.0) (all_labels l)) x name) p
+sizes_are image symbols lines name l i s p = search (rules, arith, nat_tests, names_are)
 
 -- the compilation unit has no more for its functions than the table of symbols
 one_function : (b : Bool) (n : ℕ) → (if b then 10 + n else 0) ≤ 17 + n
-one_function true n = omega arith
-one_function false n = omega arith
+one_function b n = search (rules, arith, nat_tests)
 
 functions_few : (ss : List Symbol) → functions_size ss ≤ symbols_size (map (λ (s : Symbol). s.name) ss)
 functions_few [] = omega arith
@@ -72,14 +66,10 @@ functions_few (s ∷ ss) = omega (arith, one_function (nat_lt 0 s.size) (length 
 info_few : (symbols : List Symbol) (name folder : List ℕ) (l : Listed) →
     map name_and_value symbols ≡ (name, 0) ∷ all_labels l → info_size name folder symbols
     ≤ 49 + length name + length folder + symbols_size (name ∷ map (λ (p : List ℕ × ℕ). p.0) (all_labels l))
-info_few symbols name folder l s =
-    let names : symbols_size (map (λ (s : Symbol). s.name) symbols)
-    ≡ symbols_size (name ∷ map (λ (p : List ℕ × ℕ). p.0) (all_labels l)) = ap symbols_size (names_are symbols name (all_labels l) s) in
-    omega (arith, functions_few symbols, names)
+info_few symbols name folder l s = search (rules, arith, nat_tests, names_are, functions_few)
 
 length_of : (o : Option (List ℕ)) (n : ℕ) → option_map length o ≡ Some n → length (unwrap_or o []) ≡ n
-length_of None n e = cc
-length_of (Some x) n e = cc
+length_of o n e = search (rules, arith, nat_tests)
 
 has : (file section name : List ℕ) → contents file name ≡ Some section → section_size file name ≡ length section
 has file section name is = ap (λ (o : Option (List ℕ)). length (unwrap_or o [])) is
@@ -89,11 +79,7 @@ tables_have : (file frames macros : List ℕ) (info : ℕ) →
     option_map length (contents file (codes ".debug_info")) ≡ Some info →
     contents file (codes ".debug_frame") ≡ Some frames → contents file (codes ".debug_macro") ≡ Some macros →
     tables_size file ≡ info + length frames + length macros
-tables_have file frames macros info i f m =
-    let one : section_size file (codes ".debug_info") ≡ info = length_of (contents file (codes ".debug_info")) info i in
-    let two = has file frames (codes ".debug_frame") f in
-    let three = has file macros (codes ".debug_macro") m in
-    omega (arith, one, two, three)
+tables_have file frames macros info i f m = search (rules, arith, nat_tests, length_of, has)
 
 pub size_is : (file image : List ℕ) (symbols : List Symbol) (lines : List PlacedLine) (name folder frames macros : List ℕ)
     (l : Listed) → image ≡ l.assembly.bytes → map name_and_value symbols ≡ (name, 0) ∷ all_labels l →
@@ -103,9 +89,7 @@ pub size_is : (file image : List ℕ) (symbols : List Symbol) (lines : List Plac
     length file ≡ file_size image (map (λ (s : Symbol). s.name) symbols) lines name + info_size name folder symbols
     + length frames + length macros → length file ≡ size_of l name + tables_size file
 size_is file image symbols lines name folder frames macros l i s p d f m h =
-    let size = sizes_are image symbols lines name l i s p in
-    let tables = tables_have file frames macros (info_size name folder symbols) d f m in
-    omega (arith, size, tables, h)
+    search (rules, arith, nat_tests, sizes_are, tables_have)
 
 pub most_is : (file : List ℕ) (symbols : List Symbol) (name folder frames macros : List ℕ) (l : Listed) →
     map name_and_value symbols ≡ (name, 0) ∷ all_labels l →

@@ -1,5 +1,6 @@
 -- The most bytes that a file has.
-use Rattle.std.proofs.Common.{◌≡◌, ◌∙◌, ℕ, suc, true, ◌+◌, ◌-◌, ◌^◌, ◌<◌, ◌≤◌, List, [], ◌∷◌, ◌++◌, codes, map, refl, sym, ap, arith, ⊎_elim}
+use Rattle.std.proofs.lemmas.Bool.Decides.{nat_tests}
+use Rattle.std.proofs.Common.{rules, ◌≡◌, ℕ, suc, true, ◌+◌, ◌-◌, ◌^◌, ◌<◌, ◌≤◌, List, [], ◌∷◌, ◌++◌, codes, map, refl, arith}
 use Rattle.std.proofs.lemmas.Bool.{cases_lt}
 use Rattle.rv_asm.specs.Lines.{Listed}
 use Rattle.rv_base.specs.Limits.{ram_base}
@@ -22,32 +23,23 @@ row_added old last new p ps is e ls = rw (← is) (omega (arith, e))
 pub row_exceeds : (old last : ℕ) (p : PlacedLine) (ps : List PlacedLine) → p ∷ [] ≡ ps →
     (old + (9 + step_size (p.line - last)) < 2 ^ 32 → ⊥) → (ls : List PlacedLine) →
     2 ^ 32 ≤ old + rows_size last (ps ++ ls)
-row_exceeds old last p ps is h ls = rw (← is) (⊎_elim
-    (λ l. absurd (h l))
-    (λ l. omega (arith, l))
-    (cases_lt (old + (9 + step_size (p.line - last))) (2 ^ 32)))
+row_exceeds old last p ps is h ls = search (rules, arith, nat_tests, cases_lt)
 
 -- one more line
 pub line_more : (l : Listed) (size last new after line next count total : ℕ) → next ≡ line + 1 → line < count →
     ((ls : List PlacedLine) → size + rows_size last (placed_line l next ++ ls) ≡ new + rows_size after ls) →
     size + rows_size last (placed_from l (suc line) (count - line)) ≡ total →
     new + rows_size after (placed_from l (suc next) (count - next)) ≡ total
-line_more l size last new after line next count total is below h e = sym (h _)
-    ∙ ap (λ (x : List PlacedLine). size + rows_size last x) (sym (next_line l line next count is below)) ∙ e
+line_more l size last new after line next count total is below h e = search (rules, arith, nat_tests, next_line)
 
 pub line_exceeds : (l : Listed) (size last line next count total : ℕ) → next ≡ line + 1 → line < count →
     ((ls : List PlacedLine) → 2 ^ 32 ≤ size + rows_size last (placed_line l next ++ ls)) →
     size + rows_size last (placed_from l (suc line) (count - line)) ≡ total → total < 2 ^ 32 → ⊥
-line_exceeds l size last line next count total is below h e fits =
-    let f = ap (λ (x : List PlacedLine). size + rows_size last x) (sym (next_line l line next count is below)) ∙ e in
-    let most = h (placed_from l (suc next) (count - next)) in
-    omega (arith, f, most, fits)
+line_exceeds l size last line next count total is below h e fits = search (rules, arith, nat_tests, next_line)
 
 pub lines_done : (l : Listed) (size last line count total : ℕ) → count ≤ line →
     size + rows_size last (placed_from l (suc line) (count - line)) ≡ total → size ≡ total
-lines_done l size last line count total above e =
-    let f = ap (λ (x : List PlacedLine). size + rows_size last x) (sym (no_line l line count above)) ∙ e in
-    omega (arith, f)
+lines_done l size last line count total above e = search (rules, arith, nat_tests, no_line)
 
 -- ---- symbols
 

@@ -1,5 +1,6 @@
 -- The lines that have bytes, one by one, and that they rise.
-use Rattle.std.proofs.Common.{◌≡◌, ◌∙◌, ℕ, zero, suc, ◌+◌, ◌-◌, ◌<◌, ◌≤◌, Bool, true, false, cond, List, [], ◌∷◌, ◌++◌, length, nat_lt, refl, sym, ap, arith, append_assoc, append-nil}
+use Rattle.std.proofs.lemmas.Bool.Decides.{nat_tests}
+use Rattle.std.proofs.Common.{rules, ◌≡◌, ℕ, zero, suc, ◌+◌, ◌-◌, ◌<◌, ◌≤◌, Bool, true, false, cond, List, [], ◌∷◌, ◌++◌, length, nat_lt, refl, arith, append_assoc}
 use Rattle.rv_asm.specs.Lines.{Listed, bytes_of}
 use Rattle.rv_elf.specs.LineNumbers.{Rises}
 use Rattle.rv_elf.specs.declared.lines.PlacedLine.{PlacedLine}
@@ -17,8 +18,7 @@ put false m n l ls low is h = less m (suc n) ls (omega arith) h
 rises_from : (l : Listed) (m n count : ℕ) → m ≤ n → Rises m (placed_from l n count)
 unfolding placed_from
 rises_from l m n zero low = tt
-rises_from l m n (suc count) low =
-    put (nat_lt 0 (length (bytes_of l n))) m n _ (placed_from l (suc n) count) low refl
+rises_from l m n (suc count) low = put (nat_lt 0 (length (bytes_of l n))) m n _ (placed_from l (suc n) count) low refl
     (rises_from l (suc n) (suc n) count (omega arith))
 
 pub rises_all : (l : Listed) (ls : List PlacedLine) (count : ℕ) → ls ≡ placed_from l 1 count → Rises 1 ls
@@ -42,9 +42,7 @@ next_line l line next count is below =
 
 -- nothing is left
 pub no_line : (l : Listed) (line count : ℕ) → count ≤ line → placed_from l (suc line) (count - line) ≡ []
-no_line l line count above =
-    let k : count - line ≡ 0 = omega arith in
-    ap (λ (c : ℕ). placed_from l (suc line) c) k ∙ none l (suc line)
+no_line l line count above = search (rules, arith, nat_tests, none)
 
 -- one more line
 pub one_more : (l : Listed) (old new all : List PlacedLine) (line next count : ℕ) → next ≡ line + 1 → line < count →
@@ -58,5 +56,4 @@ one_more l old new all line next count is below h e = rw (
 
 pub all_done : (l : Listed) (out all : List PlacedLine) (line count : ℕ) → count ≤ line →
     out ++ placed_from l (suc line) (count - line) ≡ all → out ≡ all
-all_done l out all line count above h =
-    sym (append-nil out) ∙ ap (λ (x : List PlacedLine). out ++ x) (sym (no_line l line count above)) ∙ h
+all_done l out all line count above h = search (rules, arith, nat_tests, no_line)

@@ -15,8 +15,7 @@ loop-line-preserved c = record {
 pub returns-clause-value : goal.returns-clause-value
 returns-clause-value c =
     all_done (seen c.args.listing) c.loop-line.out.items _ c.loop-line.line c.in-Some.count (omega arith)
-    c.loop-line.invariant.lines
-    ∙ ap (λ (n : ℕ). placed_from (seen c.args.listing) 1 n) c.in-Some.ensures.1
+    c.loop-line.invariant.lines ∙ ap (λ (n : ℕ). placed_from (seen c.args.listing) 1 n) c.in-Some.ensures.1
 
 pub returns-clause-rises : goal.returns-clause-rises
 returns-clause-rises c = rises_all (seen c.args.listing) c.loop-line.out.items c.in-Some.count
