@@ -30,5 +30,4 @@ module _ (before now : List ℕ) (n : ℕ) where
 
   pub all_changed : (xs : List RegisterValue) → 32 ≤ n → n ≤ 32 → xs ≡ changed_below before now n → xs ≡ changes before now
   unfolding changes
-  all_changed xs low high h =
-      let all : n ≡ 32 = omega (arith, low, high) in h ∙ ap (changed_below before now) all
+  all_changed xs low high h = let all : n ≡ 32 = omega (arith, low, high) in h ∙ ap (changed_below before now) all

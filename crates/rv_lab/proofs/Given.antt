@@ -1,5 +1,5 @@
 -- Inputs that are given one after another.
-use Rattle.std.proofs.Common.{◌≡◌, ◌∙◌, ◌-◌, ◌<◌, ◌≤◌, List, [], ◌∷◌, length, take, drop, get_or, refl, ap, arith}
+use Rattle.std.proofs.Common.{rules, ◌≡◌, ◌-◌, ◌<◌, ◌≤◌, List, [], ◌∷◌, length, take, drop, get_or, refl, arith}
 use Rattle.std.proofs.lemmas.List.{take_all}
 use Rattle.std.specs.Prelude.{Result, OnOk}
 use Rattle.rv_base.specs.declared.memory.NoMemory.{NoMemory}
@@ -14,9 +14,5 @@ gave_no old (x ∷ more) h = absurd (omega (arith, h))
 
 pub gave_list : {A : Type 0} (r : Result A NoMemory) (old mid new : LabState) (inputs : List Input) (input : Input)
     → 1 ≤ length inputs → input ≡ get_or inputs 0 input → mid ≡ with_inputs old (input ∷ [])
-    → OnOk r (new ≡ with_inputs mid (take (length inputs - 1) (drop 1 inputs)))
-    → OnOk r (new ≡ with_inputs old inputs)
-gave_list r old mid new [] input h is e g = absurd (omega (arith, h))
-gave_list r old mid new (x ∷ more) input h is e g =
-    let same : take (length (x ∷ more) - 1) more ≡ more = take_all (length (x ∷ more) - 1) more (omega arith) in
-    gave_all r old mid new x more (e ∙ ap (λ (i : Input). with_inputs old (i ∷ [])) is) (rw same at g)
+    → OnOk r (new ≡ with_inputs mid (take (length inputs - 1) (drop 1 inputs))) → OnOk r (new ≡ with_inputs old inputs)
+gave_list r old mid new inputs input h is e g = search (rules, arith, take_all, gave_all)

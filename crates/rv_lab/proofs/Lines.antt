@@ -1,5 +1,5 @@
 -- The line of an address, as the listing finds it.
-use Rattle.std.proofs.Common.{◌≡◌, ℕ, zero, suc, ◌+◌, ◌-◌, ◌<◌, ◌≤◌, ◌&&◌, Bool, true, false, cond, find, get_or, length, refl, sym, ap, nat_le, nat_lt, arith}
+use Rattle.std.proofs.Common.{rules, ◌≡◌, ℕ, zero, suc, ◌+◌, ◌-◌, ◌<◌, ◌≤◌, ◌&&◌, Bool, true, false, cond, find, get_or, length, refl, sym, ap, nat_le, nat_lt, arith}
 use Rattle.std.specs.Prelude.{Option, Some, None, IfSome, IfNone}
 use Rattle.std.specs.List.{range_with_len}
 use Rattle.std.proofs.lemmas.Bool.Decides.{nat_tests}
@@ -9,10 +9,8 @@ use Rattle.rv_lab.specs.Lines.{line_at}
 
 -- ---- the only number of a range that passes a test
 
-first_or : (b : Bool) (x : ℕ) (o r : Option ℕ) → (b ≡ true → Some x ≡ r) → (b ≡ false → o ≡ r)
-    → cond b (Some x) o ≡ r
-first_or true x o r t f = t refl
-first_or false x o r t f = f refl
+first_or : (b : Bool) (x : ℕ) (o r : Option ℕ) → (b ≡ true → Some x ≡ r) → (b ≡ false → o ≡ r) → cond b (Some x) o ≡ r
+first_or b x o r t f = search (rules, arith, nat_tests)
 
 later : (p : ℕ → Bool) (s n : ℕ) → p s ≡ false → p n ≡ true → s ≤ n → s + 1 ≤ n
 later p s n f t h = grind arith
@@ -22,8 +20,7 @@ found : (p : ℕ → Bool) (n s k : ℕ) → s ≤ n → n < s + k → p n ≡ t
 found p n s zero low high is only = absurd (omega (arith, low, high))
 found p n s (suc k) low high is only = first_or (p s) s (find p (range_with_len (s + 1) k)) (Some n)
     (λ e. ap (λ x. Some x) (only s (omega arith) e))
-    (λ e. found p n (s + 1) k (later p s n e is low) (omega (arith, high)) is
-    (λ m h. only m (omega (arith, h))))
+    (λ e. found p n (s + 1) k (later p s n e is low) (omega (arith, high)) is (λ m h. only m (omega (arith, h))))
 
 none : (p : ℕ → Bool) (s k : ℕ) → ((m : ℕ) → s ≤ m → p m ≡ true → ⊥) → find p (range_with_len s k) ≡ None
 none p s zero never = refl

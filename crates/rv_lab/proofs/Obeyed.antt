@@ -1,6 +1,6 @@
 -- What an order, and a line, asks for was done.
-use Rattle.std.proofs.Common.{◌≡◌, ◌∙◌, ℕ, List, [], refl, sym, ap, subst, inl, inr}
-use Rattle.std.specs.Prelude.{max, Option, IfOk, OnErr, OnOk, Result, Ok, Err, slice_get, unwrap_or}
+use Rattle.std.proofs.Common.{rules, arith, ◌≡◌, ◌∙◌, ℕ, List, [], ap, inl}
+use Rattle.std.specs.Prelude.{max, IfOk, OnErr, OnOk, Result, Err, slice_get, unwrap_or}
 use Rattle.std.specs.Option.{option_map_or}
 use Rattle.rv_base.specs.Words.{words}
 use Rattle.rv_base.specs.declared.memory.NoMemory.{NoMemory}
@@ -19,7 +19,6 @@ use Rattle.rv_lab.specs.declared.lab.Done.{Done}
 use Rattle.rv_lab.specs.declared.lab.Next.{Next}
 use Rattle.rv_lab.specs.declared.lab.Reply.{Reply}
 use Rattle.rv_lab.specs.declared.order.Order.{Order}
-use Rattle.rv_runs.specs.declared.goal.Goal.{Goal}
 use Rattle.rv_lab.proofs.Bounds.{left_setup_by, out_setup_by, short_within, within}
 
 -- ---- an order
@@ -29,47 +28,24 @@ pub executed : (o known : Order) (old new : LabState) (r : Result Done NoMemory)
     → IfOk r (λ d. d.answer ≡ (does known old new).answer) → OnErr r (RunsOut (run_goal known old.recording.session) (Leaves known) old new)
     → Executes o old new r
 unfolding Executes
-executed o known old new r e leaves next answers out =
-    subst (λ (q : Order). Executes q old new r) (sym e) (leaves, next, answers, out)
-
-short_is_out : (g : Option Goal) (Does : LabState → LabState → Type 0) (r : Result Done NoMemory) (old new : LabState)
-    → OnErr r (StopsShort g Does old new) → OnErr r (RunsOut g Does old new)
-short_is_out g Does (Ok d) old new s = tt
-short_is_out g Does (Err why) old new s = inr (inr s)
-
-kept_is_out : (g : Option Goal) (Does : LabState → LabState → Type 0) (r : Result Done NoMemory) (old new : LabState)
-    → OnErr r (new ≡ old) → OnErr r (RunsOut g Does old new)
-kept_is_out g Does (Ok d) old new s = tt
-kept_is_out g Does (Err why) old new s = inl s
+executed o known old new r e leaves next answers out = rw e (leaves, next, answers, out)
 
 pub executed_short : (o known : Order) (old new : LabState) (r : Result Done NoMemory) → o ≡ known
     → OnOk r (Leaves known old new) → IfOk r (λ d. d.next ≡ (does known old new).next)
     → IfOk r (λ d. d.answer ≡ (does known old new).answer) → OnErr r (StopsShort (run_goal known old.recording.session) (Leaves known) old new)
     → Executes o old new r
 executed_short o known old new r e leaves next answers short =
-    executed o known old new r e leaves next answers (short_is_out (run_goal known old.recording.session) (Leaves known) r old new short)
+    executed o known old new r e leaves next answers (search (rules, short))
 
 pub executed_kept : (o known : Order) (old new : LabState) (r : Result Done NoMemory) → o ≡ known
     → OnOk r (Leaves known old new) → IfOk r (λ d. d.next ≡ (does known old new).next)
     → IfOk r (λ d. d.answer ≡ (does known old new).answer) → OnErr r (new ≡ old) → Executes o old new r
-executed_kept o known old new r e leaves next answers kept =
-    executed o known old new r e leaves next answers (kept_is_out (run_goal known old.recording.session) (Leaves known) r old new kept)
-
-on_ok : (r : Result Done NoMemory) (P : Type 0) → P → OnOk r P
-on_ok (Ok d) P p = p
-on_ok (Err why) P p = tt
-
-on_err : (r : Result Done NoMemory) (P : Type 0) → P → OnErr r P
-on_err (Ok d) P p = tt
-on_err (Err why) P p = p
+executed_kept o known old new r e leaves next answers kept = search (rules, executed)
 
 -- one that leaves the lab as it is
 pub executed_look : (o known : Order) (l : LabState) (r : Result Done NoMemory) → o ≡ known → Leaves known l l
-    → IfOk r (λ d. d.next ≡ (does known l l).next) → IfOk r (λ d. d.answer ≡ (does known l l).answer)
-    → Executes o l l r
-executed_look o known l r e same next answers =
-    executed o known l l r e (on_ok r (Leaves known l l) same) next answers
-    (on_err r (RunsOut (run_goal known l.recording.session) (Leaves known) l l) (inl refl))
+    → IfOk r (λ d. d.next ≡ (does known l l).next) → IfOk r (λ d. d.answer ≡ (does known l l).answer) → Executes o l l r
+executed_look o known l r e same next answers = search (rules, executed)
 
 -- ---- a line
 
@@ -83,14 +59,7 @@ pub executed_it : (line : List ℕ) (c : Command) (word text : List ℕ) (old mi
     → text ≡ operand_text line → mid ≡ ready c old → o ≡ command_order c word text mid → Executes o mid new r
     → Executes (ordered line old) (ready (line_command line) old) new r
 unfolding order_of
-executed_it line c word text old mid new o r is first rest at read h =
-    let begins : LabState = ready (line_command line) old in
-    let stands : mid ≡ begins = at ∙ ap (λ (k : Command). ready k old) is in
-    let asks : o ≡ ordered line old = read ∙ (ap (λ (l : LabState). command_order c word text l) stands
-    ∙ (ap (λ (k : Command). command_order k word text begins) is
-    ∙ (ap (λ (w : List ℕ). command_order (line_command line) w text begins) first
-    ∙ ap (λ (t : List ℕ). command_order (line_command line) (unwrap_or (slice_get (words line) 0) []) t begins) rest))) in
-    subst (λ (l : LabState). Executes (ordered line old) l new r) stands (subst (λ (q : Order). Executes q mid new r) asks h)
+executed_it line c word text old mid new o r is first rest at read h = search (rules, arith)
 
 -- ---- what a call leaves
 
@@ -113,24 +82,12 @@ is_within_short line old new w = short_within (ordered line old) (ready (line_co
 
 -- ---- replies, by their parts
 
-abbrev reply_of : Next → Answer → ℕ → ℕ → Reply
-reply_of next answer from to = record { next = next; answer = answer; from = from; to = to }
-
 pub replied : (line : List ℕ) (old new : LabState) (n : Next) (a : Answer) (from : ℕ)
-    → n ≡ (line_does line old new).next
-    → a ≡ (line_does line old new).answer → from ≡ sent old
+    → n ≡ (line_does line old new).next → a ≡ (line_does line old new).answer → from ≡ sent old
     → ◌≡◌ {A = Reply} (record { next = n; answer = a; from = from; to = max from new.told }) (reply_to line old new)
-replied line old new n a from next answer begins =
-    ap (λ x. reply_of x a from (max from new.told)) next
-    ∙ (ap (λ x. reply_of ((line_does line old new).next) x from (max from new.told)) answer
-    ∙ ap (λ x. reply_of ((line_does line old new).next)
-    ((line_does line old new).answer) x (max x new.told)) begins)
+replied line old new n a from next answer begins = search (rules, arith)
 
 pub replied_on : (old new : LabState) (n : Next) (a : Answer) (from : ℕ) → n ≡ next_of new
     → a ≡ option_map_or (λ p. run_answer p old new) old.plan answers.Nothing → from ≡ old.told
     → ◌≡◌ {A = Reply} (record { next = n; answer = a; from = from; to = max from new.told }) (reply_on old new)
-replied_on old new n a from next answer begins =
-    ap (λ x. reply_of x a from (max from new.told)) next
-    ∙ (ap (λ x. reply_of (next_of new) x from (max from new.told)) answer
-    ∙ ap (λ x. reply_of (next_of new) (option_map_or (λ p. run_answer p old new) old.plan answers.Nothing) x
-    (max x new.told)) begins)
+replied_on old new n a from next answer begins = search (rules, arith)

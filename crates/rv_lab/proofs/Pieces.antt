@@ -1,16 +1,14 @@
 -- A run in pieces of any sizes.
-use Rattle.std.proofs.Common.{◌≡◌, ◌∙◌, ℕ, ◌+◌, ◌-◌, Bool, true, false, List, refl, sym, ap, subst}
-use Rattle.std.specs.Prelude.{◌&&◌, is_some, length, max, if◌then◌else◌, Option, Some, None}
-use Rattle.rv_monitor.specs.State.{IsInTime, SessionState, TimedState, after}
+use Rattle.std.proofs.Common.{rules, arith, ◌≡◌, ◌∙◌, ℕ, ◌+◌, refl, sym, ap, subst}
+use Rattle.std.specs.Prelude.{max, Option, Some, None}
+use Rattle.rv_monitor.specs.State.{IsInTime, SessionState, after}
 use Rattle.rv_monitor.proofs.Steps.{after_more, in_time_after}
 use Rattle.rv_recording.specs.Until.{steps_of}
-use Rattle.rv_lab.specs.State.{LabState, sent, timed}
+use Rattle.rv_lab.specs.State.{LabState, timed}
 use Rattle.rv_lab.specs.Commands.{InPieces, cut, ended, gone_on, guards_by, piece_steps, stops_of, with_console, with_steps}
 use Rattle.rv_runs.specs.Ends.{Stops, guards_after, run_ends}
-use Rattle.rv_runs.specs.Plans.{plan_after, resumes_after, tells_last}
+use Rattle.rv_runs.specs.Plans.{plan_after, resumes_after}
 use Rattle.rv_runs.specs.declared.plan.Plan.{Plan}
-use Rattle.rv_runs.specs.declared.goal.Goal.{Goal}
-use Rattle.rv_runs.specs.declared.guard.Guard.{Guard}
 use Rattle.rv_runs.proofs.Later.{guards_later}
 use Rattle.rv_runs.proofs.Plans.{all_taken, kept, rest_steps, resumes_later}
 
@@ -37,8 +35,7 @@ same_plan o p q a b = cc
 -- ---- its pieces
 
 no_pieces : (end l : LabState) → InPieces end l → l.plan ≡ None → end ≡ l
-no_pieces end _ (ended is) none = refl
-no_pieces end _ (cut l p n is rest) none = absurd (none_some l.plan p none is)
+no_pieces end l k none = search (rules, arith)
 
 whole_again : (p r : Plan) (l : LabState) (n : ℕ) → IsInTime (timed l)
     → plan_after (stops_of l) p l.recording.session (piece_steps p (record l { piece = n })) ≡ Some r
@@ -58,40 +55,17 @@ whole_again p r l n h e =
     let same : resumes_after st r.goal there rest
     ≡ resumes_after (stops_of l) p.goal s (steps_of (run_ends (stops_of l) p.goal s) p.left) =
     subst (λ (q : Plan). resumes_after st q.goal there rest ≡ resumes_after (stops_of l) p.goal s (k + rest)) now.2
-    (resumes_later s k h (stops_of l) p.goal now.0 rest)
-    ∙ ap (resumes_after (stops_of l) p.goal s) all in
+    (resumes_later s k h (stops_of l) p.goal now.0 rest) ∙ ap (resumes_after (stops_of l) p.goal s) all in
     let counts : guards_after l.marks gs r.goal there rest
     ≡ guards_by p.goal l (steps_of (run_ends (stops_of l) p.goal s) p.left) =
     subst (λ (q : Plan). guards_after l.marks gs q.goal there rest ≡ guards_by p.goal l (k + rest)) now.2
-    (guards_later s k h l.marks l.guards p.goal rest)
-    ∙ ap (guards_by p.goal l) all in
-    ap (λ (t : TimedState). record l {
-      guards = guards_after l.marks gs r.goal there rest;
-      recording = record l.recording { session = record s { timed = t } };
-      plan = None;
-      resumes = resumes_after st r.goal there rest;
-      piece = 0;
-      told = length t.board.machine.bus.serial.sent;
-    }) joined
-    ∙ (ap (λ (xs : List Guard). record (whole p l) { guards = xs; resumes = resumes_after st r.goal there rest }) counts
-    ∙ ap (λ (g : Goal). record (whole p l) { resumes = g }) same)
-
-told_all : (b : Bool) (o : Option Plan) (x y : ℕ) → o ≡ None → (if b && is_some o then x else y) ≡ y
-told_all true o x y e = rw e refl
-told_all false o x y e = refl
+    (guards_later s k h l.marks l.guards p.goal rest) ∙ ap (guards_by p.goal l) all in
+    rw (counts, same, joined)
 
 at_last : (p : Plan) (l : LabState) (n : ℕ)
     → plan_after (stops_of l) p l.recording.session (piece_steps p (record l { piece = n })) ≡ None
     → record (gone_on p (record l { piece = n })) { piece = 0 } ≡ whole p l
-at_last p l n none =
-    let s = l.recording.session in
-    let k = piece_steps p (record l { piece = n }) in
-    let done = record (with_steps k l) { guards = guards_by p.goal l k; resumes = resumes_after (stops_of l) p.goal s k } in
-    ap (λ (x : ℕ). record done { plan = plan_after (stops_of l) p s k; piece = 0; told = x })
-    (told_all (tells_last p) (plan_after (stops_of l) p s k) l.told (sent done) none)
-    ∙ (ap (λ (o : Option Plan). record done { plan = o; piece = 0; told = sent done }) none
-    ∙ ap (whole_of p l)
-    (sym (all_taken (stops_of l) p s (max n 1) none)))
+at_last p l n none = search (rules, arith, all_taken)
 
 whole_by : (end l : LabState) (q : Plan) (n : ℕ) → IsInTime (timed l)
     → InPieces end (gone_on q (record l { piece = n }))
@@ -114,9 +88,8 @@ made_whole end _ p h (cut l q n is rest) e =
 
 pub join : (l a b : LabState) → IsInTime (timed l) → InPieces a l → InPieces b l
     → record a { piece = 0 } ≡ record b { piece = 0 }
-join l a b h x y = by_plan l.plan refl
-  where
-    by_plan : (o : Option Plan) → l.plan ≡ o → record a { piece = 0 } ≡ record b { piece = 0 }
-    by_plan None none =
-        ap (λ (e : LabState). record e { piece = 0 }) (no_pieces a l x none ∙ sym (no_pieces b l y none))
-    by_plan (Some p) some = made_whole a l p h x some ∙ sym (made_whole b l p h y some)
+join l a b h x y = by_plan l.plan refl where
+  by_plan : (o : Option Plan) → l.plan ≡ o → record a { piece = 0 } ≡ record b { piece = 0 }
+  by_plan None none =
+      ap (λ (e : LabState). record e { piece = 0 }) (no_pieces a l x none ∙ sym (no_pieces b l y none))
+  by_plan (Some p) some = made_whole a l p h x some ∙ sym (made_whole b l p h y some)

@@ -1,9 +1,8 @@
 -- A session that repeats what was saved.
-use Rattle.std.proofs.Common.{◌≡◌, ◌∙◌, ℕ, ◌<◌, ◌≤◌, Bool, true, refl, sym, ap, subst, arith}
-use Rattle.std.proofs.lemmas.Bool.{false≢true}
+use Rattle.std.proofs.Common.{rules, ◌≡◌, ◌∙◌, ℕ, ◌<◌, ◌≤◌, Bool, true, refl, sym, ap, subst, arith}
 use Rattle.std.proofs.lemmas.Bool.Decides.{nat_tests}
 use Rattle.std.specs.FinSet as set
-use Rattle.std.specs.Prelude.{◌⊎◌, ◌&&◌, nat_lt, is_none, Option, Some, None}
+use Rattle.std.specs.Prelude.{◌⊎◌, ◌&&◌, nat_lt, is_none, Option, None}
 use Rattle.rv_program.specs.Program.{Assembly}
 use Rattle.rv_board.specs.Support.State.{BoardState, halted_of}
 use Rattle.rv_monitor.specs.Laws.{IsReached}
@@ -18,8 +17,7 @@ use Rattle.rv_lab.proofs.Runs.{goes_while}
 use Rattle.rv_runs.proofs.Later.{taken_after}
 
 none_of : (o : Option End) → is_none o ≡ true → o ≡ None
-none_of None h = refl
-none_of (Some end) h = absurd (false≢true h)
+none_of o h = search (rules, arith, nat_tests)
 
 may_by : (h : Option ℕ) (b : Bool) → h ≡ None → b ≡ true → (is_none h && b) ≡ true
 may_by h b e f = rw (e, f) refl
@@ -33,15 +31,13 @@ module _ (first : BoardState) (s : TimedState) (program : Assembly) (limit : ℕ
   goes i l =
       let room : (after (begun first s.inputs) i).taken < limit =
       omega (arith, taken_after (begun first s.inputs) i, l, most) in
-      none_of (step_ends opened i)
-      (goes_while opened i ∙ may_by (halted_of (after (begun first s.inputs) i).board)
+      none_of (step_ends opened i) (goes_while opened i ∙ may_by (halted_of (after (begun first s.inputs) i).board)
       (nat_lt (after (begun first s.inputs) i).taken limit) (r.running i l) (grind (arith, nat_tests, room)))
 
   pub repeats : (new : SessionState) → Took set.empty s.taken opened new → (s ≡ new.timed) ⊎ (s ≡ with_due new.timed)
   repeats new t =
       let run = took_ran set.empty s.taken opened new t (stop_of set.empty opened new)
       (end_by (stop_of set.empty opened new) (nat_lt new.timed.taken new.limit)) refl refl in
-      let now : new.timed ≡ after (begun first s.inputs) s.taken =
-      ap (λ (u : SessionState). u.timed) run.state
+      let now : new.timed ≡ after (begun first s.inputs) s.taken = ap (λ (u : SessionState). u.timed) run.state
       ∙ ap (after (begun first s.inputs)) (all_steps (step_ends opened) s.taken goes) in
       subst (λ (u : TimedState). (s ≡ u) ⊎ (s ≡ with_due u)) (sym now) r.state

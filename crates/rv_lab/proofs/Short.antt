@@ -1,7 +1,7 @@
 -- Calls that stopped short, for memory, of what they do.
-use Rattle.std.proofs.Common.{◌≡◌, ◌∙◌, ℕ, zero, suc, ◌+◌, ◌-◌, ◌<◌, ◌≤◌, true, List, [], ◌∷◌, length, take, drop, get_or, refl, sym, ap, subst, arith, inr}
+use Rattle.std.proofs.Common.{rules, ◌≡◌, ◌∙◌, ℕ, zero, suc, ◌+◌, ◌-◌, ◌<◌, ◌≤◌, true, List, [], ◌∷◌, length, take, drop, get_or, refl, sym, ap, subst, arith, inr}
 use Rattle.std.proofs.lemmas.List.{take_all}
-use Rattle.std.specs.Prelude.{fold, Bool, false, if◌then◌else◌, Option, Some, None, Result, Ok, Err, OnErr, MatchOption}
+use Rattle.std.specs.Prelude.{fold, Bool, false, if◌then◌else◌, Option, Some, None, Result, Ok, Err, OnErr}
 use Rattle.std.specs.Option.{option_map}
 use Rattle.rv_base.specs.declared.memory.NoMemory.{NoMemory}
 use Rattle.rv_timeline.specs.Timed.{never_falls}
@@ -11,20 +11,19 @@ use Rattle.rv_monitor.specs.Stops.{TakesStep, may_step, steps_between}
 use Rattle.rv_monitor.proofs.Steps.{after_due, after_more, after_rises}
 use Rattle.rv_recording.specs.Recording.{RecordingState, with_timed}
 use Rattle.rv_recording.specs.Refused.{IsRefusedIn}
-use Rattle.rv_recording.specs.Until.{step_ends, steps_of}
+use Rattle.rv_recording.specs.Until.{step_ends}
 use Rattle.rv_recording.specs.declared.until.End.{End}
 use Rattle.rv_lab.specs.Commands as lab
 use Rattle.rv_lab.specs.Runs.{Leaves, run_goal}
-use Rattle.rv_lab.specs.Commands.{begun, guards_by, monitored_run, piece_most, planned, stepped, stops_of, with_console, with_inputs, with_session}
+use Rattle.rv_lab.specs.Commands.{begun, monitored_run, piece_most, planned, stepped, stops_of, with_console, with_inputs}
 use Rattle.rv_runs.specs.Ends.{run_ends}
 use Rattle.rv_lab.specs.Refusals.{Leads, RunsOut, StopsShort, by_hand, due, nowhere, steps}
-use Rattle.rv_lab.specs.Support.Short.{Gives, GoesOnWith, IsOnWay, Looks, Monitors, Starts, Steps, StopsIn, Traced, ran_to, stepped_by}
+use Rattle.rv_lab.specs.Support.Short.{Gives, GoesOnWith, IsOnWay, Monitors, Starts, Steps, StopsIn, Traced, ran_to, stepped_by}
 use Rattle.rv_lab.specs.State.{LabState, timed}
 use Rattle.rv_lab.specs.declared.order.Order.TheVariants as orders
 use Rattle.rv_runs.specs.declared.plan.Plan.{Plan}
 use Rattle.rv_runs.specs.declared.goal.Goal.{Goal}
 use Rattle.rv_runs.specs.declared.goal.Goal.TheVariants as goal
-use Rattle.rv_runs.specs.declared.guard.Guard.{Guard}
 use Rattle.rv_runs.proofs.Parts.{on_err}
 use Rattle.rv_runs.proofs.Passing.{traced_guards}
 use Rattle.rv_lab.proofs.Runs.{all_stepped, one_and_more}
@@ -45,16 +44,11 @@ to_due s n = due (after s n) (to_steps s n)
 
 same_steps : (s : TimedState) (k m : ℕ) → k < m → never_falls s.inputs ≡ true
     → after (with_due (after s k)) (1 + (m - k - 1)) ≡ after s m
-same_steps s k m l rising =
-    let all : k + (1 + (m - k - 1)) ≡ m = omega arith in
-    after_due (after s k) (m - k - 1) (after_rises s k rising)
-    ∙ (after_more s k (1 + (m - k - 1)) rising ∙ ap (after s) all)
+same_steps s k m l rising = search (rules, arith, after_due, after_rises, after_more)
 
 -- the inputs before a step and then the step
-from_due : (s : TimedState) (k m : ℕ) → k < m → never_falls s.inputs ≡ true
-    → Leads (with_due (after s k)) (after s m)
-from_due s k m l rising =
-    subst (Leads (with_due (after s k))) (same_steps s k m l rising)
+from_due : (s : TimedState) (k m : ℕ) → k < m → never_falls s.inputs ≡ true → Leads (with_due (after s k)) (after s m)
+from_due s k m l rising = subst (Leads (with_due (after s k))) (same_steps s k m l rising)
     (steps (with_due (after s k)) (1 + (m - k - 1)) nowhere)
 
 -- ---- runs
@@ -72,108 +66,53 @@ module _ (g : Goal) (ends : ℕ → Option End) (most : ℕ) (old new : LabState
   session_is = r.state ∙ ap (λ (t : TimedState). record old.recording.session { timed = t }) (sym timed_due)
 
   pub refused_stops : StopsIn g ends most old new
-  refused_stops = (
-    subst (Leads (timed old)) (sym timed_due) (to_due (timed old) count),
-    subst (λ (t : TimedState). Leads t (after (timed old) (steps_of ends most))) (sym timed_due)
-        (from_due (timed old) count (steps_of ends most) r.within rising),
-    others ∙ ap (λ (u : SessionState). record (with_session old u) { guards = guards_by g old count }) session_is,
-  )
+  refused_stops = search (rules, arith, timed_due, to_due, from_due, session_is)
 
 pub piece_err : {A : Type 0} (r : Result A NoMemory) (p : Plan) (most : ℕ) (old at_first new : LabState)
     → most ≡ piece_most p old → at_first ≡ record old { plan = None; resumes = goal.Break }
     → StopsIn p.goal (run_ends (stops_of at_first) p.goal at_first.recording.session) most at_first new
     → OnErr r (StopsShort (Some p.goal) (GoesOnWith p) old new)
 piece_err r p most old at_first new most_is is short =
-    let s : StopsIn p.goal (run_ends (stops_of old) p.goal old.recording.session) (piece_most p old) (record old { plan = None; resumes = goal.Break }) new =
-    subst (λ (n : ℕ). StopsIn p.goal (run_ends (stops_of old) p.goal old.recording.session) n (record old { plan = None; resumes = goal.Break }) new) most_is
-    (subst (λ (l : LabState). StopsIn p.goal (run_ends (stops_of l) p.goal l.recording.session) most l new) is short) in
-    let gs = guards_by p.goal old (steps_between (timed old) (timed new)) in
-    on_err r (StopsShort (Some p.goal) (GoesOnWith p) old new) (
-      lab.gone_on p old,
-      refl,
-      s.0,
-      s.1,
-      s.2 ∙ (ap (λ (g : Goal). record old { recording = with_timed old.recording (timed new); guards = gs; plan = None; resumes = g })
-          (sym (ap (λ (l : LabState). l.resumes) s.2))
-          ∙ ap (λ (n : ℕ). record old {
-            recording = with_timed old.recording (timed new);
-            guards = gs;
-            plan = None;
-            resumes = new.resumes;
-            told = n;
-          }) (sym (ap (λ (l : LabState). l.told) s.2))),
-    )
+    let s = rw (is, most_is) at short in
+    on_err r (StopsShort (Some p.goal) (GoesOnWith p) old new) (lab.gone_on p old, refl, s.0, s.1, grind (arith, s.2))
 
 pub starts_short : {A : Type 0} (r : Result A NoMemory) (p : Plan) (old mid new : LabState) → mid ≡ begun old
     → OnErr r (StopsShort (Some p.goal) (GoesOnWith p) mid new) → OnErr r (StopsShort (Some p.goal) (Starts p) old new)
-starts_short (Ok a) p old mid new is s = tt
-starts_short (Err why) p old mid new is s = subst (λ (l : LabState). StopsShort (Some p.goal) (GoesOnWith p) l new) is s
+starts_short r p old mid new is s = rw is at s
 
 -- a run that a line of the monitor asks for
-starts_as : (line : List ℕ) (p : Plan) (old done : LabState) → Some p ≡ monitored_run line old.recording.session
-    → Starts p old done → Monitors line old done
-starts_as line p old done e s =
-    subst (λ (o : Option Plan). MatchOption o
-    (Looks line old done) (λ q. Starts q old done)) e s
-
 pub monitor_short : {A : Type 0} (r : Result A NoMemory) (line : List ℕ) (p : Plan) (old new : LabState)
     → Some p ≡ monitored_run line old.recording.session → OnErr r (StopsShort (Some p.goal) (Starts p) old new)
     → OnErr r (RunsOut (run_goal (orders.Monitor line) old.recording.session) (Monitors line) old new)
 monitor_short (Ok a) line p old new e s = tt
-monitor_short (Err why) line p old new e s =
-    subst (λ (o : Option Plan). RunsOut (option_map (λ q. q.goal) o) (Monitors line) old new) e
-    (inr (inr (s.0, starts_as line p old s.0 e s.1, s.2, s.3, s.4)))
+monitor_short (Err why) line p old new e s = rw (← e) (inr (inr s))
 
 pub continued : {A : Type 0} (r : Result A NoMemory) (p : Plan) (old new : LabState)
     → old.plan ≡ Some p → StopsShort (Some p.goal) (GoesOnWith p) old new
     → OnErr r (RunsOut (option_map (λ q. q.goal) old.plan) lab.GoesOn old new)
-continued r p old new e s =
-    let done : lab.GoesOn old s.0 =
-    subst (λ (o : Option Plan). MatchOption o (s.0 ≡ old) (λ q. GoesOnWith q old s.0)) (sym e) s.1 in
-    on_err r (RunsOut (option_map (λ q. q.goal) old.plan) lab.GoesOn old new)
-    (subst (λ (o : Option Plan). RunsOut (option_map (λ q. q.goal) o) lab.GoesOn old new) (sym e)
-    (inr (inr (s.0, done, s.2, s.3, s.4))))
+continued (Ok a) p old new e s = tt
+continued (Err why) p old new e s = rw e (inr (inr s))
 
 -- ---- steps
-
-module _ (old new : RecordingState) (rising : never_falls old.session.timed.inputs ≡ true)
-    (may : may_step old.session ≡ true)
-    (due_is : new.session ≡ record old.session { timed = with_due old.session.timed })
-    (others : new ≡ record old { session = new.session }) where
-  stepped_is : stepped old ≡ with_timed old (after old.session.timed 1)
-  stepped_is = rw may refl
-
-  now_is : new.session.timed ≡ with_due old.session.timed
-  now_is = ap (λ (s : SessionState). s.timed) due_is
-
-  leads_on : Leads (with_due old.session.timed) (after old.session.timed 1)
-  leads_on =
-      subst (Leads (with_due old.session.timed)) (after_due old.session.timed 0 rising)
-      (steps (with_due old.session.timed) 1 nowhere)
-
-  step_on_way : IsOnWay old new (stepped old)
-  step_on_way =
-      subst (IsOnWay old new) (sym stepped_is) (
-        subst (Leads old.session.timed) (sym now_is) (due old.session.timed nowhere),
-        subst (λ (s : TimedState). Leads s (after old.session.timed 1)) (sym now_is) leads_on,
-        others ∙ ap (λ (s : SessionState). record old { session = s })
-            (due_is ∙ ap (λ (t : TimedState). record old.session { timed = t }) (sym now_is)),
-      )
 
 pub step_refused : (inside old new : RecordingState) → inside ≡ old
     → never_falls inside.session.timed.inputs ≡ true → (why : NoMemory)
     → TakesStep inside.session new.session (Err why) → new ≡ record inside { session = new.session }
     → IsOnWay old new (stepped old)
 step_refused inside old new same rising why t others =
-    subst (λ (r : RecordingState). IsOnWay r new (stepped r)) same
-    (step_on_way inside new rising t.0 t.1 others)
+    let now = ap (λ (s : SessionState). s.timed) t.1 in
+    rw (← same, t.0) (
+      rw now (due inside.session.timed nowhere),
+      rw now (subst (Leads (with_due inside.session.timed)) (after_due inside.session.timed 0 rising)
+          (steps (with_due inside.session.timed) 1 nowhere)),
+      others ∙ ap (λ (s : SessionState). record inside { session = s })
+          (t.1 ∙ ap (λ (u : TimedState). record inside.session { timed = u }) (sym now)),
+    )
 
 pub many_short : {A : Type 0} (r : Result A NoMemory) (n : ℕ) (old mid new : LabState)
     → mid ≡ record old { count = n } → OnErr r (StopsShort (Some goal.Count) (Starts (planned goal.Count n)) mid new)
     → OnErr r (StopsShort (Some goal.Count) (Steps n) old new)
-many_short (Ok a) n old mid new is s = tt
-many_short (Err why) n old mid new is s =
-    subst (λ (l : LabState). StopsShort (Some goal.Count) (Starts (planned goal.Count n)) l new) is s
+many_short r n old mid new is s = rw is at s
 
 -- ---- a trace
 
@@ -182,14 +121,9 @@ leads_by : (b : Bool) (r : RecordingState)
 leads_by true r = to_steps r.session.timed 1
 leads_by false r = nowhere
 
-leads_step : (r : RecordingState) → Leads r.session.timed (stepped r).session.timed
-leads_step r = leads_by (may_step r.session) r
-
 leads_steps : (k : ℕ) (r : RecordingState) → Leads r.session.timed (stepped_by k r).session.timed
 leads_steps zero r = nowhere
-leads_steps (suc k) r =
-    joined r.session.timed (stepped r).session.timed (stepped_by k (stepped r)).session.timed (leads_step r)
-    (leads_steps k (stepped r))
+leads_steps (suc k) r = joined _ _ _ (leads_by (may_step r.session) r) (leads_steps k (stepped r))
 
 pub traced_short : (n : ℕ) (old new : LabState) → 0 < n → old.plan ≡ None
     → IsOnWay old.recording new.recording (stepped old.recording)
@@ -198,43 +132,24 @@ traced_short n old new h none way others = (
   record old { recording = stepped_by n old.recording },
   refl,
   way.0,
-  subst (λ (r : RecordingState). Leads (timed new) r.session.timed) (sym (one_and_more n old.recording h))
-      (joined (timed new) (stepped old.recording).session.timed
-      (stepped_by (n - 1) (stepped old.recording)).session.timed way.1
-      (leads_steps (n - 1) (stepped old.recording))),
-  others ∙ (ap (λ (r : RecordingState). record old { recording = r }) way.2
-      ∙ (ap (λ (q : Option Plan). record old { recording = with_timed old.recording (timed new); plan = q }) none
-      ∙ (ap (λ (g : Goal). record old { recording = with_timed old.recording (timed new); plan = None; resumes = g })
-      (sym (ap (λ (l : LabState). l.resumes) others))
-      ∙ ap (λ (k : ℕ). record old {
-        recording = with_timed old.recording (timed new);
-        plan = None;
-        resumes = new.resumes;
-        told = k;
-      }) (sym (ap (λ (l : LabState). l.told) others))))),
+  rw (one_and_more n old.recording h) (joined _ _ _ way.1 (leads_steps (n - 1) (stepped old.recording))),
+  grind arith,
 )
 
 same_others : (b : Bool) (r : RecordingState) (t : TimedState)
     → with_timed (if b then with_timed r (after r.session.timed 1) else r) t ≡ with_timed r t
-same_others true r t = refl
-same_others false r t = refl
+same_others b r t = search (rules, arith)
 
 -- what is on the way to the next step is on the way to n of them
 pub first_on_way : (n : ℕ) (old new : RecordingState) → 0 < n → IsOnWay old new (stepped old)
     → IsOnWay old new (stepped_by n old)
-first_on_way n old new h way = (
-  way.0,
-  subst (λ (r : RecordingState). Leads new.session.timed r.session.timed) (sym (one_and_more n old h))
-      (joined new.session.timed (stepped old).session.timed (stepped_by (n - 1) (stepped old)).session.timed way.1
-      (leads_steps (n - 1) (stepped old))),
-  way.2,
-)
+first_on_way n old new h way = search (rules, arith, one_and_more, joined, leads_steps)
 
 further_on_way : (n : ℕ) (old new : RecordingState) → 0 < n
     → IsOnWay (stepped old) new (stepped_by (n - 1) (stepped old)) → IsOnWay old new (stepped_by n old)
 further_on_way n old new h way = (
-  joined old.session.timed (stepped old).session.timed new.session.timed (leads_step old) way.0,
-  subst (λ (r : RecordingState). Leads new.session.timed r.session.timed) (sym (one_and_more n old h)) way.1,
+  joined _ _ _ (leads_by (may_step old.session) old) way.0,
+  rw (one_and_more n old h) way.1,
   way.2 ∙ same_others (may_step old.session) old new.session.timed,
 )
 
@@ -242,10 +157,7 @@ pub traced_further : {A : Type 0} (r : Result A NoMemory) (n : ℕ) (old mid new
     → mid ≡ record old { recording = stepped old.recording }
     → OnErr r (IsOnWay mid.recording new.recording (stepped_by (n - 1) mid.recording))
     → OnErr r (IsOnWay old.recording new.recording (stepped_by n old.recording))
-traced_further (Ok a) n old mid new h e s = tt
-traced_further (Err why) n old mid new h e s =
-    further_on_way n old.recording new.recording h
-    (subst (λ (r : RecordingState). IsOnWay r new.recording (stepped_by (n - 1) r)) (ap (λ (l : LabState). l.recording) e) s)
+traced_further r n old mid new h e s = search (rules, arith, further_on_way)
 
 -- steps past any breakpoint stopped short
 pub traced_stops : (n : ℕ) (old new : LabState) → IsInTime (timed old)
@@ -254,9 +166,7 @@ pub traced_stops : (n : ℕ) (old new : LabState) → IsInTime (timed old)
 traced_stops n old new h way others = (
   way.0,
   subst (λ (r : RecordingState). Leads (timed new) r.session.timed) (all_stepped n old.recording h) way.1,
-  others ∙ (ap (λ (r : RecordingState). record old { recording = r }) way.2
-      ∙ ap (λ (gs : List Guard). record old { recording = with_timed old.recording (timed new); guards = gs })
-      (sym (traced_guards old.marks old.guards old.recording.session (steps_between (timed old) (timed new))))),
+  rw (traced_guards old.marks old.guards old.recording.session (steps_between (timed old) (timed new))) (grind arith),
 )
 
 -- a single step
@@ -273,42 +183,20 @@ once_short r old counted mid new one is none way others =
 
 leads_inputs : (inputs : List Input) (s : TimedState) → Leads s (fold given s inputs)
 leads_inputs [] s = nowhere
-leads_inputs (x ∷ xs) s =
-    joined s (given s x) (fold given (given s x) xs) (by_hand s x nowhere) (leads_inputs xs (given s x))
+leads_inputs (x ∷ xs) s = joined _ _ _ (by_hand s x nowhere) (leads_inputs xs (given s x))
 
 pub gave_nothing : (old new : LabState) (inputs : List Input) → old.plan ≡ None → new ≡ old
     → StopsShort None (Gives inputs) old new
 gave_nothing old new inputs none e =
-    subst (StopsShort None (Gives inputs) old) (sym e) (
-      with_inputs old inputs,
-      refl,
-      nowhere,
-      leads_inputs inputs (timed old),
-      ap (λ (q : Option Plan). record old { plan = q }) none,
-    )
-
-gave_one : (old new : LabState) (input : Input) (more : List Input)
-    → StopsShort None (Gives more) (with_inputs old (input ∷ [])) new → StopsShort None (Gives (input ∷ more)) old new
-gave_one old new input more s = (
-  s.0,
-  s.1,
-  joined (timed old) (given (timed old) input) (timed new) (by_hand (timed old) input nowhere) s.2,
-  s.3,
-  s.4,
-)
-
-gave_some : {A : Type 0} (r : Result A NoMemory) (old mid new : LabState) (input : Input) (more : List Input)
-    → mid ≡ with_inputs old (input ∷ []) → OnErr r (StopsShort None (Gives more) mid new)
-    → OnErr r (StopsShort None (Gives (input ∷ more)) old new)
-gave_some (Ok a) old mid new input more e s = tt
-gave_some (Err why) old mid new input more e s =
-    gave_one old new input more (subst (λ (l : LabState). StopsShort None (Gives more) l new) e s)
+    let last = ap (λ (q : Option Plan). record old { plan = q }) none in
+    rw e (with_inputs old inputs, refl, nowhere, leads_inputs inputs (timed old), last)
 
 pub gave_rest : {A : Type 0} (r : Result A NoMemory) (old mid new : LabState) (inputs : List Input) (input : Input)
     → 1 ≤ length inputs → input ≡ get_or inputs 0 input → mid ≡ with_inputs old (input ∷ [])
     → OnErr r (StopsShort None (Gives (take (length inputs - 1) (drop 1 inputs))) mid new)
     → OnErr r (StopsShort None (Gives inputs) old new)
-gave_rest r old mid new [] input h is e s = absurd (omega (arith, h))
-gave_rest r old mid new (x ∷ more) input h is e s =
+gave_rest (Ok a) old mid new inputs input h is e s = tt
+gave_rest (Err why) old mid new [] input h is e s = absurd (omega (arith, h))
+gave_rest (Err why) old mid new (x ∷ more) input h is e s =
     let same : take (length (x ∷ more) - 1) more ≡ more = take_all (length (x ∷ more) - 1) more (omega arith) in
-    gave_some r old mid new x more (e ∙ ap (λ (i : Input). with_inputs old (i ∷ [])) is) (rw same at s)
+    let t = rw (e, is, same) at s in (t.0, t.1, joined _ _ _ (by_hand (timed old) x nowhere) t.2, t.3, t.4)

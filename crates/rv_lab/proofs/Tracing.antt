@@ -1,15 +1,14 @@
 -- A call of a trace is a call of a run, of which each step is told.
-use Rattle.std.proofs.Common.{◌≡◌, ◌∙◌, ℕ, Bool, true, false, List, ◌++◌, refl, sym, ap, subst, append-nil}
-use Rattle.std.proofs.lemmas.Bool.{false≢true}
+use Rattle.std.proofs.Common.{rules, arith, ◌≡◌, ◌∙◌, ℕ, Bool, true, false, List, ◌++◌, refl, sym, ap, subst}
 use Rattle.std.specs.Prelude.{IfOk, OnErr, OnOk, Result, Ok, Err}
 use Rattle.rv_answers.specs.declared.moves.Step.{Step}
 use Rattle.rv_base.specs.declared.memory.NoMemory.{NoMemory}
 use Rattle.rv_timeline.specs.Timed.{never_falls}
-use Rattle.rv_monitor.specs.State.{IsInTime, SessionState, TimedState, after}
+use Rattle.rv_monitor.specs.State.{IsInTime, SessionState, TimedState}
 use Rattle.rv_monitor.specs.Stops.{steps_between}
 use Rattle.rv_recording.specs.Recording.{RecordingState}
 use Rattle.rv_recording.specs.Refused.{IsRefusedIn}
-use Rattle.rv_recording.specs.Until.{HasRun, step_ends, steps_of}
+use Rattle.rv_recording.specs.Until.{HasRun, step_ends}
 use Rattle.rv_recording.specs.declared.until.End.{End}
 use Rattle.rv_lab.specs.Commands.{guards_by, with_session}
 use Rattle.rv_runs.specs.Ends.{Stops, goal_after, run_ends}
@@ -26,17 +25,11 @@ use Rattle.rv_lab.proofs.Runs.{all_stepped}
 use Rattle.rv_lab.proofs.Short.{refused_stops}
 
 on_ok : {A E : Type 0} (r : Result A E) (P : Type 0) → P → OnOk r P
-on_ok (Ok a) P p = p
-on_ok (Err e) P p = tt
+on_ok r P p = search (rules, arith)
 
 -- a goal of which each step is told
 trace_goal : (g : Goal) → is_traced g ≡ true → goal.Trace ≡ g
-trace_goal goal.Trace e = refl
-trace_goal goal.Count e = absurd (false≢true e)
-trace_goal goal.Break e = absurd (false≢true e)
-trace_goal (goal.Out calls line) e = absurd (false≢true e)
-trace_goal (goal.Mark calls) e = absurd (false≢true e)
-trace_goal (goal.Until condition) e = absurd (false≢true e)
+trace_goal g e = search (rules, arith)
 
 module _ (g : Goal) (b : Bool) (is : b ≡ is_traced g) (yes : b ≡ true) where
   abbrev traces : goal.Trace ≡ g
@@ -59,37 +52,27 @@ module _ (g : Goal) (b : Bool) (is : b ≡ is_traced g) (yes : b ≡ true) where
 
   pub trace_others : (old new : LabState) → new ≡ with_session old new.recording.session
       → new ≡ ran_to g old new.recording.session
-  trace_others old new e =
-      subst (λ (x : Goal). new ≡ ran_to x old new.recording.session) traces
+  trace_others old new e = subst (λ (x : Goal). new ≡ ran_to x old new.recording.session) traces
       (e ∙ ap (λ (gs : List Guard). record (with_session old new.recording.session) { guards = gs })
       (sym (traced_guards old.marks old.guards old.recording.session (steps_between (timed old) (timed new)))))
 
 -- any other goal
 pub none_told : {E : Type 0} (r : Result End E) (g : Goal) (b : Bool) (n : ℕ) (l : LabState) (xs : List Step)
     → b ≡ is_traced g → b ≡ false → OnOk r (xs ≡ xs ++ told_steps g n l)
-none_told (Err e) g b n l xs is other = tt
-none_told (Ok a) g b n l xs is other =
-    let all : is_traced g ≡ false = sym is ∙ other in rw all (sym (append-nil xs))
+none_told r g b n l xs is other = search (rules, arith)
 
 -- ---- steps of a run past any breakpoint
 
 pub traced_others : (n : ℕ) (old new : LabState) → IsInTime (timed old) → Traced n old new
     → new ≡ with_session old new.recording.session
-traced_others n old new h t =
-    let now : new.recording.session ≡ record old.recording.session {
-      timed = after (timed old) (steps_of (step_ends old.recording.session) n);
-    } = ap (λ (l : LabState). l.recording.session) t ∙ ap (λ (r : RecordingState). r.session) (all_stepped n old.recording h) in
-    t ∙ (ap (λ (r : RecordingState). record old { recording = r }) (all_stepped n old.recording h)
-    ∙ ap (with_session old) (sym now))
+traced_others n old new h t = search (rules, arith, all_stepped)
 
 -- ---- a run, by its recording and its guards
 
 ran_over : (g : Goal) (l : LabState) (q : RecordingState) (gs : List Guard) → q ≡ record l.recording { session = q.session }
     → gs ≡ guards_by g l (steps_between (timed l) q.session.timed)
     → record l { recording = q; guards = gs } ≡ ran_to g l q.session
-ran_over g l q gs others counts =
-    ap (λ (x : RecordingState). record l { recording = x; guards = gs }) others
-    ∙ ap (λ (xs : List Guard). record (with_session l q.session) { guards = xs }) counts
+ran_over g l q gs others counts = search (rules, arith)
 
 -- one that memory stopped
 pub refused_err : (r : Result End NoMemory) (st lent : Stops) (g : Goal) (most : ℕ) (inside old : LabState)
@@ -105,20 +88,8 @@ refused_err (Err why) st lent g most inside old q gs whole same h refused others
     subst (λ (l : LabState). StopsIn g (run_ends st g l.recording.session) most l new) same
     (refused_stops g (run_ends st g inside.recording.session) most inside new rising
     (subst (λ (xs : Stops). IsRefusedIn (run_ends xs g inside.recording.session) most inside.recording.session q.session)
-    whole refused)
-    (ran_over g inside q gs others counts))
-
--- and any run
-pub ran_board : (g : Goal) (inside old : LabState) (q : RecordingState) (gs : List Guard) → inside ≡ old
-    → q ≡ record inside.recording { session = q.session }
-    → gs ≡ guards_by g inside (steps_between (timed inside) q.session.timed)
-    → record inside { recording = q; guards = gs } ≡ ran_to g old q.session
-ran_board g inside old q gs same others counts =
-    ran_over g inside q gs others counts ∙ ap (λ (l : LabState). ran_to g l q.session) same
+    whole refused) (ran_over g inside q gs others counts))
 
 pub stops_are : (gs hs : List Guard) (ws vs : List Watched) (ms ns : List ℕ) → gs ≡ hs → ws ≡ vs → ms ≡ ns
     → ◌≡◌ {A = Stops} (record { guards = gs; watches = ws; marks = ms }) (record { guards = hs; watches = vs; marks = ns })
-stops_are gs hs ws vs ms ns a b c =
-    ap (λ (x : List Guard). record { guards = x; watches = ws; marks = ms }) a
-    ∙ (ap (λ (x : List Watched). record { guards = hs; watches = x; marks = ms }) b
-    ∙ ap (λ (x : List ℕ). record { guards = hs; watches = vs; marks = x }) c)
+stops_are gs hs ws vs ms ns a b c = search (rules, arith)

@@ -13,5 +13,4 @@ returns-in_err-give-clause-err t c =
 pub returns-clause-err : goal.returns-clause-err
 returns-clause-err t c =
     gave_rest c.give_all.result c.args.self.now c.give.new.self c.give_all.new.self c.args.inputs.now
-    c.input-item.result c.in-len1-up.len_at_least c.input-item.is c.in_ok-give.ensures.given
-    c.give_all.ensures.err
+    c.input-item.result c.in-len1-up.len_at_least c.input-item.is c.in_ok-give.ensures.given c.give_all.ensures.err

@@ -19,15 +19,13 @@ returns-clause-steps t c =
     (sym c.in-Some.is ∙ c.in_ok-step.ensures.value) c.in_ok-push_step.ensures c.trace_steps.ensures.steps
 
 pub returns-in_err-step-clause-err : goal.returns-in_err-step-clause-err
-returns-in_err-step-clause-err t c =
-    on_err c.from_residual.result
+returns-in_err-step-clause-err t c = on_err c.from_residual.result
     (IsOnWay c.args.self.now.recording c.take_step.new.self.recording (stepped_by c.args.count c.args.self.now.recording))
     (first_on_way c.args.count c.args.self.now.recording c.take_step.new.self.recording (omega arith)
     c.in_err-step.ensures.err)
 
 pub returns-in_err-push_step-clause-err : goal.returns-in_err-push_step-clause-err
-returns-in_err-push_step-clause-err t c =
-    on_err c.from_residual-in_err-push_step.result
+returns-in_err-push_step-clause-err t c = on_err c.from_residual-in_err-push_step.result
     (IsOnWay c.args.self.now.recording c.take_step.new.self.recording (stepped_by c.args.count c.args.self.now.recording))
     (first_on_way c.args.count c.args.self.now.recording c.take_step.new.self.recording (omega arith)
     (wholly c.args.self.now c.take_step.new.self c.in_ok-step.ensures.step))

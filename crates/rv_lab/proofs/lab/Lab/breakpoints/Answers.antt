@@ -3,8 +3,7 @@ use Rattle.rv_lab.proofs.Values.{all_breaks, breaks_below, last_break, next_brea
 use Rattle.rv_lab.proofs.lab.Lab.breakpoints.Goals as goal
 
 pub returns-in_default : goal.returns-in_default
-returns-in_default c =
-    c.of.ensures ∙ all_breaks c.args.self.now _
+returns-in_default c = c.of.ensures ∙ all_breaks c.args.self.now _
     (last_break c.args.self.now c.loop-address.from 4294967296 c.next_break.result c.loop-address.places.items
     c.in_default.is (omega (arith, c.loop-address.invariant.below)) (first_of (search rules, cc))
     c.loop-address.invariant.found)

@@ -4,8 +4,7 @@ use Rattle.rv_lab.proofs.Obeyed.{executed, executed_short}
 use Rattle.rv_lab.proofs.lab.Lab.execute.Goals as goal
 
 pub returns-in-Give : goal.returns-in-Give
-returns-in-Give c =
-    executed_short c.args.order (orders.Give c.items.result.now) c.args.self.now c.give_inputs.new.self
+returns-in-Give c = executed_short c.args.order (orders.Give c.items.result.now) c.args.self.now c.give_inputs.new.self
     c.give_inputs.result (c.in-Give.is ∙ ap orders.Give (sym c.items.ensures)) c.give_inputs.ensures.given
     c.give_inputs.ensures.next c.give_inputs.ensures.answers c.give_inputs.ensures.err
 

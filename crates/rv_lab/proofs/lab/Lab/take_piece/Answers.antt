@@ -23,8 +23,7 @@ returns-clause-piece c =
     c.take_steps.new.self c.keep_plan-2.new.self c.min-most.result c.saturating_sub-done.result c.keep_plan.ensures
     c.in_ok-end.ensures.ok c.in_ok-end.ensures.goal c.take_steps.ensures.others
     (omega (arith, c.min-most.ensures, c.max.ensures, ap (λ (l : LabState). l.piece) c.self.view_is))
-    (omega (arith, c.saturating_sub-done.ensures, c.steps-before.ensures, c.steps.ensures))
-    (c.keep_plan-2.ensures
+    (omega (arith, c.saturating_sub-done.ensures, c.steps-before.ensures, c.steps.ensures)) (c.keep_plan-2.ensures
     ∙ (ap (λ (q : Option Plan). record c.take_steps.new.self { plan = q; resumes = c.resumes_after.result }) c.rest.ensures
     ∙ ap (λ (g : Goal). record c.take_steps.new.self {
       plan = rest_of c.args.plan.now c.take_steps.new.goal c.in_ok-end.end c.saturating_sub-done.result;
@@ -32,9 +31,7 @@ returns-clause-piece c =
     }) c.resumes_after.ensures))
 
 pub returns-clause-steps : goal.returns-clause-steps
-returns-clause-steps c =
-    c.in_ok-end.ensures.steps
-    ∙ ap (λ xs. c.args.steps.now.items ++ xs)
+returns-clause-steps c = c.in_ok-end.ensures.steps ∙ ap (λ xs. c.args.steps.now.items ++ xs)
     (told_of c.args.plan.now.goal c.min-most.result c.args.self.now c.keep_plan.new.self c.keep_plan.ensures
     ∙ ap (λ n. told_steps c.args.plan.now.goal n c.args.self.now)
     (omega (arith, c.min-most.ensures, c.max.ensures, ap (λ (l : LabState). l.piece) c.self.view_is)))

@@ -9,15 +9,13 @@ use Rattle.rv_lab.proofs.Tracing.{traced_others}
 use Rattle.rv_lab.proofs.lab.Lab.take_traced.Goals as goal
 
 pub returns-in_err-trace_steps-clause-err : goal.returns-in_err-trace_steps-clause-err
-returns-in_err-trace_steps-clause-err c =
-    on_err c.from_residual.result
+returns-in_err-trace_steps-clause-err c = on_err c.from_residual.result
     (StopsIn variants.Trace (step_ends c.args.self.now.recording.session) c.args.most c.args.self.now c.trace_steps.new.self)
     (traced_stops c.args.most c.args.self.now c.trace_steps.new.self (in_time _ _ c.board-board.ensures.run)
     c.in_err-trace_steps.ensures.err c.trace_steps.ensures.others)
 
 pub returns-clause-ok : goal.returns-clause-ok
-returns-clause-ok c =
-    traced_run c.args.most c.args.self.now c.trace_steps.new.self c.end_now.result
+returns-clause-ok c = traced_run c.args.most c.args.self.now c.trace_steps.new.self c.end_now.result
     (in_time _ _ c.board-board.ensures.run) c.in_ok-trace_steps.ensures.traced c.end_now.ensures
 
 pub returns-clause-others : goal.returns-clause-others
