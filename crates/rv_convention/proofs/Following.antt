@@ -1,6 +1,6 @@
 -- The steps of a run, followed one after another.
-use Rattle.std.proofs.Common.{◌≡◌, ◌∙◌, ℕ, suc, ◌+◌, ◌-◌, ◌<◌, ◌≤◌, Bool, true, false, List, [], ◌∷◌, refl, sym, ap, subst, arith}
-use Rattle.std.specs.Prelude.{◌&&◌, fold, is_none, is_some, nat_lt, Option, Some, None}
+use Rattle.std.proofs.Common.{rules, ◌≡◌, ◌∙◌, ℕ, suc, ◌+◌, ◌-◌, ◌<◌, ◌≤◌, Bool, true, false, List, [], ◌∷◌, refl, sym, ap, subst, arith}
+use Rattle.std.specs.Prelude.{◌&&◌, fold, is_none, is_some, nat_lt, Option}
 use Rattle.std.proofs.lemmas.Bool.Decides.{nat_tests}
 use Rattle.rv_board.specs.BoardState.{BoardState}
 use Rattle.rv_monitor.specs.State.{SessionState, TimedState, after}
@@ -26,25 +26,16 @@ pub record Following {P : Type 0} (follows : P → ℕ → Turn → BoardState �
 pub begins : {P : Type 0} (follows : P → ℕ → Turn → BoardState → P) (steps : P → ℕ) (none : P)
     (first : SessionState) (most : ℕ) → first.timed.taken ≡ 0 → first.limit ≡ most → steps none ≡ 0
     → Following follows steps none first most first none 0
-begins follows steps none first most taken limit e = record {
-  all = let rest : most - 0 ≡ most = omega arith in
-      ap (λ k. known follows none (moments k first.timed)) (sym rest);
-  limit = limit;
-  taken = taken;
-  count = e;
-}
+begins follows steps none first most taken limit e = search (rules, arith, nat_tests)
 
 both_by : (a b : Bool) → (a && b) ≡ true → a ≡ true
-both_by true b e = refl
-both_by false b e = absurd cc
+both_by a b e = search (rules, arith, nat_tests)
 
 runs_by : (h : Option ℕ) → is_none h ≡ true → is_some h ≡ false
-runs_by None e = refl
-runs_by (Some code) e = absurd cc
+runs_by h e = search (rules, arith, nat_tests)
 
 halts_by : (h : Option ℕ) (b : Bool) → b ≡ true → (is_none h && b) ≡ false → is_some h ≡ true
-halts_by None b e f = absurd cc
-halts_by (Some code) b e f = refl
+halts_by h b e f = search (rules, arith, nat_tests)
 
 more_moments : (k : ℕ) (s : TimedState) → is_some s.board.machine.bus.halt ≡ false
     → moments (suc k) s ≡ moment s ∷ moments k (after s 1)
@@ -86,9 +77,7 @@ module _ {P : Type 0} (follows : P → ℕ → Turn → BoardState → P) (steps
 
   pub all_followed : most ≤ n → seen ≡ known follows none (moments most first.timed)
   unfolding moments
-  all_followed past =
-      let left : most - n ≡ 0 = omega (arith, past) in
-      sym (f.all ∙ ap (λ k. known follows seen (moments k now.timed)) left)
+  all_followed past = search (rules, arith, nat_tests)
 
 -- ---- what is told
 
@@ -96,7 +85,4 @@ pub told : (r : RecordingState) (most : ℕ) (s : TimedState) (first p : Progres
     → first ≡ none_yet → p ≡ known after_turn first (moments most s)
     → ◌≡◌ {A = Checked} (record { steps = p.steps; has_halted = p.has_halted; breaches = p.breaches }) (checked r most)
 unfolding checked
-told r most s first p is none e =
-    ap (λ (q : Progress). record { steps = q.steps; has_halted = q.has_halted; breaches = q.breaches })
-    (e ∙ (ap (λ (q : Progress). known after_turn q (moments most s)) none
-    ∙ ap (λ (t : TimedState). known after_turn none_yet (moments most t)) is))
+told r most s first p is none e = search (rules, arith, nat_tests)

@@ -31,5 +31,4 @@ module _ (c : Open) (now : List ℕ) (n : ℕ) where
 
   pub all_missing : (xs : List Unrestored) → 32 ≤ n → n ≤ 32 → xs ≡ missing_below c now n → xs ≡ unrestored c now
   unfolding unrestored
-  all_missing xs low high h =
-      let all : n ≡ 32 = omega (arith, low, high) in h ∙ ap (missing_below c now) all
+  all_missing xs low high h = let all : n ≡ 32 = omega (arith, low, high) in h ∙ ap (missing_below c now) all

@@ -1,9 +1,10 @@
 -- Calls that are opened.
-use Rattle.std.proofs.Common.{◌≡◌, ◌∙◌, ℕ, Bool, true, false, List, [], ◌∷◌, ◌++◌, length, sym, ap, subst}
+use Rattle.std.proofs.lemmas.Bool.Decides.{nat_tests}
+use Rattle.std.proofs.Common.{rules, arith, ◌≡◌, ◌∙◌, ℕ, Bool, true, false, List, [], ◌∷◌, ◌++◌, length, sym, ap, subst}
 use Rattle.std.specs.Prelude.{OnOk, Result, nat_lt}
 use Rattle.rv_board.specs.BoardState.{BoardState}
 use Rattle.rv_answers.specs.declared.convention.Entry.{Entry}
-use Rattle.rv_convention.specs.Convention.{calls_after, kept, most_open, registers_of}
+use Rattle.rv_convention.specs.Convention.{calls_after, most_open, registers_of}
 use Rattle.rv_convention.specs.declared.calls.Open.{Open}
 use Rattle.rv_convention.specs.declared.turn.Turn.TheVariants.{Enters}
 
@@ -23,5 +24,4 @@ module _ {A E : Type 0} (r : Result A E) (calls seen all : List Open) (room : Bo
   pub opened_alone : (others : List Open) → others ≡ [] → room ≡ false → with_call others values
       → OnOk r (all ≡ calls_after calls address now (Enters entry))
   unfolding calls_after
-  opened_alone others none e h =
-      rw (has_room ∙ e) (subst (with_call []) is (subst (λ (os : List Open). with_call os values) none h))
+  opened_alone others none e h = search (rules, arith, nat_tests)
