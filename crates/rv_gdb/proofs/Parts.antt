@@ -1,5 +1,5 @@
 -- Parts of a run.
-use Rattle.std.proofs.Common.{◌≡◌, ℕ, sym, subst}
+use Rattle.std.proofs.Common.{◌≡◌, ℕ}
 use Rattle.std.specs.Prelude.{IfOk, List, Result}
 use Rattle.rv_base.specs.declared.memory.NoMemory.{NoMemory}
 use Rattle.rv_monitor.specs.State.{SessionState}
@@ -14,5 +14,4 @@ use Rattle.rv_moves.specs.declared.watch.Watch.{Watch}
 pub stop_run : (ws : List Watch) (aim : Aim) (calls most : ℕ) (old new : SessionState) (r : Result End NoMemory)
     → aim ≡ Stop → IfOk r (HasRun (run_ends ws Stop 0 old) most old new)
     → IfOk r (HasRun (run_ends ws aim calls old) most old new)
-stop_run ws aim calls most old new r e h =
-    subst (λ (a : Aim). IfOk r (HasRun (run_ends ws a calls old) most old new)) (sym e) h
+stop_run ws aim calls most old new r e h = rw e h

@@ -1,11 +1,11 @@
 -- Items one after another, and parts of a run.
-use Rattle.std.proofs.Common.{◌≡◌, ◌∙◌, ℕ, ◌+◌, ◌<◌, List, [], ◌∷◌, ◌++◌, Bool, drop, get_or, length, refl, sym, ap, ap₂, subst, append_assoc, append-nil}
+use Rattle.std.proofs.Common.{◌≡◌, ◌∙◌, ℕ, ◌+◌, ◌<◌, List, [], ◌∷◌, ◌++◌, Bool, drop, get_or, length, refl, sym, ap, subst, append_assoc, append-nil}
 use Rattle.std.specs.Prelude.{Err, None, Ok, OnOk, Option, Result, Some, codes, option_to_list}
 use Rattle.std.proofs.Math.Seq.{drop-length}
 use Rattle.std.proofs.lemmas.List.{drop_more}
 use Rattle.rv_packets.specs.Items.{State, after, items, step}
 use Rattle.rv_packets.specs.declared.item.Item.{Item}
-use Rattle.rv_packets.specs.declared.item.Item.TheVariants.{Packet, BadSum, Ack, Again, Interrupt}
+use Rattle.rv_packets.specs.declared.item.Item.TheVariants.{Packet, BadSum, Again}
 use Rattle.rv_packets.proofs.Joining.{joined}
 use Rattle.rv_recording.specs.declared.until.End.{End}
 use Rattle.rv_requests.specs.Requests.{request_of}
@@ -19,12 +19,8 @@ pub taken : (contents : List ℕ) (old mid new : TalkState) (start sent before a
     → acked ≡ before ++ if_acks old (codes "+") → start ≡ [] → Handles (request_of contents) old mid start sent
     → Sends mid new sent acked done → Takes (Packet contents) old new before done
 unfolding Takes
-taken contents old mid new start sent before acked done acks empty handles sends = (
-  mid,
-  sent,
-  subst (λ (s : List ℕ). Handles (request_of contents) old mid s sent) empty handles,
-  subst (λ (a : List ℕ). Sends mid new sent a done) acks sends,
-)
+taken contents old mid new start sent before acked done acks empty handles sends =
+    (mid, sent, rw empty at handles, rw acks at sends)
 
 pub one : (item : Option Item) (i : Item) (old new : TalkState) (before done : List ℕ) → item ≡ Some i
     → Takes i old new before done → Talks (option_to_list item) old new before done
@@ -38,18 +34,14 @@ none item t out is = rw is (refl, refl)
 pub joins : (xs ys : List Item) (old mid new : TalkState) (before between done : List ℕ)
     → Talks xs old mid before between → Talks ys mid new between done → Talks (xs ++ ys) old new before done
 unfolding Talks
-joins [] ys old mid new before between done h k =
-    subst (λ (t : TalkState). Talks ys t new before done) h.0
-    (subst (λ (b : List ℕ). Talks ys mid new b done) h.1 k)
-joins (x ∷ xs) ys old mid new before between done h k =
-    (h.0, h.1, h.2, joins xs ys h.0 mid new h.1 between done h.3 k)
+joins [] ys old mid new before between done h k = rw (h.0, h.1) at k
+joins (x ∷ xs) ys old mid new before between done h k = (h.0, h.1, h.2, joins xs ys h.0 mid new h.1 between done h.3 k)
 
 pub pieces : (s : State) (xs ys : List ℕ) (old mid new : TalkState) (before between done : List ℕ)
     → Talks (items s xs) old mid before between → Talks (items (after s xs) ys) mid new between done
     → Talks (items s (xs ++ ys)) old new before done
 pieces s xs ys old mid new before between done h k =
-    subst (λ (l : List Item). Talks l old new before done) (sym (joined s xs ys))
-    (joins (items s xs) (items (after s xs) ys) old mid new before between done h k)
+    rw (joined s xs ys) (joins (items s xs) (items (after s xs) ys) old mid new before between done h k)
 
 -- an item only appends
 item_grows : (i : Item) (old new : TalkState) (before done : List ℕ) → Takes i old new before done
@@ -59,8 +51,7 @@ item_grows (Packet contents) old new before done h =
     (if_acks old (0x2b ∷ []) ++ h.1, h.3.text ∙ append_assoc before (if_acks old (0x2b ∷ [])) h.1)
 item_grows BadSum old new before done h = (if_acks old (0x2d ∷ []), h.1)
 item_grows Again old new before done h = (if_acks old old.last, h.1)
-item_grows Interrupt old new before done h = ([], h.1 ∙ sym (append-nil before))
-item_grows Ack old new before done h = ([], h.1 ∙ sym (append-nil before))
+item_grows _ old new before done h = ([], h.1 ∙ sym (append-nil before))
 
 pub grows : (is : List Item) (old new : TalkState) (before done : List ℕ) → Talks is old new before done
     → ((more : List ℕ) × (done ≡ before ++ more))
@@ -75,8 +66,7 @@ grows (i ∷ is) old new before done h =
 
 -- what is left of some bytes, after the first n of them, leads on to what all of them lead to
 unfoldable pub Fed : (first now : ServerState) → (bytes : List ℕ) → ℕ → (before so_far : List ℕ) → Type 0
-Fed first now bytes n before so_far =
-    (after now.stream (drop n bytes) ≡ after first.stream bytes)
+Fed first now bytes n before so_far = (after now.stream (drop n bytes) ≡ after first.stream bytes)
     × ((new : TalkState) (done : List ℕ) → Talks (items now.stream (drop n bytes)) now.talk new so_far done
     → Talks (items first.stream bytes) first.talk new before done)
 
@@ -123,15 +113,7 @@ pub ran : (most : ℕ) (old mid new : TalkState) (end : End) (goes : Bool) (targ
     → Part most old new before done
 unfolding Part
 ran most old mid new end goes target before told done part says is next state text =
-    let start = record old { target = after_part end target } in (
-      end,
-      target,
-      told,
-      part,
-      says,
-      state ∙ ap₂ (λ (g : Bool) (t : TalkState). after_run g t) is next,
-      text ∙ ap₂ (λ (g : Bool) (t : TalkState). told ++ run_text g t) is next,
-    )
+    (end, target, told, part, says, rw (is, next) at state, rw (is, next) at text)
 
 -- that, where the last call may run out of memory
 pub ran_on : {E : Type 0} (r : Result Unit E) (most : ℕ) (old mid new : TalkState) (end : End) (goes : Bool)
@@ -147,5 +129,4 @@ pub gone_on : (most : ℕ) (old mid new : TalkState) (start sent before done : L
     → PartOrStop old.is_interrupted most old mid start sent → Sends mid new sent before done
     → GoesOn most old new before done
 unfolding GoesOn
-gone_on most old mid new start sent before done empty part sends =
-    (mid, sent, subst (λ (s : List ℕ). PartOrStop old.is_interrupted most old mid s sent) empty part, sends)
+gone_on most old mid new start sent before done empty part sends = (mid, sent, rw empty at part, sends)

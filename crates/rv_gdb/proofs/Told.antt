@@ -1,5 +1,5 @@
 -- What is told.
-use Rattle.std.proofs.Common.{◌≡◌, ℕ, ◌-◌, List, ◌++◌, ap, ◌∙◌, subst}
+use Rattle.std.proofs.Common.{◌≡◌, ℕ, ◌-◌, List, ◌++◌}
 use Rattle.std.specs.Prelude.{None, Some}
 use Rattle.rv_packets.specs.Items.{framed}
 use Rattle.rv_replies.specs.declared.stops.Reason.{Reason}
@@ -25,8 +25,4 @@ pub lost : (reason : Reason) (t new : TargetState) (cause : ℕ) (before told no
     → told ≡ before ++ console_text t → Notes told noted → new ≡ went_back t (taken t - 1)
     → after ≡ noted ++ state_packet (signal_of cause) Plain new → Lands reason t before after
 unfolding Lands
-lost reason t new cause before told noted after is begins notes back e = rw is (
-  noted,
-  subst (λ (b : List ℕ). Notes b noted) begins notes,
-  e ∙ ap (λ (u : TargetState). noted ++ state_packet (signal_of cause) Plain u) back,
-)
+lost reason t new cause before told noted after is begins notes back e = rw is (noted, rw begins at notes, rw back at e)
