@@ -1,15 +1,13 @@
 //! The answer to a command.
 use crate::command::Command;
 use crate::convention::Checked;
-use crate::explained::Explanation;
+use crate::explained::{Explanation, Origin};
 use crate::frames::Backtrace;
 use crate::many::Many;
 use crate::moves::{Breakpoint, Breakpoints, Cleared, Given, Run, Saved, Stepped, Trace, Watch};
-use crate::origin::Origin;
 use crate::profile::Profiled;
-use crate::rows::Row;
 use crate::values::{
-    ControlValue, Devices, Dump, Edges, Place, RegisterFile, RegisterValue, Standing, Trap,
+    ControlValue, Devices, Dump, Edges, Place, RegisterFile, RegisterValue, Row, Standing, Trap,
 };
 
 /// Why the operands of a command have no meaning.

@@ -1,6 +1,6 @@
-//! Why a trap came, and where it went.
-use crate::origin::Write;
-use crate::values::Region;
+//! Why a trap came, and where it went; and where a value came from.
+use crate::moves::Target;
+use crate::values::{Region, RegisterValue};
 use rv_isa::Reg;
 use rv_pmp::Mode;
 
@@ -139,4 +139,35 @@ pub struct Explanation {
     pub unseen: u64,
     /// The last trap of all steps.
     pub repeated: Option<Repeated>,
+}
+
+/// A step that wrote a register or a word, by the board before it.
+#[derive(Clone, Copy)]
+pub struct Write {
+    /// The number of the step, from 1.
+    pub step: u64,
+    /// What pc was.
+    pub address: u32,
+    /// The word there.
+    pub word: Option<u32>,
+    /// What the register or the word was, if it had a value.
+    pub before: Option<u32>,
+    /// The first register that the instruction reads.
+    pub first: Option<RegisterValue>,
+    /// The second one.
+    pub second: Option<RegisterValue>,
+    /// The address of a load or a store.
+    pub accessed: Option<u32>,
+}
+
+/// Where the value of a register or a word came from.
+#[derive(Clone, Copy)]
+pub struct Origin {
+    pub target: Target,
+    /// How many steps were looked at, the first ones.
+    pub steps: u64,
+    /// The value after them, if it has one.
+    pub value: Option<u32>,
+    /// The last of them that wrote it, if one did.
+    pub write: Option<Write>,
 }

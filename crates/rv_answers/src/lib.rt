@@ -22,7 +22,6 @@ mod many;
 mod memory;
 mod moves;
 mod nearest;
-mod origin;
 mod origin_text;
 mod places;
 mod printer;
@@ -46,7 +45,8 @@ pub use command::{Command, Move, command_named, command_word};
 pub use convention::{Breach, Checked, Deviation, Entry, Return, Unrestored};
 pub use devices::threshold;
 pub use explained::{
-    Area, Barrier, Before, Explained, Explanation, Handler, Reason, Repeated, Sum, Unfetched,
+    Area, Barrier, Before, Explained, Explanation, Handler, Origin, Reason, Repeated, Sum,
+    Unfetched, Write,
 };
 pub use extent::{Extent, Format, read_extent};
 pub use frames::{Backtrace, Frame, Outermost, Reached, is_guess};
@@ -57,12 +57,10 @@ pub use moves::{
     Aim, BreakCondition, Breakpoint, Breakpoints, Change, Cleared, Ending, Given, Run, Saved, Step,
     Stepped, Target, Trace, Watch,
 };
-pub use origin::{Origin, Write};
 pub use printer::Printer;
 pub use profile::{Profiled, Spent};
-pub use rows::Row;
 pub use states::{bits_of, clock_of, has_bit, port_of, region_of, regions_of, sources_of};
 pub use values::{
     Bits, Cells, Clock, ControlValue, Devices, Dump, Edges, Interrupts, Place, Port, Range, Region,
-    RegisterFile, RegisterValue, Registers, Rights, SourceState, Standing, Trap,
+    RegisterFile, RegisterValue, Registers, Rights, Row, SourceState, Standing, Trap,
 };

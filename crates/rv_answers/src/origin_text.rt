@@ -1,6 +1,6 @@
 //! The text of where a value came from.
+use crate::explained::{Origin, Write};
 use crate::moves::Watch;
-use crate::origin::{Origin, Write};
 use crate::places::append_instruction;
 use crate::registers::{append_register, append_value};
 use crate::runs::append_watched;

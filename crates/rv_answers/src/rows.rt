@@ -1,23 +1,7 @@
 //! Rows of a list of the source.
 use crate::Printer;
 use crate::shown::append_shown;
-
-/// What a row of a list says of a line of the source beside its text.
-#[derive(Clone, Copy)]
-pub struct Row {
-    /// Its number, from 1.
-    pub number: usize,
-    /// Whether pc is in its bytes.
-    pub is_here: bool,
-    /// Whether a breakpoint is at its address.
-    pub is_marked: bool,
-    /// Its address, if it has bytes.
-    pub address: Option<u32>,
-    /// Its first word, if it has four bytes.
-    pub word: Option<u32>,
-    /// Whether it has more than four bytes.
-    pub has_more: bool,
-}
+use crate::values::Row;
 
 /// Appends a sign, or a space where it doesn't stand.
 fn append_mark(stands: bool, sign: &str, answer: &mut Printer) {

@@ -128,6 +128,23 @@ pub struct Dump {
     pub cells: Cells,
 }
 
+/// What a row of a list says of a line of the source beside its text.
+#[derive(Clone, Copy)]
+pub struct Row {
+    /// Its number, from 1.
+    pub number: usize,
+    /// Whether pc is in its bytes.
+    pub is_here: bool,
+    /// Whether a breakpoint is at its address.
+    pub is_marked: bool,
+    /// Its address, if it has bytes.
+    pub address: Option<u32>,
+    /// Its first word, if it has four bytes.
+    pub word: Option<u32>,
+    /// Whether it has more than four bytes.
+    pub has_more: bool,
+}
+
 /// The timer.
 #[derive(Clone, Copy)]
 pub struct Clock {

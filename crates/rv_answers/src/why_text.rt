@@ -1,8 +1,7 @@
 //! The text of an explained trap.
 use crate::explained::{
-    Area, Barrier, Before, Explained, Explanation, Handler, Reason, Repeated, Sum, Unfetched,
+    Area, Barrier, Before, Explained, Explanation, Handler, Reason, Repeated, Sum, Unfetched, Write,
 };
-use crate::origin::Write;
 use crate::origin_text::append_writer;
 use crate::places::append_instruction;
 use crate::protection::append_region;

@@ -69,9 +69,9 @@ use Rattle.rv_answers.specs.declared.moves.Target.{Target}
 use Rattle.rv_answers.specs.declared.moves.Target.TheVariants as targets
 use Rattle.rv_answers.specs.declared.moves.Trace.{Trace}
 use Rattle.rv_answers.specs.declared.moves.Watch.{Watch}
-use Rattle.rv_answers.specs.declared.origin.Origin.{Origin}
-use Rattle.rv_answers.specs.declared.origin.Write.{Write}
-use Rattle.rv_answers.specs.declared.rows.Row.{Row}
+use Rattle.rv_answers.specs.declared.explained.Origin.{Origin}
+use Rattle.rv_answers.specs.declared.explained.Write.{Write}
+use Rattle.rv_answers.specs.declared.values.Row.{Row}
 use Rattle.rv_answers.specs.declared.values.Bits.{Bits}
 use Rattle.rv_answers.specs.declared.values.Bits.TheVariants as bits
 use Rattle.rv_answers.specs.declared.values.Cells.{Cells}

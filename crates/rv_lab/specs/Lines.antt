@@ -6,7 +6,7 @@ use Rattle.std.specs.List.{range_with_len}
 use Rattle.std.specs.Option.{option_map_or}
 use Rattle.rv_asm.specs.Lines.{Listed, address_of, bytes_of}
 use Rattle.rv_monitor.specs.Views.{word_at}
-use Rattle.rv_answers.specs.declared.rows.Row.{Row}
+use Rattle.rv_answers.specs.declared.values.Row.{Row}
 use Rattle.rv_lab.specs.State.{LabState, board, listing}
 
 -- ---- addresses

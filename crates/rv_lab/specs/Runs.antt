@@ -31,7 +31,7 @@ use Rattle.rv_answers.specs.declared.moves.Change.{Change}
 use Rattle.rv_answers.specs.declared.moves.Ending.{Ending}
 use Rattle.rv_answers.specs.declared.moves.Ending.TheVariants as ending
 use Rattle.rv_answers.specs.declared.moves.Step.{Step}
-use Rattle.rv_answers.specs.declared.origin.Origin.{Origin}
+use Rattle.rv_answers.specs.declared.explained.Origin.{Origin}
 use Rattle.rv_answers.specs.declared.values.RegisterValue.{RegisterValue}
 use Rattle.rv_answers.specs.declared.values.Trap.{Trap}
 use Rattle.rv_why.specs.Why.{explanation}

@@ -19,8 +19,8 @@ use Rattle.rv_recording.specs.declared.until.Watched.TheVariants.{Register, Word
 use Rattle.rv_answers.specs.declared.moves.Target.{Target}
 use Rattle.rv_answers.specs.declared.moves.Target.TheVariants as target
 use Rattle.rv_answers.specs.declared.values.RegisterValue.{RegisterValue}
-use Rattle.rv_answers.specs.declared.origin.Origin.{Origin}
-use Rattle.rv_answers.specs.declared.origin.Write.{Write}
+use Rattle.rv_answers.specs.declared.explained.Origin.{Origin}
+use Rattle.rv_answers.specs.declared.explained.Write.{Write}
 use Rattle.rv_why.specs.declared.writes.Sought.{Sought}
 use Rattle.rv_why.specs.declared.writes.Sought.TheVariants as sought
 use Rattle.rv_why.specs.Taken.{board_at, first_state, is_trap}

@@ -27,7 +27,7 @@ use Rattle.rv_monitor.specs.Views.{word_at}
 use Rattle.rv_recording.specs.Recording.{RecordingState}
 use Rattle.rv_recording.specs.declared.until.Watched.TheVariants.{Word}
 use Rattle.rv_answers.specs.States.{region_of}
-use Rattle.rv_answers.specs.declared.origin.Write as written
+use Rattle.rv_answers.specs.declared.explained.Write as written
 use Rattle.rv_answers.specs.declared.explained.Area.{Area}
 use Rattle.rv_answers.specs.declared.explained.Area.TheVariants as area
 use Rattle.rv_answers.specs.declared.explained.Barrier.{Barrier}
