@@ -1,11 +1,11 @@
 //! The faults of a source that is rejected.
 ghost use Rattle.std.specs.Prelude.{◌≡◌};
 ghost use Rattle.std.specs.List.{count_by};
-ghost use Rattle.rv_json.specs.Json.{fault_data, fault_name, fault_number, faults_data, following, is_misplaced};
+ghost use Rattle.rv_json.specs.Json.{fault_data, fault_number, faults_data, following, is_misplaced};
 
 use crate::names::Names;
-use crate::object::send_members;
-use crate::sent::{Text, ToJson, send_word};
+use crate::object::object;
+use crate::sent::{Text, ToJson};
 use rv_answers::Many;
 use rv_diagnosis::Diagnosis;
 use rv_program::FaultKind;
@@ -29,33 +29,15 @@ fn number_of(kind: FaultKind) -> u8
     kind.number()
 }
 
-impl ToJson for FaultKind {
-    ghost json = { λ _ k. fault_name k };
-
-    #[tactic(auto, unfolding(crate::specs::Json::fault_name))]
-    fn send<S: Serializer>(&self, _: &Names<'_>, out: &mut S) -> Result<(), S::Error> {
-        send_word(self.name(), out)
-    }
-}
-
 impl ToJson for Fault {
     ghost json = { λ _ f. fault_data f };
 
     #[tactic(auto, unfolding(crate::specs::Json::fault_data))]
     fn send<S: Serializer>(&self, names: &Names<'_>, out: &mut S) -> Result<(), S::Error> {
         let diagnosis = self.diagnosis;
-        send_members!(
-            diagnosis,
-            names,
-            out,
-            line,
-            column,
-            length,
-            number = number_of(diagnosis.kind),
-            name = diagnosis.kind,
-            message = Text(&self.message),
-            advice = Text(&self.advice)
-        )
+        object!(diagnosis: line, column, length, number = number_of(diagnosis.kind), name = diagnosis.kind,
+            message = Text(&self.message), advice = Text(&self.advice))
+        .send(names, out)
     }
 }
 
@@ -91,13 +73,8 @@ impl ToJson for Faults<'_> {
 
     #[tactic(auto, unfolding(crate::specs::Json::faults_data))]
     fn send<S: Serializer>(&self, names: &Names<'_>, out: &mut S) -> Result<(), S::Error> {
-        send_members!(
-            self,
-            names,
-            out,
-            kind = "faults",
-            faults = *self.0,
-            following = following(self.0)
+        object!(self: kind = "faults", faults = *self.0, following = following(self.0)).send(
+            names, out,
         )
     }
 }

@@ -2,18 +2,16 @@
 #![tactic(auto)]
 
 mod answer;
-mod convention;
-mod explained;
 mod faults;
-mod frames;
-mod looks;
-mod moves;
+mod findings;
+mod kinds;
 mod names;
 mod object;
-mod profile;
+mod parts;
 mod rejected;
 mod sent;
 mod text;
+mod words;
 
 pub use faults::Fault;
 pub use rejected::source_json;

@@ -1,5 +1,5 @@
 //! Objects by their members.
-ghost use Rattle.std.specs.Prelude.{◌≡◌, ◌<◌, List, ℕ, OnOk, codes, min};
+ghost use Rattle.std.specs.Prelude.{◌≡◌, List, ℕ, OnOk, codes, min};
 ghost use Rattle.serde_json.specs.Data.{Members, member, no_members, object, string};
 ghost use Rattle.serde_json.specs.Events.{members_len};
 ghost use Rattle.rv_json.specs.Support.Sends.{Sends, SendsAll};
@@ -64,26 +64,30 @@ impl<T: ToJson, R: Members> Members for Member<'_, T, R> {
     }
 }
 
-/// Sends an object.
-#[tactic(auto, unfolding(crate::specs::Support::Sends::Sends, crate::specs::Support::Sends::SendsAll))]
-pub(crate) fn send_object<M: Members, S: Serializer>(
-    members: &M,
-    names: &Names<'_>,
-    out: &mut S,
-) -> Result<(), S::Error>
-    requires { members_len (M.members (labels names.now) members.now) < 256 }
-    ensures { OnOk result
-        (Sends (object (M.members (labels names.now) members.now)) (S.written out.old) (S.written out.new)) }
-{
-    out.begin_map(Some(members.count()))?;
-    members.send_all(names, out)
+/// An object of members.
+#[derive(Clone, Copy)]
+pub(crate) struct Object<M>(pub(crate) M);
+
+impl<M: Members> ToJson for Object<M> {
+    ghost json = { λ ls o. object (M.members ls o.0) };
+
+    #[tactic(auto, unfolding(crate::specs::Support::Sends::Sends, crate::specs::Support::Sends::SendsAll))]
+    fn send<S: Serializer>(&self, names: &Names<'_>, out: &mut S) -> Result<(), S::Error> {
+        let count = self.0.count();
+        if count == usize::MAX {
+            // There may be more than a number can say. No object of an answer is such a one.
+            return Err(out.custom("too many members"));
+        }
+        out.begin_map(Some(count))?;
+        self.0.send_all(names, out)
+    }
 }
 
-/// Sends an object: of the fields of a value by their names, or of variables where `_` stands in its place, and of other
-/// values as `name = value`.
-macro_rules! send_members {
+/// An object: of the fields of a value by their names, or of what variables refer to where `_` stands in its place, and
+/// of other values as `name = value`.
+macro_rules! object {
     (@value _, $variable:ident) => {
-        $variable
+        *$variable
     };
     (@value $it:tt, $field:ident) => {
         $it.$field
@@ -97,16 +101,16 @@ macro_rules! send_members {
     (@members $it:tt, $field:ident $(= $value:expr)? $(, $names:ident $(= $values:expr)?)*) => {
         $crate::object::Member {
             name: stringify!($field),
-            value: &send_members!(@value $it, $field $(, $value)?),
-            rest: send_members!(@members $it $(, $names $(= $values)?)*),
+            value: &object!(@value $it, $field $(, $value)?),
+            rest: object!(@members $it $(, $names $(= $values)?)*),
         }
     };
-    ($it:tt, $names:ident, $out:ident, $($members:tt)+) => {
-        $crate::object::send_object(&send_members!(@members $it, $($members)+), $names, $out)
+    ($it:tt: $($members:tt)+) => {
+        $crate::object::Object(object!(@members $it, $($members)+))
     };
 }
 
-pub(crate) use send_members;
+pub(crate) use object;
 
 /// Sends an object that has a kind alone.
 pub(crate) fn send_kind<S: Serializer>(
@@ -117,7 +121,7 @@ pub(crate) fn send_kind<S: Serializer>(
     ensures { OnOk result (Sends (object (member (codes "kind") (string kind.now) no_members))
         (S.written out.old) (S.written out.new)) }
 {
-    send_members!(_, names, out, kind)
+    object!(_: kind = kind).send(names, out)
 }
 
 /// Sends an object that has a kind and one other member.
@@ -139,5 +143,5 @@ pub(crate) fn send_one<T: ToJson, S: Serializer>(
     };
     let name = "kind";
     let value = &kind;
-    send_object(&Member { name, value, rest }, names, out)
+    Object(Member { name, value, rest }).send(names, out)
 }

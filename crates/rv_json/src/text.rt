@@ -8,7 +8,7 @@ ghost use Rattle.rv_json.specs.Support.Labels.{labels};
 
 use crate::faults::{Fault, Faults};
 use crate::names::Names;
-use crate::object::send_members;
+use crate::object::object;
 use crate::sent::{Bytes, ToJson};
 use rv_answers::{Answer, Many};
 use rv_asm::{Listing, list};
@@ -63,14 +63,7 @@ impl ToJson for Exchange<'_> {
 
     #[tactic(auto, unfolding(crate::specs::Json::reply_data))]
     fn send<S: Serializer>(&self, names: &Names<'_>, out: &mut S) -> Result<(), S::Error> {
-        send_members!(
-            self,
-            names,
-            out,
-            answer = *self.answer,
-            next,
-            console = Bytes(self.console)
-        )
+        object!(self: answer = *self.answer, next, console = Bytes(self.console)).send(names, out)
     }
 }
 

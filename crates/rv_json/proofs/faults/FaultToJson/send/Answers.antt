@@ -3,4 +3,4 @@ use Rattle.rv_json.proofs.faults.FaultToJson.send.Goals as goal
 
 pub returns : goal.returns
 unfolding fault_data
-returns g c = rw c.number_of.ensures at c.send_object.ensures
+returns g c = rw c.number_of.ensures at c.send.ensures
