@@ -25,12 +25,13 @@ pub use laws::{help_is_answered, usages_have_a_meaning, words_have_a_meaning};
 pub use opening::{Opening, opening_of};
 pub use origin::Origin;
 pub use program::{
-    current_folder, fail, read_file, refuse_words, run_program, run_with_words, with_texts,
+    NO_MEMORY, current_folder, fail, read_file, refuse_lab, refuse_words, run_on_texts,
+    run_program, run_with_words,
 };
 pub use status::{FAILED, REFUSED, refusal_status};
 use std::alloc::Global;
 use usage::parse;
-pub use usage::{Argument, INPUT, PAGES, SLOTS, Usage, parse_words};
+pub use usage::{Argument, INPUT, PAGES, SLOTS, SOURCE, Usage, parse_words};
 
 /// The limit of a run, and the sizes of its board's memory and decoded cache.
 #[derive(Clone, Copy, Debug, PartialEq, Eq)]

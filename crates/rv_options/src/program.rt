@@ -1,5 +1,7 @@
 //! What the programs do with their words and files.
-use crate::opening::Opening;
+ghost use Rattle.std.specs.Prelude.{◌≡◌, if◌then◌else◌};
+
+use crate::opening::{Opening, opening_of};
 use crate::status::{FAILED, REFUSED, refusal_status};
 use crate::usage::{Usage, parse_words};
 use clap::error::ErrorKind;
@@ -7,7 +9,11 @@ use clap::{ArgMatches, Error};
 use std::alloc::AllocError;
 use std::env::{self, Env};
 use std::fs::{self, Files};
-use std::io::{self, Eprint, Print};
+use std::io::{self, Eprint, Print, Write};
+use std::process::ExitCode;
+
+/// What programs that open a lab tell where memory ran out.
+pub const NO_MEMORY: &str = "out of memory\n";
 
 /// Returns the words of the command line, the program's name first.
 fn all_words<R: Env + AllocGlobal>(rt: &R) -> io::Result<Vec<String>> {
@@ -92,16 +98,17 @@ fn run_words<R: AllocGlobal + Print + Eprint, F: FnOnce(&ArgMatches<'_>) -> u8>(
 }
 
 /// Runs a program with what the words of its command line say by its usage. Where they are refused, the help or the
-/// refusal is printed; where memory runs out, `no_memory` is. Returns the exit status.
+/// refusal is printed; where memory runs out, `no_memory` is. Ends with the status that the program returns.
 pub fn run_program<R: Env + AllocGlobal + Print + Eprint, F: FnOnce(&ArgMatches<'_>) -> u8>(
     rt: &R,
     usage: Usage<'_>,
     no_memory: &str,
     run: F,
-) -> u8
+) -> ExitCode
     requires { F.IsAlwaysCallable run }
 {
-    run_with_words(rt, |words| run_words(rt, usage, no_memory, words, run)).unwrap_or(FAILED)
+    let status = run_with_words(rt, |words| run_words(rt, usage, no_memory, words, run));
+    ExitCode::from(status.unwrap_or(FAILED))
 }
 
 /// Returns the folder that relative paths begin at, or an empty one where it isn't known.
@@ -143,7 +150,7 @@ fn with_inputs<R: Files + AllocGlobal + Eprint, F: FnOnce(&[u8], &[u8]) -> u8>(
 
 /// Hands on the source and the timed list of a lab, each of at most `most` bytes; without a list an empty one. Where a
 /// file can't be read, this is reported. Returns the exit status.
-pub fn with_texts<R: Files + AllocGlobal + Eprint, F: FnOnce(&[u8], &[u8]) -> u8>(
+fn with_texts<R: Files + AllocGlobal + Eprint, F: FnOnce(&[u8], &[u8]) -> u8>(
     rt: &R,
     opening: &Opening<'_>,
     most: usize,
@@ -155,4 +162,27 @@ pub fn with_texts<R: Files + AllocGlobal + Eprint, F: FnOnce(&[u8], &[u8]) -> u8
         Some(source) => with_inputs(rt, &source, opening.input, most, run),
         None => fail(rt, "cannot read source\n"),
     }
+}
+
+/// Runs a program that opens a lab, as `run_program`: with what its words say, and the source and the timed list that they
+/// name, each of at most `most` bytes. Without a list it gets an empty one.
+pub fn run_on_texts<
+    R: Env + Files + AllocGlobal + Print + Eprint,
+    F: FnOnce(&ArgMatches<'_>, &[u8], &[u8]) -> u8,
+>(rt: &R, usage: Usage<'_>, most: usize, run: F) -> ExitCode
+    requires { F.IsAlwaysCallable run }
+{
+    run_program(rt, usage, NO_MEMORY, |matches| {
+        with_texts(rt, &opening_of(matches), most, |source, inputs| {
+            run(matches, source, inputs)
+        })
+    })
+}
+
+/// Writes why there is no lab, and returns the exit status.
+pub fn refuse_lab<W: Write>(out: &mut W, why: &[u8], out_of_memory: bool) -> u8
+    ensures { result ≡ (if out_of_memory then 4 else 3) }
+{
+    let _ = out.write_all(why);
+    if out_of_memory { FAILED } else { REFUSED }
 }

@@ -48,6 +48,12 @@ pub enum Argument<'a> {
     },
 }
 
+/// SOURCE: the path of a source, which must be given.
+pub const SOURCE: Argument<'static> = Argument::Source {
+    help: "the assembly source",
+    default: None,
+};
+
 /// The option `--input`: the path of a timed list.
 pub const INPUT: Argument<'static> = Argument::Text {
     name: "input",

@@ -181,11 +181,10 @@ fn run(rt: &HostRuntime, words: &Words<'_>) -> u8 {
 }
 
 fn main(rt: HostRuntime) -> ExitCode {
-    let status = run_program(
+    run_program(
         &rt,
         USAGE,
         NO_MEMORY,
         |matches| run(&rt, &words_of(matches)),
-    );
-    ExitCode::from(status)
+    )
 }

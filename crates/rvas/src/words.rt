@@ -1,6 +1,6 @@
 //! The words of the command line, read with `clap`: `rvas SOURCE [-o FILE] [--form elf|bin|hex] [--listing]`.
 use clap::ArgMatches;
-use rv_options::{Argument, Usage};
+use rv_options::{Argument, SOURCE, Usage};
 
 /// What the words of the command line ask for.
 #[derive(Clone, Copy)]
@@ -21,10 +21,7 @@ pub const USAGE: Usage<'static> = Usage {
     about: "assembles a program for a small RISC-V board into a file for other tools",
     version: Some("1.0"),
     arguments: &[
-        Argument::Source {
-            help: "the assembly source",
-            default: None,
-        },
+        SOURCE,
         Argument::Text {
             name: "output",
             letter: Some('o'),

@@ -12,13 +12,9 @@ use rv_base::{NoMemory, TEXT_LIMIT};
 use rv_gdb::{Server, Target, features, memory_map};
 use rv_lab::{Lab, LabFault, Printer, Sizes, append_diagnosis};
 use rv_object::{ElfFault, elf_file};
-use rv_options::{FAILED, Opening, REFUSED, current_folder, fail, run_program, with_texts};
+use rv_options::{FAILED, NO_MEMORY, Opening, current_folder, fail, refuse_lab, run_on_texts};
 use rv_replies::Files;
-use std::io::Write;
 use std::process::ExitCode;
-
-/// What is told where memory ran out.
-const NO_MEMORY: &str = "out of memory\n";
 
 /// The path by which gdb knows the program's file.
 const PATH: &[u8] = b"/board.elf";
@@ -70,11 +66,11 @@ fn serve(rt: &HostRuntime, words: &Words<'_>, lab: Lab) -> u8 {
 fn refuse(rt: &HostRuntime, words: &Words<'_>, source: &[u8], fault: LabFault) -> u8 {
     let mut text = Printer::new(rt.alloc());
     append_diagnosis(words.opening.source, source, fault, &mut text);
-    let _ = rt.stderr().write_all(text.bytes());
-    match fault {
-        LabFault::OutOfMemory => FAILED,
-        _ => REFUSED,
-    }
+    refuse_lab(
+        &mut rt.stderr(),
+        text.bytes(),
+        fault == LabFault::OutOfMemory,
+    )
 }
 
 /// Opens a lab of a source with a timed list, and talks. Returns the exit status.
@@ -86,19 +82,8 @@ fn open(rt: &HostRuntime, words: &Words<'_>, source: &[u8], inputs: &[u8]) -> u8
     }
 }
 
-/// Reads the files that the words name, and talks. Returns the exit status.
-fn run(rt: &HostRuntime, words: &Words<'_>) -> u8 {
-    with_texts(rt, &words.opening, TEXT_LIMIT, |source, inputs| {
-        open(rt, words, source, inputs)
-    })
-}
-
 fn main(rt: HostRuntime) -> ExitCode {
-    let status = run_program(
-        &rt,
-        USAGE,
-        NO_MEMORY,
-        |matches| run(&rt, &words_of(matches)),
-    );
-    ExitCode::from(status)
+    run_on_texts(&rt, USAGE, TEXT_LIMIT, |matches, source, inputs| {
+        open(&rt, &words_of(matches), source, inputs)
+    })
 }

@@ -1,7 +1,7 @@
 //! The words of the command line, read with `clap`: `rvgdb SOURCE [--input F] [--pages P] [--slots S]
 //! [--no-questions]`.
 use clap::ArgMatches;
-use rv_options::{Argument, INPUT, Opening, PAGES, SLOTS, Usage, opening_of};
+use rv_options::{Argument, INPUT, Opening, PAGES, SLOTS, SOURCE, Usage, opening_of};
 
 /// What the words of the command line ask for.
 #[derive(Clone, Copy)]
@@ -12,24 +12,18 @@ pub struct Words<'a> {
     pub asks: bool,
 }
 
+/// The option `--no-questions`.
+const NO_QUESTIONS: Argument<'static> = Argument::Flag {
+    name: "no-questions",
+    help: "don't ask the debugger during a run if it is to stop, for those that know no such question (lldb)",
+};
+
 /// The usage of the program.
 pub const USAGE: Usage<'static> = Usage {
     name: "rvgdb",
     about: "assembles a program and serves gdb a small RISC-V board that runs it, over the standard input and output",
     version: None,
-    arguments: &[
-        Argument::Source {
-            help: "the assembly source",
-            default: None,
-        },
-        INPUT,
-        PAGES,
-        SLOTS,
-        Argument::Flag {
-            name: "no-questions",
-            help: "don't ask the debugger during a run if it is to stop, for those that know no such question (lldb)",
-        },
-    ],
+    arguments: &[SOURCE, INPUT, PAGES, SLOTS, NO_QUESTIONS],
 };
 
 /// Returns what words ask for that were parsed by `USAGE`.

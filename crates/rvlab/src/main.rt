@@ -20,12 +20,8 @@ use crate::words::{USAGE, Words, words_of};
 use rv_base::TEXT_LIMIT;
 use rv_json::source_json;
 use rv_lab::{Lab, LabFault, Printer, append_diagnosis};
-use rv_options::{FAILED, REFUSED, fail, run_program, with_texts};
-use std::io::Write;
+use rv_options::{FAILED, NO_MEMORY, REFUSED, fail, refuse_lab, run_on_texts};
 use std::process::ExitCode;
-
-/// What is told where memory ran out.
-const NO_MEMORY: &str = "out of memory\n";
 
 /// Writes the line of JSON that says what is wrong with a source, and returns the exit status.
 fn refuse_by_line(rt: &HostRuntime, source: &[u8]) -> u8 {
@@ -47,11 +43,11 @@ fn refuse(rt: &HostRuntime, words: &Words<'_>, source: &[u8], fault: LabFault) -
     }
     let mut text = Printer::new(rt.alloc());
     append_diagnosis(words.opening.source, source, fault, &mut text);
-    let _ = rt.stderr().write_all(text.bytes());
-    match fault {
-        LabFault::OutOfMemory => FAILED,
-        _ => REFUSED,
-    }
+    refuse_lab(
+        &mut rt.stderr(),
+        text.bytes(),
+        fault == LabFault::OutOfMemory,
+    )
 }
 
 /// Greets, and talks until no command follows.
@@ -92,19 +88,8 @@ fn open(rt: &HostRuntime, words: &Words<'_>, source: &[u8], inputs: &[u8]) -> u8
     }
 }
 
-/// Reads the files that the words name, and talks. Returns the exit status.
-fn run(rt: &HostRuntime, words: &Words<'_>) -> u8 {
-    with_texts(rt, &words.opening, TEXT_LIMIT, |source, inputs| {
-        open(rt, words, source, inputs)
-    })
-}
-
 fn main(rt: HostRuntime) -> ExitCode {
-    let status = run_program(
-        &rt,
-        USAGE,
-        NO_MEMORY,
-        |matches| run(&rt, &words_of(matches)),
-    );
-    ExitCode::from(status)
+    run_on_texts(&rt, USAGE, TEXT_LIMIT, |matches, source, inputs| {
+        open(&rt, &words_of(matches), source, inputs)
+    })
 }

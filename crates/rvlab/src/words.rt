@@ -2,7 +2,7 @@
 //! [--slots S] [--json]`.
 use clap::ArgMatches;
 use rv_lab::Sizes;
-use rv_options::{Argument, INPUT, Opening, PAGES, SLOTS, Usage, opening_of};
+use rv_options::{Argument, INPUT, Opening, PAGES, SLOTS, SOURCE, Usage, opening_of};
 
 /// What the words of the command line ask for.
 #[derive(Clone, Copy)]
@@ -21,24 +21,18 @@ impl Words<'_> {
     }
 }
 
+/// The option `--json`.
+const JSON: Argument<'static> = Argument::Flag {
+    name: "json",
+    help: "answer each command line by a line of JSON",
+};
+
 /// The usage of the program.
 pub const USAGE: Usage<'static> = Usage {
     name: "rvlab",
     about: "assembles a program and asks a small RISC-V board about it, command by command",
     version: None,
-    arguments: &[
-        Argument::Source {
-            help: "the assembly source",
-            default: None,
-        },
-        INPUT,
-        PAGES,
-        SLOTS,
-        Argument::Flag {
-            name: "json",
-            help: "answer each command line by a line of JSON",
-        },
-    ],
+    arguments: &[SOURCE, INPUT, PAGES, SLOTS, JSON],
 };
 
 /// Returns what words ask for that were parsed by `USAGE`.
