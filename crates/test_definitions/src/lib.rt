@@ -1,7 +1,7 @@
 //! The definitions of the machine, run: rows of values that a reader can check against the standards.
 //!
 //! Each table of rows is used twice. A law says that the definitions give each row, and its proof computes them.
-//! A test asks the program for the same rows: it is in test_parts, since a crate with tests is proved twice. So
+//! A test asks the program for the same rows: it is in test_surface, since a crate with tests is proved twice. So
 //! definition and program meet on values, and not only in proofs: a wrong definition is refused here even if the
 //! program were wrong in the same way.
 //!

@@ -1,7 +1,7 @@
 //! The definitions of the language, run: sources with their images, and with their faults.
 //!
 //! Each table is used twice. A law says that the definition of an assembly gives each row, and its proof computes it.
-//! A test of test_parts assembles the same sources. The rows are those of docs/ASSEMBLER.md, and no value that the program printed.
+//! A test of test_surface assembles the same sources. The rows are those of docs/ASSEMBLER.md, and no value that the program printed.
 #![tactic(auto)]
 
 ghost use Rattle.std.specs.Prelude.{◌≡◌, true};

@@ -1,4 +1,4 @@
-//! The command line: its words, texts in and out, readers that fail, and the lines and statuses of faults.
+//! The command line: its words, readers and writers of a user or of std, and the names of faults.
 mod faults;
 mod runs;
 mod texts;

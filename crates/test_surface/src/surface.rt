@@ -3,8 +3,6 @@
 //! A constant has no proof, so it costs none. What is generic stands here over memories, caches, readers and
 //! writers of the libraries; the tests of boards call it over a user's own.
 mod assembling;
-#[cfg(test)]
-mod borrowing;
 mod devices;
 mod instructions;
 mod machine;
@@ -12,7 +10,4 @@ mod memories;
 mod protection;
 mod runs;
 mod sessions;
-#[cfg(test)]
-mod values;
-#[cfg(test)]
 mod variants;

@@ -1,94 +1,64 @@
-//! Sessions whose steps are refused because memory ran out, and sessions that go back.
+//! Sessions whose steps are refused because memory ran out. Runs of test_rows with a refused allocation have refused
+//! breakpoints and commands.
 use super::memories::OwnMemory;
 use super::programs::program;
 use rv_asm::Program;
 use rv_board::Board;
 use rv_cache::{Decoded, NoCache};
-use rv_hart::Outcome;
-use rv_monitor::{Next, Session, Stop};
+use rv_monitor::{Session, Stop};
 use rv_ram::{ByteMemory, FlatMemory};
-use rv_timeline::{Input, Timeline};
+use rv_timeline::Timeline;
 use std::alloc::Global;
 use std::process::Abort;
-use std::test::Fail;
+
+// The helpers have no contracts, so that the proof of a test carries no state from call to call.
 
 /// Boots a board whose memory refuses `refusals` writes after those of the image.
 fn boot(
+    rt: &impl Abort,
     alloc: Global,
     program: &Program,
     refusals: u32,
-) -> Result<Board<OwnMemory, NoCache>, Fail> {
+) -> Board<OwnMemory, NoCache> {
     let memory = OwnMemory {
-        memory: FlatMemory::new(alloc, 2)?,
+        memory: FlatMemory::new(alloc, 2).expect(rt, "no memory"),
         good: 12,
         refusals,
     };
-    let board = Board::with_parts(alloc, program, memory, NoCache);
-    Ok(board.ok().ok_or("the board doesn't boot")?)
+    let board = Board::with_parts(alloc, program, memory, NoCache).ok();
+    board.expect(rt, "the board doesn't boot")
 }
 
 /// Reads a timed list that has no fault.
-fn timeline(alloc: Global, timed: &[u8]) -> Result<Timeline, &'static str> {
-    let timeline = Timeline::read(alloc, timed);
-    timeline.ok().ok_or("the timed list is refused")
+fn timeline(rt: &impl Abort, alloc: Global, timed: &[u8]) -> Timeline {
+    let timeline = Timeline::read(alloc, timed).ok();
+    timeline.expect(rt, "the timed list is refused")
 }
 
 /// Returns a session over a store to the second page and then a jump to itself. Its memory refuses `refusals`
 /// writes after those of the image.
 fn session(
+    rt: &impl Abort,
     alloc: Global,
     timed: &[u8],
     refusals: u32,
-) -> Result<Session<OwnMemory, NoCache>, Fail> {
-    let program = program(alloc, b"lui t0,0x80001\nsw t0,0(t0)\nj .")?;
-    let timeline = timeline(alloc, timed)?;
-    let board = boot(alloc, &program, refusals)?;
-    Ok(Session::new(alloc, board, timeline, program, 3))
+) -> Session<OwnMemory, NoCache> {
+    let program = program(rt, alloc, b"lui t0,0x80001\nsw t0,0(t0)\nj .");
+    let board = boot(rt, alloc, &program, refusals);
+    Session::new(alloc, board, timeline(rt, alloc, timed), program, 3)
 }
-
-const TIMED: &[u8] = b"0 rx 40\n1 rx 41\n1 rx 42\n2 rx 43";
-
-/// Gives a session a byte by hand.
-fn give<M: ByteMemory, C: Decoded>(
-    session: &mut Session<M, C>,
-    byte: u8,
-) -> Result<(), &'static str> {
-    session
-        .give(Input::Rx(byte))
-        .ok()
-        .ok_or("there is no memory")
-}
-
-/// Puts a session back to after `n` steps.
-fn go_back(alloc: Global, session: &mut Session<OwnMemory, NoCache>, n: u64) -> Result<(), Fail> {
-    let board = boot(alloc, session.program(), 0)?;
-    session
-        .resume(board, 0, n)
-        .ok()
-        .ok_or("there is no memory")?;
-    Ok(())
-}
-
-// The helpers have no contracts, so that the proof of a test carries no state from call to call.
 
 /// Does `n` steps. Returns why they stopped, or `None` where they were refused.
 fn go<M: ByteMemory, C: Decoded>(session: &mut Session<M, C>, n: u64) -> Option<Stop> {
     session.go(n).ok()
 }
 
-/// Does `n` steps, and stops at no breakpoint. Returns why they stopped, or `None` where they were refused.
-fn step<M: ByteMemory, C: Decoded>(session: &mut Session<M, C>, n: u64) -> Option<Stop> {
-    session.step(n).ok()
-}
-
-/// Whether one step retires.
-fn retires<M: ByteMemory, C: Decoded>(session: &mut Session<M, C>) -> bool {
-    matches!(session.take_step(), Ok(Some(Outcome::Retired)))
-}
-
-/// Sets a breakpoint. Whether it is set then.
-fn set<M: ByteMemory, C: Decoded>(session: &mut Session<M, C>, address: u32) -> bool {
-    session.set_break(address).is_ok() && session.has_break(address)
+/// Sets a breakpoint, if there is one. Whether it is set then.
+fn set<M: ByteMemory, C: Decoded>(session: &mut Session<M, C>, breakpoint: Option<u32>) -> bool {
+    match breakpoint {
+        Some(address) => session.set_break(address).is_ok() && session.has_break(address),
+        None => true,
+    }
 }
 
 /// What a session shows of its board: how many steps were taken, and how many its board did; the pc; how many
@@ -101,14 +71,58 @@ fn seen<M: ByteMemory, C: Decoded>(session: &Session<M, C>) -> Seen {
     (session.taken(), board.steps(), board.pc(), waiting, byte)
 }
 
+/// A call of `go`: its steps, its answer, and what is seen after it.
+type Call = (u64, Option<Stop>, Seen);
+
+/// A timed list, how many writes are refused, a breakpoint, and calls.
+type Row = (&'static [u8], u32, Option<u32>, &'static [Call]);
+
+const TIMED: &[u8] = b"0 rx 40\n1 rx 41\n1 rx 42\n2 rx 43";
+
 /// What a session shows after the refused store, and after the store.
 const REFUSED: Seen = (1, 1, 0x8000_0004, 3, Some(0));
 
 const STORED: Seen = (2, 2, 0x8000_0008, 3, Some(0x80));
 
-/// A call of `go`: its steps, its answer, and what is seen after it.
-type Call = (u64, Option<Stop>, Seen);
+/// Calls of which some are refused. The inputs before the refused step are given once, and none after it. Without inputs
+/// the steps of a call are one burst, which comes to the store in its second step, and then begins with it. And calls from
+/// before a breakpoint at the store.
+static ROWS: [Row; 3] = [
+    (
+        TIMED,
+        1,
+        None,
+        &[
+            (9, None, REFUSED),
+            (1, Some(Stop::Limit), STORED),
+            (9, Some(Stop::Limit), (3, 3, 0x8000_0008, 4, Some(0x80))),
+        ],
+    ),
+    (
+        b"",
+        2,
+        None,
+        &[
+            (3, None, (1, 1, 0x8000_0004, 0, Some(0))),
+            (2, None, (1, 1, 0x8000_0004, 0, Some(0))),
+            (9, Some(Stop::Limit), (3, 3, 0x8000_0008, 0, Some(0x80))),
+        ],
+    ),
+    (
+        TIMED,
+        2,
+        Some(0x8000_0004),
+        &[
+            (9, Some(Stop::Breakpoint), (1, 1, 0x8000_0004, 1, Some(0))),
+            (9, None, REFUSED),
+            (0, Some(Stop::Limit), REFUSED),
+            (1, None, REFUSED),
+            (1, Some(Stop::Limit), STORED),
+        ],
+    ),
+];
 
+/// Checks the calls of a session.
 fn check_calls<M: ByteMemory, C: Decoded>(
     rt: &impl Abort,
     session: &mut Session<M, C>,
@@ -120,105 +134,16 @@ fn check_calls<M: ByteMemory, C: Decoded>(
     }
 }
 
-/// Whether a command gives an answer and what follows it, or `None` where it is refused.
-fn answers<M: ByteMemory, C: Decoded>(
-    alloc: Global,
-    session: &mut Session<M, C>,
-    line: &[u8],
-    (answer, next): (&[u8], Option<Next>),
-) -> bool {
-    let mut text = Vec::new(alloc);
-    let found = session.command(line, &mut text).ok();
-    found == next && text.as_slice() == answer
-}
-
-// The inputs before the refused step are given once, and none after it.
-#[test]
-fn the_next_call_goes_on_with_the_refused_step(rt: HostRuntime) -> Result<(), Fail> {
-    let mut session = session(rt.alloc(), TIMED, 1)?;
-    check_calls(&rt, &mut session, &[(9, None, REFUSED)]);
-    assert!(rt; step(&mut session, 1) == Some(Stop::Limit));
-    assert!(rt; seen(&session) == STORED);
-    let after = (3, 3, 0x8000_0008, 4, Some(0x80));
-    check_calls(&rt, &mut session, &[(9, Some(Stop::Limit), after)]);
-    Ok(())
-}
-
-/// Two refused calls, and one that isn't.
-static BURSTS: [Call; 3] = [
-    (3, None, (1, 1, 0x8000_0004, 0, Some(0))),
-    (2, None, (1, 1, 0x8000_0004, 0, Some(0))),
-    (9, Some(Stop::Limit), (3, 3, 0x8000_0008, 0, Some(0x80))),
-];
-
-// Without inputs the steps of a call are one burst, which comes to the store in its second step, and then
-// begins with it.
-#[test]
-fn a_page_refused_in_a_burst_can_be_asked_for_again(rt: HostRuntime) -> Result<(), Fail> {
-    let mut session = session(rt.alloc(), b"", 2)?;
-    check_calls(&rt, &mut session, &BURSTS);
-    Ok(())
-}
-
-/// Calls from before a breakpoint at the store, which is refused twice.
-static AGAIN: [Call; 5] = [
-    (9, Some(Stop::Breakpoint), (1, 1, 0x8000_0004, 1, Some(0))),
-    (9, None, REFUSED),
-    (0, Some(Stop::Limit), REFUSED),
-    (1, None, REFUSED),
-    (1, Some(Stop::Limit), STORED),
-];
-
-#[test]
-fn a_step_may_be_refused_again(rt: HostRuntime) -> Result<(), Fail> {
-    let mut session = session(rt.alloc(), TIMED, 2)?;
-    assert!(rt; set(&mut session, 0x8000_0004));
-    check_calls(&rt, &mut session, &AGAIN);
-    Ok(())
+/// Checks the calls of a row.
+fn check(rt: &impl Abort, alloc: Global, row: &Row) {
+    let mut session = session(rt, alloc, row.0, row.1);
+    assert!(rt; set(&mut session, row.2));
+    check_calls(rt, &mut session, row.3);
 }
 
 #[test]
-fn a_refused_command_answers_nothing(rt: HostRuntime) -> Result<(), Fail> {
-    let mut session = session(rt.alloc(), TIMED, 1)?;
-    assert!(rt; answers(rt.alloc(), &mut session, b"s 3", (b"", None)));
-    assert!(rt; seen(&session) == REFUSED);
-    let answer = b"stop limit pc=80000008 mode=M steps=3\n";
-    assert!(rt; answers(rt.alloc(), &mut session, b"s 3", (answer, Some(Next::More))));
-    Ok(())
-}
-
-/// Returns how many steps were taken, how many bytes wait in the board, and how many inputs there are.
-fn inputs_of<M: ByteMemory, C: Decoded>(session: &Session<M, C>) -> (u64, usize, usize) {
-    let waiting = session.board().serial().waiting();
-    (session.taken(), waiting, session.inputs().len())
-}
-
-/// Gives inputs by hand before and after the first step.
-fn check_given<M: ByteMemory, C: Decoded>(
-    rt: &impl Abort,
-    session: &mut Session<M, C>,
-) -> Result<(), &'static str> {
-    give(session, 0x40)?;
-    assert!(rt; inputs_of(session) == (0, 1, 2));
-    assert!(rt; retires(session));
-    give(session, 0x42)?;
-    assert!(rt; inputs_of(session) == (1, 3, 3));
-    Ok(())
-}
-
-/// Checks that a session which went back to after the first step has its inputs.
-fn check_gone_back<M: ByteMemory, C: Decoded>(rt: &impl Abort, session: &mut Session<M, C>) {
-    assert!(rt; inputs_of(session) == (1, 1, 3));
-    assert!(rt; step(session, 9) == Some(Stop::Limit));
-    assert!(rt; inputs_of(session) == (3, 3, 3));
-    assert!(rt; !retires(session));
-}
-
-#[test]
-fn inputs_by_hand_stay_when_a_session_goes_back(rt: HostRuntime) -> Result<(), Fail> {
-    let mut session = session(rt.alloc(), b"1 rx 41", 0)?;
-    check_given(&rt, &mut session)?;
-    go_back(rt.alloc(), &mut session, 1)?;
-    check_gone_back(&rt, &mut session);
-    Ok(())
+fn the_next_call_goes_on_with_the_refused_step(rt: HostRuntime) {
+    for row in ROWS.iter() {
+        check(&rt, rt.alloc(), row);
+    }
 }

