@@ -2,6 +2,7 @@
 //! sizes.
 use crate::calls::{calls_agree, more_calls_agree};
 use crate::checked::{Checked, check};
+use crate::compare::same_everywhere;
 use crate::devices::append_devices;
 use crate::row::{Row, argument, copy_line};
 use rv_asm::{Program, assemble};
@@ -12,7 +13,6 @@ use rv_monitor::{Next, Session};
 use rv_ram::{ByteMemory, FlatMemory, PagedRam};
 use rv_timeline::Timeline;
 use std::alloc::Global;
-use test_compare::same_everywhere;
 
 pub const NO_MEMORY: &str = "out of memory\n";
 

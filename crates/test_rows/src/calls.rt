@@ -5,12 +5,12 @@
 //! and with breakpoints.
 use crate::boards::{NO_MEMORY, flat_board, limit, paged_board, paged_session, program, timeline};
 use crate::checked::{Checked, check};
+use crate::compare::{Calls, event, same_in_calls, same_in_runs};
 use crate::row::Row;
 use rv_base::{NoMemory, RAM_BASE};
 use rv_board::Event;
 use rv_timeline::TimedInput;
 use std::alloc::Global;
-use test_compare::{Calls, event, same_in_calls, same_in_runs};
 
 /// The largest numbers of steps of a call.
 const SIZES: [u64; 5] = [1, 2, 7, 64, 1_000_000];

@@ -6,9 +6,9 @@ use rv_ram::ByteMemory;
 
 /// The offsets of two registers of the interrupt controller, at which a peek changes nothing: the pending
 /// sources, and the source that a claim would get.
-const PENDING: u32 = 0x1000;
+pub const PENDING: u32 = 0x1000;
 
-const CLAIM: u32 = 0x20_0004;
+pub const CLAIM: u32 = 0x20_0004;
 
 /// Appends a name and a number.
 fn append_number(name: &str, number: u32, text: &mut Vec<u8>) -> Result<(), NoMemory> {

@@ -7,6 +7,7 @@ mod runs;
 mod secrets;
 
 use crate::checked::Checked;
+pub use runs::STORES;
 use std::alloc::Global;
 use std::io::Write;
 

@@ -33,6 +33,7 @@ mod boards;
 mod calls;
 mod check;
 mod checked;
+mod compare;
 mod devices;
 mod hostile;
 mod image;

@@ -1,12 +1,10 @@
 //! Outside events in both orders: some may be exchanged, and levels of one source may not.
 use crate::checked::{Checked, check};
+use crate::compare::same_everywhere;
+use crate::devices::PENDING;
 use crate::isolation::boards::{boot, line_event, run};
 use rv_board::{BootedBoard, Event};
 use std::alloc::Global;
-use test_compare::same_everywhere;
-
-/// The offset of the pending sources in the interrupt controller.
-const PENDING: u32 = 0x1000;
 
 /// Boots a loop, and runs two events and a step.
 fn board_after(alloc: Global, first: Event, second: Event) -> Checked<BootedBoard> {

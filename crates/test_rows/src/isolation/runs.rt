@@ -6,7 +6,7 @@ use rv_pmp::Mode;
 use std::alloc::Global;
 
 /// A source whose user code may do all below 0x80000110, and from there on may only execute.
-const STORES: &[u8] =
+pub const STORES: &[u8] =
     b"li t0,0x20000041\ncsrw pmpaddr0,t0\nli t0,-1\ncsrw pmpaddr1,t0\nli t0,0x1D1B\ncsrw pmpcfg0,t0\nla t0,user\ncsrw mepc,t0\nli t1,0x8000010F\nmret\nuser: sb t0,0(t1)\nsb t0,1(t1)";
 
 /// Whether a board is as after a run that ended at a store which protection refuses, with `received` bytes.

@@ -1,9 +1,9 @@
 //! User code on two boards that differ in what it may not see.
 use crate::checked::{Checked, check};
+use crate::compare::same_but_for_memory;
 use crate::isolation::boards::{boot_to_user_code, last_cause_is, last_trap_is, run_user};
 use rv_board::{BootedBoard, Event};
 use std::alloc::Global;
-use test_compare::same_but_for_memory;
 
 /// The front of a source whose user code may neither read nor execute the word `secret`: entry 0 is NA4 there,
 /// and grants nothing.

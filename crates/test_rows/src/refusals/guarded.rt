@@ -1,15 +1,12 @@
 //! A user program that the protection of memory stops, assembled, booted and run.
+use crate::compare::same_everywhere;
+use crate::isolation::STORES;
 use crate::refusals::{Missing, program};
 use rv_asm::Program;
 use rv_board::{BootFault, BootedBoard, Event, TrapRecord};
 use std::alloc::Global;
-use test_compare::same_everywhere;
 
-/// A source whose user code stores one byte where it may, and one where it may not.
-const GUARDED: &[u8] =
-    b"li t0,0x20000041\ncsrw pmpaddr0,t0\nli t0,-1\ncsrw pmpaddr1,t0\nli t0,0x1D1B\ncsrw pmpcfg0,t0\nla t0,user\ncsrw mepc,t0\nli t1,0x8000010F\nmret\nuser: sb t0,0(t1)\nsb t0,1(t1)\n";
-
-/// The trap of its second store.
+/// The trap of the second store of `STORES`.
 const STOPPED: TrapRecord = TrapRecord {
     cause: 7,
     epc: 0x8000_003c,
@@ -56,7 +53,7 @@ fn runs_right(alloc: Global, program: &Program) -> bool {
 
 /// Whether the source is assembled and runs, or memory ran out.
 pub fn answers_right(alloc: Global) -> bool {
-    match program(alloc, GUARDED) {
+    match program(alloc, STORES) {
         Ok(program) => runs_right(alloc, &program),
         Err(Missing::Refused) => true,
         Err(Missing::Wrong) => false,

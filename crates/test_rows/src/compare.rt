@@ -1,9 +1,8 @@
-//! Compares two boards in all that they can be read by, whatever memories and caches they have. Each test
-//! that compares boards does it by these functions.
-#![tactic(auto)]
+//! Compares two boards in all that they can be read by, whatever memories and caches they have.
 
 mod calls;
 
+use crate::devices::{CLAIM, PENDING};
 pub use calls::{Calls, event, same_in_calls, same_in_runs};
 use rv_base::RAM_BASE;
 use rv_board::Board;
@@ -17,15 +16,10 @@ use rv_ram::{ByteMemory, PAGE_BYTES};
 /// so.
 const CSR_ADDRESSES: u16 = 4096;
 
-/// The offsets of the interrupt controller's registers after the priorities. A peek at `CLAIM` claims
-/// nothing.
-const PENDING: u32 = 0x1000;
-
+/// The offsets of two more registers of the interrupt controller.
 const ENABLES: u32 = 0x2000;
 
 const THRESHOLD: u32 = 0x20_0000;
-
-const CLAIM: u32 = 0x20_0004;
 
 fn same_registers<M: ByteMemory, C: Decoded, N: ByteMemory, D: Decoded>(
     one: &Board<M, C>,

@@ -1,6 +1,6 @@
 //! Compares a session whose calls take many steps, and a board that runs many events in a call, with a board
 //! that takes each alone.
-use crate::{same_everywhere, same_registers};
+use super::{same_everywhere, same_registers};
 use rv_board::{Board, Event};
 use rv_cache::Decoded;
 use rv_monitor::{Session, Stop};
