@@ -1,7 +1,6 @@
 -- A source that is pending stays so, whatever is loaded from or stored to the interrupt controller, until it is
 -- claimed.
-use Rattle.std.proofs.Common.{rules}
-use Rattle.std.proofs.Common.{◌≡◌, ℕ, ◌-◌, ◌*◌, ◌%◌, ◌≤◌, ◌==◌, Bool, true, false, List, [], ◌∷◌, ◌++◌, map, Option, Some, None, arith, refl, subst, ◌∙◌}
+use Rattle.std.proofs.Common.{rules, ◌≡◌, ℕ, ◌-◌, ◌*◌, ◌%◌, ◌≤◌, ◌==◌, Bool, true, false, List, [], ◌∷◌, ◌++◌, map, Option, Some, None, arith, refl, subst, ◌∙◌}
 use Rattle.std.specs.Prelude.{◌&&◌, find, if◌then◌else◌}
 use Rattle.std.specs.FinSet.{contains, contains-remove, remove}
 use Rattle.std.specs.Option.{option_map_or}
@@ -53,17 +52,16 @@ priorities (s ∷ ns) rest later =
 
 all_keep : AllKeep registers
 unfolding registers
-all_keep =
-    priorities sources _ (
+all_keep = priorities sources _ (
+  record { loaded = λ p s out is. is; stored = λ p word. refl },
+  (
+    record { loaded = λ p s out is. is; stored = λ p word. refl },
+    (
       record { loaded = λ p s out is. is; stored = λ p word. refl },
-      (
-        record { loaded = λ p s out is. is; stored = λ p word. refl },
-        (
-          record { loaded = λ p s out is. is; stored = λ p word. refl },
-          (record { loaded = λ p s out is. claimed_keeps p s out is; stored = completed_keeps }, tt),
-        ),
-      ),
-    )
+      (record { loaded = λ p s out is. claimed_keeps p s out is; stored = completed_keeps }, tt),
+    ),
+  ),
+)
 
 -- ---- the register at an offset
 
@@ -90,7 +88,6 @@ at_keeps off = by (find (λ row. off == row.0) registers) (found off registers a
 
 -- the claim register, by its address
 pub claim_place : (a off : ℕ) → 0x0c000000 ≤ a → off ≡ a - 0x0c000000 → (off == 0x200004) ≡ (a == 0x0c200004)
-claim_place a off above is =
-    tests.both_ways (off == 0x200004) (a == 0x0c200004)
+claim_place a off above is = tests.both_ways (off == 0x200004) (a == 0x0c200004)
     (λ t. eq-eqb a 0x0c200004 (omega (arith, above, is, eqb-true off 0x200004 t)))
     (λ t. eq-eqb off 0x200004 (omega (arith, is, eqb-true a 0x0c200004 t)))

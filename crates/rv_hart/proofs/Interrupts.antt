@@ -1,5 +1,5 @@
 -- The interrupt that a step takes, and those that stay pending.
-use Rattle.std.proofs.Common.{◌≡◌, ℕ, ◌+◌, ◌-◌, ◌*◌, ◌/◌, ◌%◌, ◌^◌, ◌<◌, ◌==◌, Bool, true, false, List, [], ◌∷◌, Option, Some, None, Result, Ok, Err, nat_le, nat_lt, arith, refl, sym, ap, subst, ◌∙◌}
+use Rattle.std.proofs.Common.{◌≡◌, ℕ, ◌+◌, ◌-◌, ◌%◌, ◌^◌, ◌<◌, Bool, true, false, List, [], ◌∷◌, Option, Some, None, Result, Ok, Err, nat_le, nat_lt, arith, refl, sym, ap, ◌∙◌}
 use Rattle.std.specs.Prelude.{◌&&◌, ◌||◌, not, if◌then◌else◌}
 use Rattle.std.specs.List.{list_any}
 use Rattle.std.specs.FinSet.{contains, contains-union}
@@ -7,23 +7,12 @@ use Rattle.std.specs.Option.{option_map_or}
 use Rattle.std.specs.Result.{is_ok, result_ok}
 use Rattle.std.proofs.lemmas.Cmp.{nat_cmp_total}
 use Rattle.std.proofs.lemmas.Bool.{le-leb, leb-true, or_left, or_right}
-use Rattle.rv_isa.specs.Width.{bytes_of}
-use Rattle.rv_isa.specs.Support.Loads.{load_width}
 use Rattle.rv_isa.specs.Support.Meaning.{means}
-use Rattle.rv_isa.specs.Word.{word}
-use Rattle.rv_isa.specs.Alu.{is_taken}
-use Rattle.rv_isa.specs.declared.op.CsrOp.{CsrOp}
-use Rattle.rv_isa.specs.declared.op.LoadOp.{LoadOp}
-use Rattle.rv_isa.specs.declared.op.Width.{Width}
 use Rattle.rv_isa.specs.declared.kind.Kind.{Kind}
-use Rattle.rv_isa.specs.declared.kind.Kind.TheVariants.{Jal, Jalr, Branch, Load, Store, Csr, CsrImm, Ecall, Ebreak, Mret, Wfi}
-use Rattle.rv_pmp.specs.Mode.{is_machine, level}
+use Rattle.rv_pmp.specs.Mode.{is_machine}
 use Rattle.rv_pmp.specs.Pmp.{grants}
-use Rattle.rv_pmp.specs.declared.access.Access.TheVariants.{Read, Write, Execute}
-use Rattle.rv_pmp.specs.declared.mode.Mode.{Mode}
+use Rattle.rv_pmp.specs.declared.access.Access.TheVariants.{Execute}
 use Rattle.rv_pmp.specs.declared.mode.Mode.TheVariants as mode
-use Rattle.rv_csr.specs.State.{CsrState}
-use Rattle.rv_csr.specs.Registers.{read, write}
 use Rattle.rv_csr.specs.Support.Interruptible.{cause_of, pending_by_cases}
 use Rattle.rv_csr.proofs.Pending.{by_cases}
 use Rattle.rv_plic.specs.Sources.{sources}
@@ -31,17 +20,15 @@ use Rattle.rv_plic.specs.Gateways.{PlicState, forwarded, requests}
 use Rattle.rv_plic.specs.Plic.{asks_above, is_notified, priority_of}
 use Rattle.rv_mmio.specs.Timer.{TimerState, is_due, timer_ticked}
 use Rattle.rv_bus.specs.State.{BusState}
-use Rattle.rv_bus.specs.Access.{fetch, lines_of, load, store}
+use Rattle.rv_bus.specs.Access.{fetch, lines_of}
 use Rattle.rv_bus.proofs.Windows.{one_address}
 use Rattle.rv_hart.specs.State.{Machine}
-use Rattle.rv_hart.specs.Effect.{csr_written, effect, execute, plus, reg, require, trap}
+use Rattle.rv_hart.specs.Effect.{csr_written, effect, require, trap}
 use Rattle.rv_hart.specs.Fetch.{fetch_result}
 use Rattle.rv_hart.specs.Laws.{StaysPending, accessed, first_interrupt, interrupt_taken, is_best}
 use Rattle.rv_hart.specs.Step.{step, ticked, tries, fetched, attempt, finished, counts, enter}
-use Rattle.rv_hart.specs.Support.EffectParts.{Effect, at_next, branch_effect, csr_value, decoded_word, exchange_effect, exchange_result, fetched_word, is_write, jump_effect, load_effect, load_result, may_access, misaligned_load, misaligned_store, next, outcome_of, refused_load, refused_store, registers_with, return_effect, store_effect, store_result, wait_effect, with_result, write_result}
-use Rattle.rv_hart.proofs.Devices.{Reaches, nothing, loaded, stored, reaches}
-use Rattle.rv_hart.proofs.Exchanged.{exchange_is}
-use Rattle.rv_hart.proofs.Rows.{IfRetired}
+use Rattle.rv_hart.specs.Support.EffectParts.{Effect, decoded_word, fetched_word, outcome_of}
+use Rattle.rv_hart.proofs.Devices.{Ends, IfRetired, Reaches, nothing, loaded, stored, all_end, reaches}
 use Rattle.rv_hart.specs.declared.trap.Trap.{Trap}
 
 -- ---- no instruction traps with the cause of an interrupt
@@ -50,97 +37,11 @@ abbrev IsException : {A : Type 0} → Result A Trap → Type 0
 IsException (Ok x) = Unit {0}
 IsException (Err t) = nat_le (2 ^ 31) t.cause ≡ false
 
-required : (cause tval : ℕ) (passes : Bool) (new : Machine) → nat_le (2 ^ 31) cause ≡ false
-    → IsException (require cause tval passes (Ok new))
-required cause tval true new low = tt
-required cause tval false new low = low
-
-by_access : (aligned granted : Bool) (x refused misaligned : Effect) → IsException x → IsException refused
-    → IsException misaligned → IsException (if aligned then (if granted then x else refused) else misaligned)
-by_access true true x refused misaligned done r s = done
-by_access true false x refused misaligned done r s = r
-by_access false granted x refused misaligned done r s = s
-
-module _ (m : Machine) where
-  branches : (taken : Bool) (target : ℕ) → IsException (branch_effect m taken target)
-  unfolding branch_effect
-  branches true target = required 0 target (target % 4 == 0) (record m { pc = target }) refl
-  branches false target = tt
-
-  jumps : (rd target : ℕ) → IsException (jump_effect m rd target)
-  unfolding jump_effect
-  jumps rd target =
-      required 0 target (target % 4 == 0)
-      (record m { registers = registers_with m.registers rd (next m.pc); pc = target }) refl
-
-  loaded_by : (op : LoadOp) (rd addr : ℕ) (r : Option (ℕ × BusState)) → IsException (load_result m op rd addr r)
-  loaded_by op rd addr None = refl
-  loaded_by op rd addr (Some r) = tt
-
-  loads : (op : LoadOp) (rd addr : ℕ) → IsException (load_effect m op rd addr)
-  unfolding load_effect
-  loads op rd addr =
-      let w = load_width op in
-      by_access (addr % bytes_of w == 0) (may_access m Read addr w) (load_result m op rd addr (load m.bus addr w))
-      (refused_load addr) (misaligned_load addr) (loaded_by op rd addr (load m.bus addr w)) refl refl
-
-  stored_by : (addr : ℕ) (after : Option BusState) → IsException (store_result m addr after)
-  stored_by addr None = refl
-  stored_by addr (Some b) = tt
-
-  stores : (w : Width) (addr v : ℕ) → IsException (store_effect m w addr v)
-  unfolding store_effect
-  stores w addr v =
-      by_access (addr % bytes_of w == 0) (may_access m Write addr w) (store_result m addr (store m.bus addr w v))
-      (refused_store addr) (misaligned_store addr) (stored_by addr (store m.bus addr w v)) refl refl
-
-  exchanges : (k : Kind) (op : CsrOp) (field operand rd csr : ℕ)
-      → IsException (exchange_effect k m op field operand rd csr)
-  unfolding exchange_effect
-  exchanges k op field operand rd csr = by (read m.csrs csr m.mode (lines_of m.bus)) where
-    after : (old : ℕ) (wrote : Option CsrState) → IsException (write_result k m rd old wrote)
-    after old None = refl
-    after old (Some csrs) = tt
-
-    or_not : (old : ℕ) (writes : Bool)
-        → IsException
-        (if writes then write_result k m rd old (write m.csrs csr m.mode (csr_value op old operand))
-        else Ok (with_result m rd old))
-    or_not old true = after old (write m.csrs csr m.mode (csr_value op old operand))
-    or_not old false = tt
-
-    by : (old : Option ℕ) → IsException (exchange_result k m op field operand rd csr old)
-    by None = refl
-    by (Some old) = or_not old (is_write op field)
-
-  returns : (d : Mode) → IsException (return_effect m d)
-  unfolding return_effect
-  returns mode.User = refl
-  returns mode.Machine = tt
-
-  calls : (d : Mode) → IsException {A = Machine} (trap (8 + level d) 0)
-  calls mode.User = refl
-  calls mode.Machine = refl
-
 exceptions : (m : Machine) (k : Kind) → IsException (effect k m)
-unfolding execute jump_effect branch_effect load_effect store_effect exchange_effect return_effect wait_effect
-exceptions m (Jal rd offset) = jumps m rd (plus m.pc offset)
-exceptions m (Jalr rd base offset) = jumps m rd (plus (reg m base) offset / 2 * 2)
-exceptions m (Branch cond rs1 rs2 offset) =
-    branches m (is_taken cond (reg m rs1) (reg m rs2)) (plus m.pc offset)
-exceptions m (Load op rd base offset) = loads m op rd (plus (reg m base) offset)
-exceptions m (Store w source base offset) = stores m w (plus (reg m base) offset) (reg m source)
-exceptions m (Csr op rd rs1 csr) =
-    subst (λ e. IsException e) (sym (exchange_is (Csr op rd rs1 csr) m (reg m rs1) rd csr op rs1))
-    (exchanges m (Csr op rd rs1 csr) op rs1 (reg m rs1) rd csr)
-exceptions m (CsrImm op rd imm csr) =
-    subst (λ e. IsException e) (sym (exchange_is (CsrImm op rd imm csr) m imm rd csr op imm))
-    (exchanges m (CsrImm op rd imm csr) op imm imm rd csr)
-exceptions m Ecall = calls m m.mode
-exceptions m Ebreak = refl
-exceptions m Mret = returns m m.mode
-exceptions m Wfi = required 2 (word Wfi) (is_machine m.mode || not m.csrs.mstatus.tw) (at_next m) refl
-exceptions m k = tt
+exceptions m k = by (effect k m) (all_end m k) where
+  by : (e : Effect) → Ends m k (λ new. Unit {0}) e → IsException e
+  by (Ok new) end = tt
+  by (Err t) end = end
 
 module _ (m : Machine) where
   fetches : IsException (fetch_result m)
@@ -175,10 +76,8 @@ module _ (m : Machine) where
 
   -- ---- the interrupt that is taken
 
-  taken_by : (barred external software timer : Bool)
-      → interrupt_taken (attempt m (option_map_or (λ cause. trap cause 0)
-      (if barred then None else cause_of external software timer) (fetch_result m))).1
-      ≡ (if barred then None
+  taken_by : (barred external software timer : Bool) → interrupt_taken (attempt m (option_map_or (λ cause. trap cause 0)
+      (if barred then None else cause_of external software timer) (fetch_result m))).1 ≡ (if barred then None
       else (if external then Some 11 else (if software then Some 3 else (if timer then Some 7 else None))))
   taken_by true external software timer = attempts (fetch_result m) fetches
   taken_by false true software timer = refl
@@ -188,21 +87,17 @@ module _ (m : Machine) where
 
   taken : interrupt_taken (attempt m (fetched m)).1 ≡ first_interrupt m.csrs m.mode (lines_of m.bus)
   unfolding pending_by_cases
-  taken =
-      ap (λ p. interrupt_taken (attempt m (option_map_or (λ cause. trap cause 0) p (fetch_result m))).1)
-      (by_cases m.csrs m.mode (lines_of m.bus))
-      ∙ taken_by (is_machine m.mode && not m.csrs.mstatus.mie) _ _ _
+  taken = ap (λ p. interrupt_taken (attempt m (option_map_or (λ cause. trap cause 0) p (fetch_result m))).1)
+      (by_cases m.csrs m.mode (lines_of m.bus)) ∙ taken_by (is_machine m.mode && not m.csrs.mstatus.mie) _ _ _
 
-pub first_taken : (m : Machine)
-    → interrupt_taken (step m).1 ≡ first_interrupt m.csrs m.mode (lines_of (ticked m).bus)
+pub first_taken : (m : Machine) → interrupt_taken (step m).1 ≡ first_interrupt m.csrs m.mode (lines_of (ticked m).bus)
 unfolding step
 first_taken m = taken (ticked m)
 
 -- ---- those that stay pending
 
 due_ticked : (t : TimerState) → t.time + 1 < 2 ^ 64 → is_due t ≡ true → is_due (timer_ticked t) ≡ true
-due_ticked t small due =
-    le-leb t.compare ((t.time + 1) % 2 ^ 64) (omega (arith, leb-true t.compare t.time due))
+due_ticked t small due = le-leb t.compare ((t.time + 1) % 2 ^ 64) (omega (arith, leb-true t.compare t.time due))
 
 any_more : {X : Type 0} (f g : X → Bool) (xs : List X) → ((x : X) → f x ≡ true → g x ≡ true)
     → list_any f xs ≡ true → list_any g xs ≡ true

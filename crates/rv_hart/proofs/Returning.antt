@@ -25,8 +25,7 @@ retires : (m new : Machine) (halt : Option ℕ) → Enters m new (outcome_of hal
 retires m new None = tt
 retires m new (Some code) = tt
 
-concludes : (m : Machine) (wrote : Option ℕ) (e : Effect)
-    → Enters m (finished m wrote e).0 (finished m wrote e).1
+concludes : (m : Machine) (wrote : Option ℕ) (e : Effect) → Enters m (finished m wrote e).0 (finished m wrote e).1
 concludes m wrote (Ok new) = retires m (counts new true wrote) new.bus.halt
 concludes m wrote (Err t) = (t, refl)
 
@@ -71,8 +70,7 @@ leads_back : (m handler : Machine) (t : Trap) → handler ≡ (trap_step (ticked
     → tries handler ≡ Some Mret → IsBack m (step handler).0
 leads_back m handler t is mret =
     let machine = ap (λ (h : Machine). h.mode) is ∙ in_machine_mode (ticked m) t in
-    let stepped = leaves handler machine mret
-    ∙ ap (λ h. counts (returned (ticked h)) true (csr_written Mret)) is in
+    let stepped = leaves handler machine mret ∙ ap (λ h. counts (returned (ticked h)) true (csr_written Mret)) is in
     subst (IsBack m) (sym stepped) (back m t)
 
 pub traps_return : (m : Machine) (cause epc tval : ℕ) → (step m).1 ≡ Trapped cause epc tval

@@ -80,8 +80,7 @@ module _ (m : Machine) (user : m.mode ≡ mode.User) where
   settles wrote (Ok new) alike = settled wrote new.bus.halt new alike
   settles wrote (Err t) alike = traps t
 
-  attempts : (f : Result Kind Trap)
-      → ChangesByTrap m (attempt (ticked m) f).0 (attempt (ticked m) f).1
+  attempts : (f : Result Kind Trap) → ChangesByTrap m (attempt (ticked m) f).0 (attempt (ticked m) f).1
   attempts (Ok k) = settles (csr_written k) (effect k (ticked m)) (effects (ticked m) user k)
   attempts (Err t) = traps t
 
