@@ -1,34 +1,27 @@
 -- The interrupt that a step takes, and those that stay pending.
-use Rattle.std.proofs.Common.{◌≡◌, ℕ, ◌+◌, ◌-◌, ◌%◌, ◌^◌, ◌<◌, Bool, true, false, List, [], ◌∷◌, Option, Some, None, Result, Ok, Err, nat_le, nat_lt, arith, refl, sym, ap, ◌∙◌}
-use Rattle.std.specs.Prelude.{◌&&◌, ◌||◌, not, if◌then◌else◌}
+use Rattle.std.proofs.Common.{rules, ◌≡◌, ℕ, ◌+◌, ◌-◌, ◌%◌, ◌^◌, ◌<◌, Bool, true, false, List, [], ◌∷◌, Option, Some, None, Result, Ok, Err, nat_le, nat_lt, arith, refl, ap, ◌∙◌}
+use Rattle.std.specs.Prelude.{◌&&◌, ◌||◌, if◌then◌else◌}
 use Rattle.std.specs.List.{list_any}
 use Rattle.std.specs.FinSet.{contains, contains-union}
 use Rattle.std.specs.Option.{option_map_or}
 use Rattle.std.specs.Result.{is_ok, result_ok}
 use Rattle.std.proofs.lemmas.Cmp.{nat_cmp_total}
 use Rattle.std.proofs.lemmas.Bool.{le-leb, leb-true, or_left, or_right}
-use Rattle.rv_isa.specs.Support.Meaning.{means}
 use Rattle.rv_isa.specs.declared.kind.Kind.{Kind}
-use Rattle.rv_pmp.specs.Mode.{is_machine}
-use Rattle.rv_pmp.specs.Pmp.{grants}
-use Rattle.rv_pmp.specs.declared.access.Access.TheVariants.{Execute}
-use Rattle.rv_pmp.specs.declared.mode.Mode.TheVariants as mode
 use Rattle.rv_csr.specs.Support.Interruptible.{cause_of, pending_by_cases}
 use Rattle.rv_csr.proofs.Pending.{by_cases}
 use Rattle.rv_plic.specs.Sources.{sources}
 use Rattle.rv_plic.specs.Gateways.{PlicState, forwarded, requests}
 use Rattle.rv_plic.specs.Plic.{asks_above, is_notified, priority_of}
 use Rattle.rv_mmio.specs.Timer.{TimerState, is_due, timer_ticked}
-use Rattle.rv_bus.specs.State.{BusState}
-use Rattle.rv_bus.specs.Access.{fetch, lines_of}
-use Rattle.rv_bus.proofs.Windows.{one_address}
+use Rattle.rv_bus.specs.Access.{lines_of}
 use Rattle.rv_hart.specs.State.{Machine}
-use Rattle.rv_hart.specs.Effect.{csr_written, effect, require, trap}
+use Rattle.rv_hart.specs.Effect.{csr_written, effect, trap}
 use Rattle.rv_hart.specs.Fetch.{fetch_result}
 use Rattle.rv_hart.specs.Laws.{StaysPending, accessed, first_interrupt, interrupt_taken, is_best}
 use Rattle.rv_hart.specs.Step.{step, ticked, tries, fetched, attempt, finished, counts, enter}
-use Rattle.rv_hart.specs.Support.EffectParts.{Effect, decoded_word, fetched_word, outcome_of}
-use Rattle.rv_hart.proofs.Devices.{Ends, IfRetired, Reaches, nothing, loaded, stored, all_end, reaches}
+use Rattle.rv_hart.specs.Support.EffectParts.{Effect, outcome_of}
+use Rattle.rv_hart.proofs.Devices.{IfRetired, Reaches, all_end, reaches}
 use Rattle.rv_hart.specs.declared.trap.Trap.{Trap}
 
 -- ---- no instruction traps with the cause of an interrupt
@@ -38,26 +31,12 @@ IsException (Ok x) = Unit {0}
 IsException (Err t) = nat_le (2 ^ 31) t.cause ≡ false
 
 exceptions : (m : Machine) (k : Kind) → IsException (effect k m)
-exceptions m k = by (effect k m) (all_end m k) where
-  by : (e : Effect) → Ends m k (λ new. Unit {0}) e → IsException e
-  by (Ok new) end = tt
-  by (Err t) end = end
+exceptions m k = search (rules, all_end)
 
 module _ (m : Machine) where
   fetches : IsException (fetch_result m)
   unfolding fetch_result
-  fetches = by (grants m.csrs.pmp m.mode Execute m.pc 4) where
-    decoded : (w : ℕ) (k : Option Kind) → IsException (decoded_word w k)
-    decoded w None = refl
-    decoded w (Some k) = tt
-
-    read_word : (w : Option ℕ) → IsException (fetched_word m.pc w)
-    read_word None = refl
-    read_word (Some w) = decoded w (means w)
-
-    by : (granted : Bool) → IsException (require 1 m.pc granted (fetched_word m.pc (fetch m.bus.ram m.pc)))
-    by true = read_word (fetch m.bus.ram m.pc)
-    by false = refl
+  fetches = search rules
 
   retires : (halt : Option ℕ) → interrupt_taken (outcome_of halt) ≡ None
   retires None = refl
@@ -79,16 +58,11 @@ module _ (m : Machine) where
   taken_by : (barred external software timer : Bool) → interrupt_taken (attempt m (option_map_or (λ cause. trap cause 0)
       (if barred then None else cause_of external software timer) (fetch_result m))).1 ≡ (if barred then None
       else (if external then Some 11 else (if software then Some 3 else (if timer then Some 7 else None))))
-  taken_by true external software timer = attempts (fetch_result m) fetches
-  taken_by false true software timer = refl
-  taken_by false false true timer = refl
-  taken_by false false false true = refl
-  taken_by false false false false = attempts (fetch_result m) fetches
+  taken_by barred external software timer = search (rules, attempts, fetches)
 
   taken : interrupt_taken (attempt m (fetched m)).1 ≡ first_interrupt m.csrs m.mode (lines_of m.bus)
   unfolding pending_by_cases
-  taken = ap (λ p. interrupt_taken (attempt m (option_map_or (λ cause. trap cause 0) p (fetch_result m))).1)
-      (by_cases m.csrs m.mode (lines_of m.bus)) ∙ taken_by (is_machine m.mode && not m.csrs.mstatus.mie) _ _ _
+  taken = search (rules, by_cases, taken_by)
 
 pub first_taken : (m : Machine) → interrupt_taken (step m).1 ≡ first_interrupt m.csrs m.mode (lines_of (ticked m).bus)
 unfolding step
@@ -102,11 +76,7 @@ due_ticked t small due = le-leb t.compare ((t.time + 1) % 2 ^ 64) (omega (arith,
 any_more : {X : Type 0} (f g : X → Bool) (xs : List X) → ((x : X) → f x ≡ true → g x ≡ true)
     → list_any f xs ≡ true → list_any g xs ≡ true
 any_more f g [] each any = any
-any_more f g (x ∷ xs) each any = by (f x) refl any (any_more f g xs each) where
-  by : (b : Bool) → f x ≡ b → (b || list_any f xs) ≡ true → (list_any f xs ≡ true → list_any g xs ≡ true)
-      → (g x || list_any g xs) ≡ true
-  by true is any rest = or_left (g x) (list_any g xs) (each x is)
-  by false is any rest = or_right (g x) (list_any g xs) (rest any)
+any_more f g (x ∷ xs) each any = search (rules, or_left, or_right, any_more f g xs)
 
 or_more : (a b c more : Bool) → (a && b && c) ≡ true → ((a || more) && b && c) ≡ true
 or_more true b c more is = is
@@ -143,29 +113,13 @@ module _ (m : Machine) where
   -- of an instruction that accesses an address it is known whether that is among others
   there : (k : Kind) (new : Machine) (first size a : ℕ) → accessed k m ≡ Some a
       → (nat_le first a && nat_lt (a - first) size) ≡ retires_at first size k (Ok new)
-  there k new first size a at =
-      ap (λ x. option_map_or (λ addr. nat_le first addr && nat_lt (addr - first) size) x false) (sym at)
+  there k new first size a at = search rules
 
   left_by : (k : Kind) (new : Machine) → Reaches m k new
       → Leaves (retires_at 0x02000000 0xc000 k (Ok new)) (retires_at 0x0c000000 0x4000000 k (Ok new))
       (retires_at 0x0c200004 1 k (Ok new)) (counts new true (csr_written k))
   unfolding counts
-  left_by k new (nothing still) = record {
-    timer = λ _. ap (λ (b : BusState). b.timer) still;
-    controller = λ _. ap (λ (b : BusState). b.plic) still;
-    sources = λ s out on. ap (λ (b : BusState). contains b.plic.pending s) still ∙ on;
-  }
-  left_by k new (loaded a at granted leaves) = record {
-    timer = λ _. leaves.timer;
-    controller = λ out. leaves.plic (there k new 0x0c000000 0x4000000 a at ∙ out);
-    sources = λ s out. leaves.pending s
-        (ap (λ t. t && is_best m.bus.plic s) (sym (one_address 0x0c200004 a) ∙ there k new 0x0c200004 1 a at) ∙ out);
-  }
-  left_by k new (stored a at granted leaves) = record {
-    timer = λ out. leaves.timer (there k new 0x02000000 0xc000 a at ∙ out);
-    controller = λ out. leaves.plic (there k new 0x0c000000 0x4000000 a at ∙ out);
-    sources = λ s out. leaves.pending s;
-  }
+  left_by k new h2 = search rules
 
   ended : (k : Kind) (e : Effect) → IfRetired (Reaches m k) e
       → Leaves (retires_at 0x02000000 0xc000 k e) (retires_at 0x0c000000 0x4000000 k e)

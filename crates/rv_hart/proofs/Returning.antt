@@ -1,5 +1,5 @@
 -- The return from a trap right after its entry.
-use Rattle.std.proofs.Common.{◌≡◌, ℕ, Option, Some, None, Result, Ok, Err, true, refl, sym, ap, subst, ◌∙◌}
+use Rattle.std.proofs.Common.{rules, ◌≡◌, ℕ, Option, Some, None, Result, Ok, Err, true, refl, ap, subst, ◌∙◌}
 use Rattle.std.specs.Result.{result_ok}
 use Rattle.rv_isa.specs.declared.kind.Kind.{Kind}
 use Rattle.rv_isa.specs.declared.kind.Kind.TheVariants.{Mret}
@@ -68,10 +68,7 @@ in_machine_mode m t = refl
 
 leads_back : (m handler : Machine) (t : Trap) → handler ≡ (trap_step (ticked m) t).0
     → tries handler ≡ Some Mret → IsBack m (step handler).0
-leads_back m handler t is mret =
-    let machine = ap (λ (h : Machine). h.mode) is ∙ in_machine_mode (ticked m) t in
-    let stepped = leaves handler machine mret ∙ ap (λ h. counts (returned (ticked h)) true (csr_written Mret)) is in
-    subst (IsBack m) (sym stepped) (back m t)
+leads_back m handler t is mret = search (rules, in_machine_mode, leaves, back)
 
 pub traps_return : (m : Machine) (cause epc tval : ℕ) → (step m).1 ≡ Trapped cause epc tval
     → tries (step m).0 ≡ Some Mret → IsBack m (step (step m).0).0

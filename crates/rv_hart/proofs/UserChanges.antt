@@ -1,17 +1,14 @@
 -- What a step in user mode leaves as it was.
-use Rattle.std.proofs.Common.{◌≡◌, ℕ, Option, Some, None, Result, Ok, Err, true, false, refl, sym, ap, subst, ◌∙◌}
+use Rattle.std.proofs.Common.{rules, ◌≡◌, ℕ, Option, Result, Ok, Err, true}
 use Rattle.rv_isa.specs.declared.op.CsrOp.{CsrOp}
 use Rattle.rv_isa.specs.declared.kind.Kind.{Kind}
 use Rattle.rv_pmp.specs.declared.mode.Mode.{Mode}
 use Rattle.rv_pmp.specs.declared.mode.Mode.TheVariants as mode
-use Rattle.rv_csr.specs.Registers.{counted, read}
-use Rattle.rv_csr.specs.State.{CsrState}
 use Rattle.rv_csr.specs.Traps.{entered}
 use Rattle.rv_csr.proofs.Levels.{nothing_read}
-use Rattle.rv_bus.specs.Access.{lines_of}
 use Rattle.rv_hart.specs.State.{Machine}
 use Rattle.rv_hart.specs.Effect.{effect, csr_written}
-use Rattle.rv_hart.specs.Support.EffectParts.{Effect, exchange_effect, exchange_result, outcome_of, return_effect, trap_step}
+use Rattle.rv_hart.specs.Support.EffectParts.{Effect, exchange_effect, outcome_of, return_effect, trap_step}
 use Rattle.rv_hart.specs.Laws.{ChangesByTrap}
 use Rattle.rv_hart.specs.Step.{step, ticked, fetched, attempt, finished, counts, enter}
 use Rattle.rv_hart.specs.declared.trap.Trap.{Trap}
@@ -26,11 +23,7 @@ module _ (m : Machine) (user : m.mode ≡ mode.User) where
   registers : (k : Kind) (op : CsrOp) (field operand rd csr : ℕ)
       → IfRetired (IsAlike m) (exchange_effect k m op field operand rd csr)
   unfolding exchange_effect
-  registers k op field operand rd csr =
-      subst (λ old. IfRetired (IsAlike m) (exchange_result k m op field operand rd csr old)) (sym none) tt
-    where
-      none : read m.csrs csr m.mode (lines_of m.bus) ≡ None
-      none = ap (λ d. read m.csrs csr d (lines_of m.bus)) user ∙ nothing_read m.csrs csr (lines_of m.bus)
+  registers k op field operand rd csr = search (rules, nothing_read)
 
   returns : (d : Mode) → d ≡ mode.User → IfRetired (IsAlike m) (return_effect m d)
   unfolding return_effect
@@ -45,35 +38,12 @@ module _ (m : Machine) (user : m.mode ≡ mode.User) where
 module _ (m : Machine) (user : m.mode ≡ mode.User) where
   traps : (t : Trap) → ChangesByTrap m (trap_step (ticked m) t).0 (trap_step (ticked m) t).1
   unfolding counts enter entered
-  traps t =
-      let made = counted (entered m.csrs t.cause m.pc t.tval m.mode) false None in (
-        record {
-          mode = refl;
-          pc = refl;
-          csrs = ap (λ (d : Mode). record (entered m.csrs t.cause m.pc t.tval d) { mcycle = made.mcycle; minstret = made.minstret }) user;
-        },
-        refl,
-        refl,
-        refl,
-      )
+  traps t = search rules
 
   settled : (wrote halt : Option ℕ) (new : Machine) → IsAlike (ticked m) new
       → ChangesByTrap m (counts new true wrote) (outcome_of halt)
   unfolding counts
-  settled wrote None new alike = (
-    alike.0 ∙ user,
-    ap (λ (s : CsrState). record s {
-      mcycle = (counted new.csrs true wrote).mcycle;
-      minstret = (counted new.csrs true wrote).minstret;
-    }) alike.1,
-  )
-  settled wrote (Some code) new alike = (
-    alike.0 ∙ user,
-    ap (λ (s : CsrState). record s {
-      mcycle = (counted new.csrs true wrote).mcycle;
-      minstret = (counted new.csrs true wrote).minstret;
-    }) alike.1,
-  )
+  settled wrote halt new alike = search rules
 
   settles : (wrote : Option ℕ) (e : Effect) → IfRetired (IsAlike (ticked m)) e
       → ChangesByTrap m (finished (ticked m) wrote e).0 (finished (ticked m) wrote e).1
