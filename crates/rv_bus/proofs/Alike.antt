@@ -62,13 +62,11 @@ with_ram_after ram loaded = option_map (λ (r : ℕ × BusState). (r.0, with_ram
 pub same_load : (b : BusState) (ram : List ℕ) (a : ℕ) (w : Width) → length ram ≡ length b.ram
     → (ram_base ≤ a → SameBytes b.ram ram (a - ram_base) (bytes_of w))
     → load (with_ram b ram) a w ≡ with_ram_after ram (load b a w)
-same_load b ram a w size same =
-    (at_location (with_ram b ram) a w).load
+same_load b ram a w size same = (at_location (with_ram b ram) a w).load
     ∙ ap (λ n. load_at (with_ram b ram) (location_of n a w) w) size
     ∙ each_location (λ p. load_at (with_ram b ram) p w ≡ with_ram_after ram (load_at b p w)) (length b.ram) a w
     (λ above. ap (λ (v : ℕ). Some (v, with_ram b ram)) (same_number b.ram ram (a - ram_base) (bytes_of w) (same above)))
-    refl (λ off. refl) (λ off. refl) (λ reg. refl) refl
-    ∙ ap (with_ram_after ram) (sym (at_location b a w).load)
+    refl (λ off. refl) (λ off. refl) (λ reg. refl) refl ∙ ap (with_ram_after ram) (sym (at_location b a w).load)
 
 -- a load leaves the memory
 abbrev pub KeepsMemory : BusState → Option (ℕ × BusState) → Type 0
@@ -84,14 +82,12 @@ same_fetch one other a size same = search (rules, fetch_is, same_number, leb-tru
 
 -- ---- stores
 
-same_set : (one other : List ℕ) (i v k : ℕ) → length other ≡ length one
-    → slice_index other k ≡ slice_index one k
+same_set : (one other : List ℕ) (i v k : ℕ) → length other ≡ length one → slice_index other k ≡ slice_index one k
     → slice_index (slice_set other i v) k ≡ slice_index (slice_set one i v) k
 same_set one other i v k size same = search (rules, cases_eq, cases_lt, get_or-set_at, set_past, get_or-set_other)
 
 -- a byte that is the same in both memories is the same after the same store
-same_put : (one other : List ℕ) (off n v k : ℕ) → length other ≡ length one
-    → slice_index other k ≡ slice_index one k
+same_put : (one other : List ℕ) (off n v k : ℕ) → length other ≡ length one → slice_index other k ≡ slice_index one k
     → slice_index (put other off n v) k ≡ slice_index (put one off n v) k
 unfolding put
 same_put one other off zero v k size same = same
@@ -133,14 +129,10 @@ same_store b ram a v w size =
     (sym ((at_location (with_ram b ram) a w).store v))
     (subst (λ n. BothStore b ram a w (store_at b (location_of (length b.ram) a w) w v)
     (store_at (with_ram b ram) (location_of n a w) w v)) (sym size)
-    (each_location (λ p. BothStore b ram a w (store_at b p w v) (store_at (with_ram b ram) p w v))
-    (length b.ram) a w
-    (λ above. memory_store b ram a v w size above)
-    (device_store b ram a w _ size refl)
-    (λ reg. device_store b ram a w _ size refl)
-    (λ off. device_store b ram a w _ size refl)
-    (λ reg. device_store b ram a w _ size refl)
-    tt)))
+    (each_location (λ p. BothStore b ram a w (store_at b p w v) (store_at (with_ram b ram) p w v)) (length b.ram) a w
+    (λ above. memory_store b ram a v w size above) (device_store b ram a w _ size refl)
+    (λ reg. device_store b ram a w _ size refl) (λ off. device_store b ram a w _ size refl)
+    (λ reg. device_store b ram a w _ size refl) tt)))
 
 -- ---- a byte at an address
 

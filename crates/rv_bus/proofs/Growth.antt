@@ -11,8 +11,7 @@ use Rattle.rv_bus.specs.Room.{wants_room}
 use Rattle.rv_bus.proofs.Rows as rows
 use Rattle.rv_bus.specs.declared.locations.Location.{Location}
 
-at_location : (rule : RoomRule) (b : BusState) (v : ℕ) (w : Width) (p : Location)
-    → wants_room_at rule b p w v ≡ true
+at_location : (rule : RoomRule) (b : BusState) (v : ℕ) (w : Width) (p : Location) → wants_room_at rule b p w v ≡ true
     → (is_written p ≡ true) × (is_some (store_at b p w v) ≡ true)
 at_location rule b v w p is = search rules
 

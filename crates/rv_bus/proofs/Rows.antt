@@ -41,16 +41,14 @@ module _ (b : BusState) (a : ℕ) (w : Width) where
   reaches x = (x.load (a - x.first), x.store (a - x.first))
 
   first : (t : Bool) (x : Window) (rest : Option Window) (p q : Location) → IsRow (Some (reaches x)) p
-      → IsRow (option_map reaches rest) q
-      → IsRow (option_map reaches (cond t (Some x) rest)) (if t then p else q)
+      → IsRow (option_map reaches rest) q → IsRow (option_map reaches (cond t (Some x) rest)) (if t then p else q)
   first t x rest p q here later = search rules
 
   -- ---- the rows of the devices
 
   -- rows are those of the registers, of which no later one has the same address, and then the interrupt controller's
   abbrev IsRegister : ℕ × Location → Window → List Window → Type 0
-  IsRegister y x xs =
-      (x.first ≡ y.0) × (x.places ≡ 1) × (x.narrowest ≡ narrowest y.1)
+  IsRegister y x xs = (x.first ≡ y.0) × (x.places ≡ 1) × (x.narrowest ≡ narrowest y.1)
       × ((off : ℕ) → IsRow (Some (x.load off, x.store off)) y.1)
       × (list_any (λ (x : Window). has x.first x.places y.0) xs ≡ false)
 
@@ -92,24 +90,20 @@ module _ (b : BusState) (a : ℕ) (w : Width) where
       (rows_of ys xs is.1))
     where
       test : takes_it x ≡ (takes y.1 w && (a == y.0))
-      test =
-          ap (λ f. nat_le x.narrowest (bytes_of w) && has f x.places a) is.0.0
+      test = ap (λ f. nat_le x.narrowest (bytes_of w) && has f x.places a) is.0.0
           ∙ (ap (λ s. nat_le x.narrowest (bytes_of w) && has y.0 s a) is.0.1
           ∙ (ap (λ n. nat_le n (bytes_of w) && has y.0 1 a) is.0.2
           ∙ (ap (λ t. t && has y.0 1 a) (narrow w y.1) ∙ ap (λ u. takes y.1 w && u) (one_address y.0 a))))
 
       none : (a == y.0) ≡ true → find takes_it xs ≡ None
-      none u =
-          none_takes xs
+      none u = none_takes xs
           (subst (λ k. list_any (λ (x : Window). has x.first x.places k) xs ≡ false) (sym (eqb-true a y.0 u)) is.0.4)
 
   rows : IsRow (option_map reaches (window_at b a (bytes_of w))) (location b a w)
   unfolding location_of
-  rows =
-      tested (Serial Tx) (has ram_base (length b.ram) a) _ (find takes_it (drop 1 (windows b (bytes_of w)))) _
+  rows = tested (Serial Tx) (has ram_base (length b.ram) a) _ (find takes_it (drop 1 (windows b (bytes_of w)))) _
       (first (has ram_base (length b.ram) a) _ (find takes_it (drop 1 (windows b (bytes_of w)))) (Ram (a - ram_base))
-      (for_width (device_in registers a) w) refl
-      (rows_of registers (drop 1 (windows b (bytes_of w))) (search rules)))
+      (for_width (device_in registers a) w) refl (rows_of registers (drop 1 (windows b (bytes_of w))) (search rules)))
 
   -- ---- the memory and the transmit register
 
@@ -145,15 +139,14 @@ module _ (b : BusState) (a : ℕ) (w : Width) where
 
   pub at_location : IsFor b a w (location b a w)
   unfolding load store
-  at_location =
-      record {
-        load = twice (λ (x : Reached). x.0) (window_at b a (bytes_of w)) ∙ ap (option_map (λ (x : Reached). x.0)) rows;
-        store = λ v. twice (λ (x : Reached). x.1 v) (window_at b a (bytes_of w))
-            ∙ ap (option_map (λ (x : Reached). x.1 v)) rows;
-        writes = written;
-        room = has_room;
-        fetch = fetches;
-      }
+  at_location = record {
+    load = twice (λ (x : Reached). x.0) (window_at b a (bytes_of w)) ∙ ap (option_map (λ (x : Reached). x.0)) rows;
+    store = λ v. twice (λ (x : Reached). x.1 v) (window_at b a (bytes_of w))
+        ∙ ap (option_map (λ (x : Reached). x.1 v)) rows;
+    writes = written;
+    room = has_room;
+    fetch = fetches;
+  }
 
   pub is_for : (p : Location) → p ≡ location b a w → IsFor b a w p
   is_for p is = subst (IsFor b a w) (sym is) at_location

@@ -1,5 +1,5 @@
 -- What holds of each location holds of the one at an address.
-use Rattle.std.proofs.Common.{◌≡◌, ℕ, ◌-◌, ◌≤◌, ◌==◌, Bool, true, false, List, [], ◌∷◌, rules}
+use Rattle.std.proofs.Common.{◌≡◌, ℕ, ◌-◌, ◌≤◌, ◌==◌, Bool, true, List, [], ◌∷◌, rules}
 use Rattle.std.specs.List.{list_all}
 use Rattle.std.proofs.lemmas.Bool.{and_parts, and_from, and_left, and_right, cases_order, cond_both, eq-eqb, leb-true, le-leb, lt-leb, lt-ltb, le-ltb, ne_eqb}
 use Rattle.rv_base.specs.Limits.{ram_base}
@@ -28,10 +28,6 @@ at_device test (y ∷ ys) a all plic nowhere =
     cond_both (a == y.0) y.1 (device_in ys a) (λ p. test p ≡ true) (λ t. p.0)
     (λ t. at_device test ys a p.1 plic nowhere)
 
-abbrev is_device : Location → Bool
-is_device (Ram off) = false
-is_device p = true
-
 pub each_device : (P : Location → Type 0) (a : ℕ) (w : Width) → P Halt → ((reg : TimerReg) → P (Timer reg))
     → ((off : ℕ) → P (Plic off)) → ((reg : SerialReg) → P (Serial reg)) → P Nowhere
     → P (for_width (device_in registers a) w)
@@ -39,8 +35,7 @@ each_device P a w halt timer plic serial nowhere = search (rules, cond_both, at_
 
 pub each_location : (P : Location → Type 0) (size a : ℕ) (w : Width)
     → (ram_base ≤ a → P (Ram (a - ram_base))) → P Halt → ((reg : TimerReg) → P (Timer reg))
-    → ((off : ℕ) → P (Plic off)) → ((reg : SerialReg) → P (Serial reg)) → P Nowhere
-    → P (location_of size a w)
+    → ((off : ℕ) → P (Plic off)) → ((reg : SerialReg) → P (Serial reg)) → P Nowhere → P (location_of size a w)
 unfolding location_of
 each_location P size a w ram halt timer plic serial nowhere =
     search (rules, cond_both, leb-true, and_parts, each_device)
