@@ -97,8 +97,7 @@ unfolding put
 drop_put xs s o zero v = refl
 drop_put xs s o (suc n) v =
     let e : s + o + n ≡ s + (o + n) = omega arith in
-    ap (λ k. drop s (set (put xs (s + o) n v) k (v / 256 ^ n % 256))) e
-    ∙ (drop-set-add s (put xs (s + o) n v) (o + n) _
+    ap (λ k. drop s (set (put xs (s + o) n v) k (v / 256 ^ n % 256))) e ∙ (drop-set-add s (put xs (s + o) n v) (o + n) _
     ∙ ap (λ ys. set ys (o + n) (v / 256 ^ n % 256)) (drop_put xs s o n v))
 
 take_before : (xs : List ℕ) (m at n v : ℕ) → m ≤ at → take m (put xs at n v) ≡ take m xs
@@ -118,38 +117,29 @@ page_put block s o n v l = search (rules, drop_put, take_put)
 
 page_kept : (block : List ℕ) (s t o n v : ℕ) → s % 4096 ≡ 0 → t % 4096 ≡ 0 → s ≢ t → o + n ≤ 4096
     → take 4096 (drop s (put block (t + o) n v)) ≡ take 4096 (drop s block)
-page_kept block s t o n v a b d l =
-    elim (cases_lt s t) [
-      | inl before ↦
-          (let k : s + (t - s + o) ≡ t + o = omega arith in
-          ap (λ i. take 4096 (drop s (put block i n v))) (sym k)
-          ∙ (ap (take 4096) (drop_put block s (t - s + o) n v)
-          ∙ take_before (drop s block) 4096 (t - s + o) n v (omega arith)))
-      | inr after ↦
-          ap (take 4096) (drop_behind block s (t + o) n v (behind s t a b d after))
-    ]
+page_kept block s t o n v a b d l = elim (cases_lt s t) [
+  | inl before ↦
+      (let k : s + (t - s + o) ≡ t + o = omega arith in
+      ap (λ i. take 4096 (drop s (put block i n v))) (sym k) ∙ (ap (take 4096) (drop_put block s (t - s + o) n v)
+      ∙ take_before (drop s block) 4096 (t - s + o) n v (omega arith)))
+  | inr after ↦
+      ap (take 4096) (drop_behind block s (t + o) n v (behind s t a b d after))
+]
   where
     behind : (s t : ℕ) → s % 4096 ≡ 0 → t % 4096 ≡ 0 → s ≢ t → t ≤ s → t + o + n ≤ s
-    behind s t a b d after =
-        elim (cases_lt t s) [
-          | inl less ↦ omega arith
-          | inr more ↦ absurd (d (omega arith))
-        ]
+    behind s t a b d after = elim (cases_lt t s) [ inl less ↦ omega arith | inr more ↦ absurd (d (omega arith)) ]
 
 pages_kept : (block ss : List ℕ) (t o n v : ℕ) → t % 4096 ≡ 0 → o + n ≤ 4096
-    → ((p : ℕ) → p < length ss → slice_index ss p % 4096 ≡ 0)
-    → ((p : ℕ) → p < length ss → slice_index ss p ≢ t)
+    → ((p : ℕ) → p < length ss → slice_index ss p % 4096 ≡ 0) → ((p : ℕ) → p < length ss → slice_index ss p ≢ t)
     → pages_at (put block (t + o) n v) ss ≡ pages_at block ss
 pages_kept block [] t o n v b l w h = refl
 pages_kept block (s ∷ ss) t o n v b l w h =
     ap (λ bs. record { bytes = bs; made = is_behind s } ∷ pages_at (put block (t + o) n v) ss)
-    (page_kept block s t o n v (w 0 (omega arith)) b (h 0 (omega arith)) l)
-    ∙ ap (λ ps. page_at block s ∷ ps)
+    (page_kept block s t o n v (w 0 (omega arith)) b (h 0 (omega arith)) l) ∙ ap (λ ps. page_at block s ∷ ps)
     (pages_kept block ss t o n v b l (λ p m. w (suc p) (omega arith)) (λ p m. h (suc p) (omega arith)))
 
 pages_put : (block ss : List ℕ) (i t o n v : ℕ) → i < length ss → slice_index ss i ≡ t → o + n ≤ 4096
-    → ((p : ℕ) → p < length ss → slice_index ss p % 4096 ≡ 0)
-    → ((p : ℕ) → p < length ss → p ≢ i → slice_index ss p ≢ t)
+    → ((p : ℕ) → p < length ss → slice_index ss p % 4096 ≡ 0) → ((p : ℕ) → p < length ss → p ≢ i → slice_index ss p ≢ t)
     → pages_at (put block (t + o) n v) ss
     ≡ set (pages_at block ss) i (record { bytes = put (take 4096 (drop t block)) o n v; made = is_behind t })
 pages_put block [] i t o n v m e l w h = absurd (omega arith)
@@ -165,30 +155,26 @@ pages_put block (s ∷ ss) (suc i) t o n v m e l w h =
     ap (λ bs. record { bytes = bs; made = is_behind s } ∷ pages_at (put block (t + o) n v) ss)
     (page_kept block s t o n v (w 0 (omega arith))
     (omega (arith, w (suc i) (omega arith), e)) (h 0 (omega arith) (λ q. absurd (omega arith))) l)
-    ∙ ap (λ ps. page_at block s ∷ ps)
-    (pages_put block ss i t o n v (omega arith) e l (λ p k. w (suc p) (omega arith))
+    ∙ ap (λ ps. page_at block s ∷ ps) (pages_put block ss i t o n v (omega arith) e l (λ p k. w (suc p) (omega arith))
     (λ p k q. h (suc p) (omega arith) (λ r. q (omega arith))))
 
 -- ---- the invariant
 apart_at : (block ss : List ℕ) (i : ℕ) → AreStarts block ss → i < length ss → 0 < slice_index ss i
     → (p : ℕ) → p < length ss → p ≢ i → slice_index ss p ≢ slice_index ss i
-apart_at block ss i a l h p m d e =
-    elim (cases_lt p i) [
-      | inl before ↦
-          (let z = a.apart p i before l e in absurd (omega arith))
-      | inr after ↦
-          elim (cases_lt i p) [
-            | inl behind ↦ (let z = a.apart i p behind m (sym e) in absurd (omega arith))
-            | inr same ↦ d (omega arith)
-          ]
-    ]
+apart_at block ss i a l h p m d e = elim (cases_lt p i) [
+  | inl before ↦
+      (let z = a.apart p i before l e in absurd (omega arith))
+  | inr after ↦ elim (cases_lt i p) [
+    | inl behind ↦ (let z = a.apart i p behind m (sym e) in absurd (omega arith))
+    | inr same ↦ d (omega arith)
+  ]
+]
 
 pages_whole : (block ss : List ℕ) → AreStarts block ss → HasWholePages (pages_at block ss)
 pages_whole block ss a = whole_pages block ss a.inside
 
 -- where a byte lies: at its page, as far from its beginning
-place_is : (block biases : List ℕ) (off : ℕ) → AreStarts block (starts_from biases 0)
-    → off / 4096 < length biases
+place_is : (block biases : List ℕ) (off : ℕ) → AreStarts block (starts_from biases 0) → off / 4096 < length biases
     → place_of biases off ≡ slice_index (starts_from biases 0) (off / 4096) + off % 4096
 place_is block biases off a l = search (rules, start_at, length_starts, count_at_most)
 
@@ -233,10 +219,8 @@ byte_in block biases off a l =
     omega (arith, place_in block biases off 1 a (index_in block biases off a l) (omega arith))
 
 pub word_in : (block biases : List ℕ) (off : ℕ) → IsPaged block biases
-    → off + 4 ≤ length (all_bytes (pages_in block biases)) → off % 4 ≡ 0
-    → place_of biases off + 4 ≤ length block
-word_in block biases off a l m =
-    place_in block biases off 4 a (index_in block biases off a (omega arith)) (omega arith)
+    → off + 4 ≤ length (all_bytes (pages_in block biases)) → off % 4 ≡ 0 → place_of biases off + 4 ≤ length block
+word_in block biases off a l m = place_in block biases off 4 a (index_in block biases off a (omega arith)) (omega arith)
 
 pub range_at : (block biases : List ℕ) (off : ℕ) (w : Width) → IsPaged block biases
     → off + bytes_of w ≤ length (all_bytes (pages_in block biases)) → off % bytes_of w ≡ 0
@@ -245,8 +229,7 @@ range_at block biases off w a l m = search (rules, place_in, index_in, range_in,
 
 -- a byte of a page is one of the block
 byte_at : (block ss : List ℕ) (off o : ℕ) (d : PageState) → off / 4096 < length ss → o < 4096
-    → get_or (get_or (pages_at block ss) (off / 4096) d).bytes o 0
-    ≡ slice_index block (slice_index ss (off / 4096) + o)
+    → get_or (get_or (pages_at block ss) (off / 4096) d).bytes o 0 ≡ slice_index block (slice_index ss (off / 4096) + o)
 byte_at block ss off o d l m = search (rules, page_is, get_or-take, get_or-drop)
 
 pub byte_of : (block biases : List ℕ) (off k : ℕ) → IsPaged block biases
@@ -286,15 +269,13 @@ made_place block biases off a l =
     let ss = starts_from biases 0 in
     let m : off / 4096 < length ss = omega (arith, length_starts biases 0) in
     by_start (slice_index ss (off / 4096)) (place_of biases off) (off % 4096) (place_is block biases off a l)
-    (a.whole (off / 4096) m) (omega arith)
-    ∙ sym (is_made_at block ss (off / 4096) m)
+    (a.whole (off / 4096) m) (omega arith) ∙ sym (is_made_at block ss (off / 4096) m)
   where
     by_start : (s p r : ℕ) → p ≡ s + r → s % 4096 ≡ 0 → r < 4096 → leb 4096 p ≡ is_behind s
     by_start zero p r e w l = lt-leb 4096 p (omega arith)
     by_start (suc s) p r e w l = le-leb 4096 p (omega arith)
 
-unmade_start : (block biases : List ℕ) (off : ℕ) → AreStarts block (starts_from biases 0)
-    → off / 4096 < length biases
+unmade_start : (block biases : List ℕ) (off : ℕ) → AreStarts block (starts_from biases 0) → off / 4096 < length biases
     → is_made (made_of (pages_at block (starts_from biases 0))) off ≡ false
     → slice_index (starts_from biases 0) (off / 4096) ≡ 0
 unmade_start block biases off a l u = search (rules, not_made, is_made_at, length_starts)
@@ -304,8 +285,7 @@ unmade_bytes : (block ss : List ℕ) (i : ℕ) (d : PageState) → AreStarts blo
     → slice_index ss i ≡ 0 → (get_or (pages_at block ss) i d).bytes ≡ zeros 4096
 unmade_bytes block ss i d a l e = search (rules, page_is)
 
-pub blank : (block biases : List ℕ) (off : ℕ) → IsPaged block biases
-    → off < length (all_bytes (pages_in block biases))
+pub blank : (block biases : List ℕ) (off : ℕ) → IsPaged block biases → off < length (all_bytes (pages_in block biases))
     → is_made (made_of (pages_in block biases)) off ≡ false
     → is_zero_page (all_bytes (pages_in block biases)) off ≡ true
 unfolding IsPaged pages_in
@@ -327,10 +307,8 @@ unfolding is_zero_page
 zero_at bs off j e l z =
     let s = 4096 * (off / 4096) in
     let k : s + j % 4096 ≡ j = omega arith in
-    ap (slice_index bs) (sym k)
-    ∙ (sym (get_or-drop s bs (j % 4096) 0)
-    ∙ (sym (get_or-take 4096 (drop s bs) (j % 4096) 0 (omega arith))
-    ∙ zero_byte (take 4096 (drop s bs)) (j % 4096)
+    ap (slice_index bs) (sym k) ∙ (sym (get_or-drop s bs (j % 4096) 0)
+    ∙ (sym (get_or-take 4096 (drop s bs) (j % 4096) 0 (omega arith)) ∙ zero_byte (take 4096 (drop s bs)) (j % 4096)
     (omega (arith, length-take 4096 (drop s bs), length-drop s bs)) z))
 
 pub zeros_put : (bs : List ℕ) (off v : ℕ) (w : Width) → off + bytes_of w ≤ length bs → off % bytes_of w ≡ 0
@@ -338,8 +316,7 @@ pub zeros_put : (bs : List ℕ) (off v : ℕ) (w : Width) → off + bytes_of w �
 zeros_put bs off v w l a z e = search (rules, put_zeros, zero_at, in_page)
 
 -- ---- writes in a page that exists
-there : (block biases : List ℕ) (off : ℕ) → AreStarts block (starts_from biases 0)
-    → off / 4096 < length biases
+there : (block biases : List ℕ) (off : ℕ) → AreStarts block (starts_from biases 0) → off / 4096 < length biases
     → is_made (made_of (pages_at block (starts_from biases 0))) off ≡ true
     → 0 < slice_index (starts_from biases 0) (off / 4096)
 there block biases off a l u = search (rules, is_made_at, length_starts, false≢true)
@@ -380,8 +357,7 @@ paged_put block biases off k v w a l u e =
     let i = index_at block biases off a (range_in w off (length (all_bytes (pages_at block ss))) l) in
     let m : off / 4096 < length ss = omega (arith, length_starts biases 0) in
     let h = there block biases off a i u in
-    starts_put block ss k (bytes_of w) v a
-    (omega (arith, e, place_is block biases off a i, h, a.whole (off / 4096) m))
+    starts_put block ss k (bytes_of w) v a (omega (arith, e, place_is block biases off a i, h, a.whole (off / 4096) m))
 
 -- ---- a page is made
 length_more : (block : List ℕ) → length (block ++ zeros 4096) ≡ length block + 4096
@@ -392,20 +368,17 @@ pub page_more : (block : List ℕ) (n m : ℕ) → n ≡ length block + 4096 →
 unfolding zeros
 page_more block n m e f =
     let k : n - m ≡ 4096 = omega arith in
-    ap (λ xs. xs ++ replicate (n - m) 0) (take_all n block (omega arith))
-    ∙ ap (λ j. block ++ replicate j 0) k
+    ap (λ xs. xs ++ replicate (n - m) 0) (take_all n block (omega arith)) ∙ ap (λ j. block ++ replicate j 0) k
 
 page_before : (block : List ℕ) (s : ℕ) → s + 4096 ≤ length block
     → take 4096 (drop s (block ++ zeros 4096)) ≡ take 4096 (drop s block)
-page_before block s l =
-    ap (take 4096) (drop-append-le s block (zeros 4096) (omega arith))
+page_before block s l = ap (take 4096) (drop-append-le s block (zeros 4096) (omega arith))
     ∙ take-append-le 4096 (drop s block) (zeros 4096) (omega (arith, length-drop s block))
 
 pages_before : (block ss : List ℕ) → ((p : ℕ) → p < length ss → slice_index ss p + 4096 ≤ length block)
     → pages_at (block ++ zeros 4096) ss ≡ pages_at block ss
 pages_before block [] h = refl
-pages_before block (s ∷ ss) h =
-    ap (λ bs. record { bytes = bs; made = is_behind s } ∷ pages_at (block ++ zeros 4096) ss)
+pages_before block (s ∷ ss) h = ap (λ bs. record { bytes = bs; made = is_behind s } ∷ pages_at (block ++ zeros 4096) ss)
     (page_before block s (h 0 (omega arith)))
     ∙ ap (λ ps. page_at block s ∷ ps) (pages_before block ss (λ p l. h (suc p) (omega arith)))
 
@@ -441,12 +414,11 @@ starts_made block ss i a l z =
   where
     at_start : (P : ℕ → Type 0) (p : ℕ) → P (length block) → (p ≢ i → P (slice_index ss p))
         → P (slice_index (set ss i (length block)) p)
-    at_start P p h k =
-        elim (cases_eq p i) [
-          | inl e ↦
-              subst P (sym (ap (slice_index (set ss i (length block))) e ∙ get_or-set_same ss i (length block) 0 l)) h
-          | inr d ↦ subst P (sym (get_or-set_other ss i p (length block) 0 d)) (k d)
-        ]
+    at_start P p h k = elim (cases_eq p i) [
+      | inl e ↦
+          subst P (sym (ap (slice_index (set ss i (length block))) e ∙ get_or-set_same ss i (length block) 0 l)) h
+      | inr d ↦ subst P (sym (get_or-set_other ss i p (length block) 0 d)) (k d)
+    ]
 
     before : (p : ℕ) → p < length ss → slice_index ss p ≢ length block
     before p m e = absurd (omega (arith, a.inside p m, e))
@@ -454,30 +426,27 @@ starts_made block ss i a l z =
     apart : (p q : ℕ) → p < q → q < length ss
         → slice_index (set ss i (length block)) p ≡ slice_index (set ss i (length block)) q
         → slice_index (set ss i (length block)) p ≡ 0
-    apart p q m j e =
-        elim (cases_eq p i) [
-          | inl f ↦
-              (let o = get_or-set_other ss i q (length block) 0 (λ g. absurd (omega arith)) in
-              let s = ap (slice_index (set ss i (length block))) f ∙ get_or-set_same ss i (length block) 0 l in
-              absurd (before q j (sym o ∙ (sym e ∙ s))))
-          | inr d ↦
-              (let o = get_or-set_other ss i p (length block) 0 d in
-              elim (cases_eq q i) [
-                | inl f ↦
-                    (let s = ap (slice_index (set ss i (length block))) f
-                    ∙ get_or-set_same ss i (length block) 0 l in
-                    absurd (before p (omega arith) (sym o ∙ (e ∙ s))))
-                | inr g ↦
-                    o ∙ a.apart p q m j (sym o ∙ (e ∙ get_or-set_other ss i q (length block) 0 g))
-              ])
-        ]
+    apart p q m j e = elim (cases_eq p i) [
+      | inl f ↦
+          (let o = get_or-set_other ss i q (length block) 0 (λ g. absurd (omega arith)) in
+          let s = ap (slice_index (set ss i (length block))) f ∙ get_or-set_same ss i (length block) 0 l in
+          absurd (before q j (sym o ∙ (sym e ∙ s))))
+      | inr d ↦
+          (let o = get_or-set_other ss i p (length block) 0 d in
+          elim (cases_eq q i) [
+            | inl f ↦ (let s = ap (slice_index (set ss i (length block))) f
+                ∙ get_or-set_same ss i (length block) 0 l in
+                absurd (before p (omega arith) (sym o ∙ (e ∙ s))))
+            | inr g ↦
+                o ∙ a.apart p q m j (sym o ∙ (e ∙ get_or-set_other ss i q (length block) 0 g))
+          ])
+    ]
 
 set_starts : (biases : List ℕ) (i n b : ℕ) → (4096 * (0 + i) + b) % 2 ^ 32 ≡ n
     → starts_from (set biases i b) 0 ≡ set (starts_from biases 0) i n
 set_starts biases i n b e = starts_set biases 0 i b ∙ ap (set (starts_from biases 0) i) e
 
-made_pages : (block ss : List ℕ) (i : ℕ) → AreStarts block ss
-    → pages_at (block ++ zeros 4096) (set ss i (length block))
+made_pages : (block ss : List ℕ) (i : ℕ) → AreStarts block ss → pages_at (block ++ zeros 4096) (set ss i (length block))
     ≡ set (pages_at block ss) i (page_at (block ++ zeros 4096) (length block))
 made_pages block ss i a = search (rules, pages_set, pages_before)
 
@@ -492,8 +461,7 @@ exists : (n : ℕ) → 4096 ≤ n → is_behind n ≡ true
 exists n l = search rules
 
 pub bytes_made : (block biases : List ℕ) (off b : ℕ) → IsPaged block biases
-    → off < length (all_bytes (pages_in block biases))
-    → is_made (made_of (pages_in block biases)) off ≡ false
+    → off < length (all_bytes (pages_in block biases)) → is_made (made_of (pages_in block biases)) off ≡ false
     → (4096 * (0 + off / 4096) + b) % 2 ^ 32 ≡ length block
     → all_bytes (pages_in (block ++ zeros 4096) (set biases (off / 4096) b)) ≡ all_bytes (pages_in block biases)
 unfolding IsPaged pages_in
@@ -516,8 +484,7 @@ unfolding IsPaged pages_in
 made_made block biases off b a e = search (rules, set_starts, made_pages, made_of_set, exists)
 
 pub made_there : (block biases : List ℕ) (off b : ℕ) → IsPaged block biases
-    → off < length (all_bytes (pages_in block biases))
-    → (4096 * (0 + off / 4096) + b) % 2 ^ 32 ≡ length block
+    → off < length (all_bytes (pages_in block biases)) → (4096 * (0 + off / 4096) + b) % 2 ^ 32 ≡ length block
     → is_made (made_of (pages_in (block ++ zeros 4096) (set biases (off / 4096) b))) off ≡ true
 unfolding IsPaged pages_in
 made_there block biases off b a l e =
@@ -532,10 +499,8 @@ made_there block biases off b a l e =
     ∙ exists (length block) (omega (arith, a.size))))
 
 pub paged_made : (block biases : List ℕ) (off b : ℕ) → IsPaged block biases
-    → off < length (all_bytes (pages_in block biases))
-    → is_made (made_of (pages_in block biases)) off ≡ false
-    → (4096 * (0 + off / 4096) + b) % 2 ^ 32 ≡ length block
-    → IsPaged (block ++ zeros 4096) (set biases (off / 4096) b)
+    → off < length (all_bytes (pages_in block biases)) → is_made (made_of (pages_in block biases)) off ≡ false
+    → (4096 * (0 + off / 4096) + b) % 2 ^ 32 ≡ length block → IsPaged (block ++ zeros 4096) (set biases (off / 4096) b)
 unfolding IsPaged pages_in
 paged_made block biases off b a l u e =
     let i = index_at block biases off a l in
@@ -561,8 +526,7 @@ pub biases_zero : blank_biases 0 ≡ []
 unfolding blank_biases
 biases_zero = refl
 
-pub biases_more : (n b : ℕ) → b ≡ (2 ^ 32 - 4096 * n) % 2 ^ 32
-    → blank_biases (n + 1) ≡ blank_biases n ++ b ∷ []
+pub biases_more : (n b : ℕ) → b ≡ (2 ^ 32 - 4096 * n) % 2 ^ 32 → blank_biases (n + 1) ≡ blank_biases n ++ b ∷ []
 unfolding blank_biases
 biases_more n b e = search rules
 
@@ -588,8 +552,7 @@ blank_starts (suc n) l =
     let k : n + 1 ≡ suc n = omega arith in
     starts_push (blank_biases n) 0 ((2 ^ 32 - 4096 * n) % 2 ^ 32)
     ∙ (ap (λ m. starts_from (blank_biases n) 0 ++ (4096 * (0 + m) + (2 ^ 32 - 4096 * n) % 2 ^ 32) % 2 ^ 32 ∷ [])
-    (length_blank n)
-    ∙ (ap (λ s. starts_from (blank_biases n) 0 ++ s ∷ []) e
+    (length_blank n) ∙ (ap (λ s. starts_from (blank_biases n) 0 ++ s ∷ []) e
     ∙ (ap (λ ss. ss ++ 0 ∷ []) (blank_starts n (omega arith))
     ∙ (sym (replicate_next n 0) ∙ ap (λ j. replicate j 0) k))))
 
@@ -621,14 +584,12 @@ bytes_new block biases n z e m = search (rules, blank_starts, all_zeros)
 pub made_new : (block biases : List ℕ) (n : ℕ) → biases ≡ blank_biases n → n ≤ 4096
     → made_of (pages_in block biases) ≡ none_made n
 unfolding pages_in
-made_new block biases n e m =
-    ap (λ bs. made_of (pages_at block (starts_from bs 0))) e
+made_new block biases n e m = ap (λ bs. made_of (pages_at block (starts_from bs 0))) e
     ∙ (same_pages block (zeros 4096) (starts_from (blank_biases n) 0)
     ∙ (ap (λ ss. made_of (pages_at (zeros 4096) ss)) (blank_starts n m) ∙ none_there n))
 
 pub paged_new : (block biases : List ℕ) (n : ℕ) → block ≡ zeros 4096 → biases ≡ blank_biases n → 1 ≤ n → n ≤ 4096
     → IsPaged block biases
 unfolding IsPaged zeros
-paged_new block biases n z e l m =
-    subst (λ bs. AreStarts bs (starts_from biases 0)) (sym z)
+paged_new block biases n z e l m = subst (λ bs. AreStarts bs (starts_from biases 0)) (sym z)
     (subst (AreStarts (zeros 4096)) (sym (ap (λ bs. starts_from bs 0) e ∙ blank_starts n m)) (starts_new n l m))

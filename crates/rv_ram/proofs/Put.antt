@@ -20,8 +20,7 @@ unfolding put
 none bs i v = refl
 
 pub put_zeros : (bs : List ℕ) (i v : ℕ) (w : Width)
-    → ((k : ℕ) → k < bytes_of w → slice_index bs (i + k) ≡ 0) → is_zero w v ≡ true
-    → put bs i (bytes_of w) v ≡ bs
+    → ((k : ℕ) → k < bytes_of w → slice_index bs (i + k) ≡ 0) → is_zero w v ≡ true → put bs i (bytes_of w) v ≡ bs
 put_zeros bs i v w h z = search (rules, eqb-true, one_more, none)
 
 -- ---- writes by their bytes
@@ -30,8 +29,7 @@ pub put_byte : (bs : List ℕ) (i v : ℕ) → slice_set bs i (v % 256) ≡ put 
 unfolding put
 put_byte bs i v = search rules
 
-pub put_half : (bs : List ℕ) (i v : ℕ)
-    → slice_set (slice_set bs i (v % 256)) (i + 1) (v / 256 % 256) ≡ put bs i 2 v
+pub put_half : (bs : List ℕ) (i v : ℕ) → slice_set (slice_set bs i (v % 256)) (i + 1) (v / 256 % 256) ≡ put bs i 2 v
 unfolding put
 put_half bs i v = search rules
 
@@ -55,8 +53,7 @@ put_left xs ys i (suc n) v l = search (rules, set-append_left, length_put, put_l
 
 set_right : (xs ys : List ℕ) (n k j x : ℕ) → length xs ≡ n → j ≡ n + k → set (xs ++ ys) j x ≡ xs ++ set ys k x
 set_right xs ys n k j x e q =
-    let d : j - n ≡ k = omega arith in set-append_right xs ys n j x e (omega arith)
-    ∙ ap (λ i. xs ++ set ys i x) d
+    let d : j - n ≡ k = omega arith in set-append_right xs ys n j x e (omega arith) ∙ ap (λ i. xs ++ set ys i x) d
 
 -- a write to the second of two joined lists
 pub put_right : (xs ys : List ℕ) (k i n v : ℕ) → length xs ≡ k → put (xs ++ ys) (k + i) n v ≡ xs ++ put ys i n v

@@ -21,8 +21,7 @@ all_bytes_get (p ∷ ps) d zero o w l m = search (rules, get_or_append_left)
 all_bytes_get (p ∷ ps) d (suc i) o w l m =
     search (rules, get_or-append_right, all_bytes_get ps d i o w.1 (omega arith) m)
 
-pub byte_of_all : (ps : List PageState) (off : ℕ) (d : PageState) → HasWholePages ps
-    → off < length (all_bytes ps)
+pub byte_of_all : (ps : List PageState) (off : ℕ) (d : PageState) → HasWholePages ps → off < length (all_bytes ps)
     → get_or (get_or ps (off / 4096) d).bytes (off % 4096) 0 ≡ get_or (all_bytes ps) off 0
 byte_of_all ps off d w l = search (rules, length_all_bytes, all_bytes_get)
 
@@ -54,8 +53,7 @@ pub all_bytes_put : (ps : List PageState) (off v : ℕ) (w : Width) (q d : PageS
     → all_bytes (set ps (off / 4096) q) ≡ put (all_bytes ps) off (bytes_of w) v
 all_bytes_put ps off v w q d h l a e = search (rules, length_all_bytes, all_bytes_with, in_page)
 
-pub made_of_set : (ps : List PageState) (i : ℕ) (q : PageState)
-    → made_of (set ps i q) ≡ set (made_of ps) i q.made
+pub made_of_set : (ps : List PageState) (i : ℕ) (q : PageState) → made_of (set ps i q) ≡ set (made_of ps) i q.made
 made_of_set [] i q = refl
 made_of_set (p ∷ ps) zero q = refl
 made_of_set (p ∷ ps) (suc i) q = ap (λ ms. p.made ∷ ms) (made_of_set ps i q)

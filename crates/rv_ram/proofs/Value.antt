@@ -3,8 +3,7 @@ use Rattle.std.proofs.Common.{◌≡◌, ℕ, zero, suc, ◌+◌, ◌*◌, ◌<�
 use Rattle.rv_ram.specs.Bytes.{value_at}
 
 -- the same bytes have the same value
-pub same_value : (xs ys : List ℕ) (i j n : ℕ)
-    → ((k : ℕ) → k < n → slice_index xs (i + k) ≡ slice_index ys (j + k))
+pub same_value : (xs ys : List ℕ) (i j n : ℕ) → ((k : ℕ) → k < n → slice_index xs (i + k) ≡ slice_index ys (j + k))
     → value_at xs i n ≡ value_at ys j n
 unfolding value_at
 same_value xs ys i j zero same = refl
@@ -22,7 +21,6 @@ half_value bs i = search rules
 
 pub word_value : (bs : List ℕ) (i : ℕ)
     → slice_index bs i + 256 * slice_index bs (i + 1) + 65536 * slice_index bs (i + 2)
-    + 16777216 * slice_index bs (i + 3)
-    ≡ value_at bs i 4
+    + 16777216 * slice_index bs (i + 3) ≡ value_at bs i 4
 unfolding value_at
 word_value bs i = search rules

@@ -1,7 +1,5 @@
 -- Lists of zeros.
-use Rattle.std.proofs.lemmas.Bool.Decides.{nat_tests}
-use Rattle.std.proofs.lemmas.Grind.{common_steps}
-use Rattle.std.proofs.Common.{◌≡◌, ℕ, ◌+◌, ◌-◌, [], ◌++◌, length, drop, slice_index, refl, arith}
+use Rattle.std.proofs.Common.{◌≡◌, ℕ, ◌+◌, ◌-◌, [], ◌++◌, length, drop, refl}
 use Rattle.std.proofs.lemmas.List.{length-replicate, drop-replicate, replicate-append-replicate}
 use Rattle.rv_ram.specs.Bytes.{zeros}
 
@@ -20,7 +18,3 @@ append_zeros n m = replicate-append-replicate n m 0
 pub no_zeros : zeros 0 ≡ []
 unfolding zeros
 no_zeros = refl
-
-pub get_zeros : (n i : ℕ) → slice_index (zeros n) i ≡ 0
-unfolding zeros
-get_zeros n i = grind (arith, nat_tests, common_steps)
