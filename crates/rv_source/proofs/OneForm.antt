@@ -64,8 +64,7 @@ closed n xs (t.Close ∷ []) ws e all = search rules
 closed n xs ys ws e all = absurd cc
 
 enclosed_of : (ts ws : List Token) → enclosed ts ≡ Some ws → ts ≡ t.Open ∷ ws ++ t.Close ∷ []
-enclosed_of (t.Open ∷ xs) ws e =
-    let n = length xs - 1 in closed n xs (drop n xs) ws e (take-append-drop n xs)
+enclosed_of (t.Open ∷ xs) ws e = let n = length xs - 1 in closed n xs (drop n xs) ws e (take-append-drop n xs)
 enclosed_of ts ws e = absurd cc
 
 -- ---- an operand of the grammar is what `form_with` reads, with its base
@@ -94,14 +93,12 @@ part_with : (part : Part) (base : Option (List ℕ)) (ts : List Token) (e : List
     → valued part base (enclosed (t.Open ∷ ts ++ t.Close ∷ [])) ≡ Some (f.Value part e base)
 part_with part base ts e h = search (rules, length-append, drop_at, take_at)
 
-none_after : (name : List ℕ) (ts : List Token)
-    → form_with None (t.Low ∷ t.Open ∷ ts ++ t.Close ∷ bracketed name) ≡ None
+none_after : (name : List ℕ) (ts : List Token) → form_with None (t.Low ∷ t.Open ∷ ts ++ t.Close ∷ bracketed name) ≡ None
 none_after name ts =
     let inner = ts ++ t.Close ∷ t.Open ∷ t.Name name ∷ [] in
     let is : ts ++ t.Close ∷ bracketed name ≡ inner ++ t.Close ∷ [] =
     sym (append_assoc ts (t.Close ∷ t.Open ∷ t.Name name ∷ []) (t.Close ∷ [])) in
-    ap (λ (us : List Token). valued Low None (enclosed (t.Open ∷ us))) is
-    ∙ (ap (valued Low None) (enclosed_is inner)
+    ap (λ (us : List Token). valued Low None (enclosed (t.Open ∷ us))) is ∙ (ap (valued Low None) (enclosed_is inner)
     ∙ ap (option_map (λ (e : List Term). f.Value Low e None)) (no_sum t.Close ts (t.Open ∷ t.Name name ∷ []) refl))
 
 -- the form of tokens with a base, which are no operand without it

@@ -59,8 +59,7 @@ grows ps (p.Sign s ∷ p.Atom x ∷ qs) ts us h e =
     (λ vs i. subst (λ rs. IsSum rs (ts ++ term s x ∷ vs)) (append_assoc ps (p.Sign s ∷ p.Atom x ∷ []) qs)
     (subst (λ ws. IsSum ((ps ++ p.Sign s ∷ p.Atom x ∷ []) ++ qs) ws) (append_assoc ts (term s x ∷ []) vs)
     (grows (ps ++ p.Sign s ∷ p.Atom x ∷ []) qs (ts ++ term s x ∷ []) vs (OneSign ps ts s x h) i)))
-grows ps (p.Sign s ∷ p.Sign r ∷ p.Atom x ∷ qs) ts us h e =
-    front_of (not (beq s r)) x (further qs) us
+grows ps (p.Sign s ∷ p.Sign r ∷ p.Atom x ∷ qs) ts us h e = front_of (not (beq s r)) x (further qs) us
     (λ vs. IsSum (ps ++ p.Sign s ∷ p.Sign r ∷ p.Atom x ∷ qs) (ts ++ vs)) e
     (λ vs i. subst (λ rs. IsSum rs (ts ++ term (not (beq s r)) x ∷ vs))
     (append_assoc ps (p.Sign s ∷ p.Sign r ∷ p.Atom x ∷ []) qs)

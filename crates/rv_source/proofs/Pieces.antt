@@ -41,8 +41,7 @@ after_comma ts h = search (rules, take_all)
 
 -- the operands of a piece and others, after some that are read
 pub operands_more : (old : List Operand) (n : ℕ) (piece : List Token) (others : List (List Token)) (form : Form)
-    → form_of piece ≡ Some form
-    → option_map (λ xs. old ++ xs) (operands n (piece ∷ others))
+    → form_of piece ≡ Some form → option_map (λ xs. old ++ xs) (operands n (piece ∷ others))
     ≡ option_map (λ xs. (old ++ record { first = n; count = length piece; form = form } ∷ []) ++ xs)
     (operands (n + length piece + 1) others)
 unfolding operands

@@ -23,8 +23,7 @@ alone_dot a b e f = search rules
 
 -- ---- rows
 
-of_words : (word : List ℕ) (xs ys : List (List ℕ × Row)) →
-    of_word word (xs ++ ys) ≡ of_word word xs ++ of_word word ys
+of_words : (word : List ℕ) (xs ys : List (List ℕ × Row)) → of_word word (xs ++ ys) ≡ of_word word xs ++ of_word word ys
 of_words word xs ys = filter_map-append (λ row. cond (bytes_eq row.0 word) (Some row.1) None) xs ys
 
 is_not : (b : Bool) → not b ≡ true → b ≡ false

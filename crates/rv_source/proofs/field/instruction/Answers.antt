@@ -15,6 +15,5 @@ with-requires c =
     let after = rw c.number-6.ensures.value at c.number-6.ensures.below in
     let fits : SFits w32 c.immediate.result = search rules in
     let back : to_z w32 (of_z w32 c.immediate.result) ≡ c.immediate.result = rw to_z-of_z refl in
-    rw back
-    (rw (c.immediate.ensures.value, c.kind.ensures)
+    rw back (rw (c.immediate.ensures.value, c.kind.ensures)
     (in_range c.args.operation c.args.fields.now rd rs1 rs2 c.immediate.ensures.given csr before after))
