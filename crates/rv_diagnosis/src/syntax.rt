@@ -54,24 +54,35 @@ fn character(spot: Spot) -> Words {
     }
 }
 
-/// Returns what is said of a number that is none.
-fn number(run: &[u8]) -> Words {
-    let digits = has_digits_alone(run);
-    let second = run.get(1).copied().unwrap_or(0);
-    let last = last_byte(run);
-    if digits && run.first() == Some(&b'0') {
+/// Returns what is said of digits that are no number.
+fn digits(run: &[u8]) -> Words {
+    let is_decimal = count_of(run, b'8') > 0 || count_of(run, b'9') > 0;
+    if is_decimal && run.first() == Some(&b'0') {
         return in_words(
             "`^` begins with 0, so it is octal, and has a digit above 7",
             "leave out the 0 at its beginning",
         );
     }
-    if digits {
-        return in_words(
-            "`^` is above 4294967295, the greatest number",
-            "write a number of at most 32 bits",
-        );
+    in_words(
+        "`^` is above 4294967295, the greatest number",
+        "write a number of at most 32 bits",
+    )
+}
+
+/// Returns the letter that says the base of a number, which stands behind a 0; or 0 if there is none.
+fn base_letter(run: &[u8]) -> u8 {
+    if run.first() == Some(&b'0') {
+        return run.get(1).copied().unwrap_or(0);
     }
-    match (second, last) {
+    0
+}
+
+/// Returns what is said of a number that is none.
+fn number(run: &[u8]) -> Words {
+    if has_digits_alone(run) {
+        return digits(run);
+    }
+    match (base_letter(run), last_byte(run)) {
         (b'x' | b'X', _) => in_words(
             "`^` is no hexadecimal number of at most 32 bits",
             "write `0x` and one to eight of 0 to 9 and a to f",
@@ -88,7 +99,7 @@ fn number(run: &[u8]) -> Words {
             "`^` is no number",
             "write a hexadecimal number with `0x` in front",
         ),
-        (_, b'b' | b'f') => in_words(
+        (_, b'b' | b'B' | b'f' | b'F') => in_words(
             "`^` is neither a number nor a reference to a local label, which has one to four digits",
             "write `1b` or `1f`",
         ),
