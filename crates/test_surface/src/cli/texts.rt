@@ -123,8 +123,9 @@ fn writes(code: i32) -> bool {
 // What fails with an error of the system is tried again just if that is an interruption.
 #[test]
 fn an_interruption_alone_is_tried_again(rt: HostRuntime) {
-    for code in 1..134 {
-        check_at(&rt, reads(code) == (code == EINTR), code as u32);
-        check_at(&rt, writes(code) == (code == EINTR), code as u32);
+    for number in 1u8..134 {
+        let code = i32::from(number);
+        check_at(&rt, reads(code) == (code == EINTR), u32::from(number));
+        check_at(&rt, writes(code) == (code == EINTR), u32::from(number));
     }
 }
