@@ -1,7 +1,7 @@
 -- The hexadecimal digits of a number: those of a sixteenth of it, followed by its last digit.
 use Rattle.std.proofs.lemmas.Bool.Decides.{nat_tests}
 use Rattle.std.proofs.lemmas.Grind.{common_steps}
-use Rattle.std.proofs.Common.{◌≡◌, ◌∙◌, ℕ, zero, suc, ◌+◌, ◌/◌, ◌%◌, ◌^◌, ◌<◌, ◌≤◌, List, [], ◌∷◌, ◌++◌, length, refl, sym, ap, ⊎_elim, append_assoc, length-append, eq-eqb, ne_eqb, arith}
+use Rattle.std.proofs.Common.{rules, ◌≡◌, ◌∙◌, ℕ, zero, suc, ◌+◌, ◌/◌, ◌%◌, ◌^◌, ◌<◌, ◌≤◌, List, [], ◌∷◌, ◌++◌, length, refl, sym, ap, append_assoc, length-append, eq-eqb, ne_eqb, arith}
 use Rattle.std.specs.Prelude.{false}
 use Rattle.std.specs.Fmt.{digits, digits_onto, digit_glyph}
 use Rattle.std.proofs.lemmas.Bool.{cases_lt}
@@ -12,10 +12,6 @@ spell k n acc = digits_onto k 16 false n acc
 abbrev last_glyph : ℕ → ℕ
 last_glyph n = digit_glyph false (n % 16)
 
-whole : (n : ℕ) → digits 16 false n ≡ spell 64 n []
-unfolding digits
-whole n = refl
-
 spell_last : (k n : ℕ) (acc : List ℕ) → n < 16 → spell (suc k) n acc ≡ last_glyph n ∷ acc
 spell_last k n acc h = grind (arith, nat_tests, common_steps, eq-eqb)
 
@@ -25,10 +21,7 @@ spell_next k n acc h = grind (arith, nat_tests, common_steps, ne_eqb)
 -- the digits of a number in front of more text
 spell_append : (k n : ℕ) (acc : List ℕ) → spell k n acc ≡ spell k n [] ++ acc
 spell_append zero n acc = refl
-spell_append (suc k) n acc = ⊎_elim (λ l. spell_last k n acc l ∙ ap (λ x. x ++ acc) (sym (spell_last k n [] l)))
-    (λ l. spell_next k n acc l ∙ spell_append k (n / 16) (last_glyph n ∷ acc)
-    ∙ sym (append_assoc (spell k (n / 16) []) (last_glyph n ∷ []) acc)
-    ∙ ap (λ x. x ++ acc) (sym (spell_next k n [] l ∙ spell_append k (n / 16) (last_glyph n ∷ [])))) (cases_lt n 16)
+spell_append (suc k) n acc = search (rules, append_assoc, spell_append k (n / 16))
 
 -- any number of places is as good as another, if there are enough
 spell_enough : (j k n : ℕ) (acc : List ℕ) → n < 16 ^ suc j → n < 16 ^ suc k → spell (suc j) n acc ≡ spell (suc k) n acc
@@ -37,12 +30,14 @@ spell_enough (suc j) zero n acc p q = grind (arith, nat_tests, common_steps, spe
 spell_enough (suc j) (suc k) n acc p q = grind (arith, nat_tests, common_steps, spell_last, spell_next, cases_lt, spell_enough j k (n / 16) (last_glyph n ∷ acc))
 
 pub hex_one : (n : ℕ) → n < 16 → digits 16 false n ≡ last_glyph n ∷ []
-hex_one n h = whole n ∙ spell_last 63 n [] h
+unfolding digits
+hex_one n h = spell_last 63 n [] h
 
 pub hex_more : (n : ℕ) → 16 ≤ n → n < 2 ^ 32 → digits 16 false n ≡ digits 16 false (n / 16) ++ last_glyph n ∷ []
-hex_more n h small = whole n ∙ spell_next 63 n [] h ∙ spell_enough 62 63 (n / 16) (last_glyph n ∷ []) (omega arith)
-    (omega arith) ∙ spell_append 64 (n / 16) (last_glyph n ∷ [])
-    ∙ ap (λ x. x ++ last_glyph n ∷ []) (sym (whole (n / 16)))
+unfolding digits
+hex_more n h small =
+    let same = spell_enough 62 63 (n / 16) (last_glyph n ∷ []) (omega arith) (omega arith) in
+    rw (spell_next 63 n [] h, same) (spell_append 64 (n / 16) (last_glyph n ∷ []))
 
 -- the same after a text, one digit at a time
 pub more_after_text : (text longer : List ℕ) (n : ℕ) → 16 ≤ n → n < 2 ^ 32 →

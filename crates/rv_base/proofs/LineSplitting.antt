@@ -1,7 +1,7 @@
 -- The first line of a text.
 use Rattle.std.proofs.lemmas.Bool.Decides.{nat_tests}
 use Rattle.std.proofs.lemmas.Grind.{common_steps}
-use Rattle.std.proofs.Common.{◌≡◌, ℕ, suc, ◌<◌, ◌≤◌, Bool, true, false, cond, List, [], ◌∷◌, length, take, drop, refl, ap, arith, ◌==◌}
+use Rattle.std.proofs.Common.{rules, ◌≡◌, ℕ, ◌<◌, ◌≤◌, Bool, true, false, List, [], ◌∷◌, length, take, drop, refl, arith, ◌==◌}
 use Rattle.std.proofs.Math.Numerals.{one-add}
 use Rattle.std.specs.Prelude.{Some, None}
 use Rattle.std.specs.List.{onto_first, position_or_len, position}
@@ -18,8 +18,7 @@ onto_front : (b : ℕ) (bs : List ℕ) → ((0 < length bs) →
     split bs ≡ take (until_feed bs) bs ∷ split (drop 1 (drop (until_feed bs) bs)))
     → onto_first b (split bs) ≡ (b ∷ take (until_feed bs) bs) ∷ split (drop 1 (drop (until_feed bs) bs))
 unfolding split
-onto_front b [] h = refl
-onto_front b (c ∷ bs) h = ap (onto_first b) (h (omega arith))
+onto_front b bs h = search rules
 
 split_step : (b : ℕ) (bs : List ℕ) (t : Bool) → (b == 10) ≡ t →
     (0 < length bs → split bs ≡ take (until_feed bs) bs ∷ split (drop 1 (drop (until_feed bs) bs)))
@@ -48,19 +47,10 @@ unfolding split
 lines_end [] h = refl
 lines_end (b ∷ bs) h = absurd (omega arith)
 
-onto_length : (b : ℕ) (ls : List (List ℕ)) → length (onto_first b ls) ≤ suc (length ls)
-onto_length b [] = omega arith
-onto_length b (l ∷ ls) = omega arith
-
-split_step_length : (b : ℕ) (bs : List ℕ) (t : Bool) → length (split bs) ≤ length bs →
-    length (cond t ([] ∷ split bs) (onto_first b (split bs))) ≤ suc (length bs)
-split_step_length b bs true h = omega (arith, h)
-split_step_length b bs false h = omega (arith, h, onto_length b (split bs))
-
 split_length : (s : List ℕ) → length (split s) ≤ length s
 unfolding split
 split_length [] = omega arith
-split_length (b ∷ bs) = split_step_length b bs (b == 10) (split_length bs)
+split_length (b ∷ bs) = search (rules, split_length bs)
 
 -- a text has no more lines than bytes
 pub lines_length : (s : List ℕ) → length (lines s) ≤ length s

@@ -1,5 +1,5 @@
 -- Tables, row by row.
-use Rattle.std.proofs.Common.{◌≡◌, ◌≤◌, ◌<◌, ◌+◌, ℕ, List, [], ◌∷◌, length, drop, true, false, refl, arith}
+use Rattle.std.proofs.Common.{rules, ◌≡◌, ◌≤◌, ◌<◌, ◌+◌, ℕ, List, ◌∷◌, length, drop, true, false, refl, arith}
 use Rattle.std.specs.Prelude.{Some, None, get_or, nat_eq}
 use Rattle.std.specs.Borrow.{Bor}
 use Rattle.std.specs.Str.{bytes_eq}
@@ -29,9 +29,7 @@ same_byte m n = grind (arith, nat_tests)
 
 -- names are compared in either order
 pub bytes_eq-swapped : (xs ys : List ℕ) → bytes_eq xs ys ≡ bytes_eq ys xs
-bytes_eq-swapped [] [] = refl
-bytes_eq-swapped [] (y ∷ ys) = refl
-bytes_eq-swapped (x ∷ xs) [] = refl
 bytes_eq-swapped (x ∷ xs) (y ∷ ys) = rw (same_byte x y, bytes_eq-swapped xs ys) refl
+bytes_eq-swapped xs ys = search rules
 
 pub ruleset row_steps = (other_row, same_row, no_row)

@@ -1,29 +1,21 @@
 -- The words of a text, one after the other.
 use Rattle.std.proofs.lemmas.Bool.Decides.{nat_tests}
 use Rattle.std.proofs.lemmas.Grind.{common_steps}
-use Rattle.std.proofs.Common.{◌≡◌, ℕ, ◌+◌, ◌<◌, ◌≤◌, Bool, true, false, cond, List, [], ◌∷◌, length, take, drop, refl, sym, arith, length-take}
+use Rattle.std.proofs.Common.{rules, ◌≡◌, ℕ, ◌+◌, ◌<◌, ◌≤◌, Bool, List, [], ◌∷◌, length, take, drop, refl, arith, length-take}
 use Rattle.std.proofs.lemmas.List.{drop-drop, drop_all}
-use Rattle.std.specs.Prelude.{Some, None, nat_lt}
+use Rattle.std.specs.Prelude.{Some, None}
 use Rattle.std.specs.List.{position_or_len, position, slice_split}
-use Rattle.std.proofs.lemmas.Bool.{lt-ltb, le-ltb, ltb-false}
+use Rattle.std.proofs.lemmas.Bool.{lt-ltb, le-ltb}
 use Rattle.std.proofs.lemmas.List.Splits.{slice_split_first, slice_split_none}
 use Rattle.std.proofs.lemmas.List.Sums.{fails_before_first}
 use Rattle.rv_base.specs.Words.{is_blank, words}
 
-found : (p n m : ℕ) (t : Bool) → cond t (Some p) None ≡ Some n → n ≡ p
-found p n m true h = cc
-found p n m false h = absurd cc
-
-missing : (p m : ℕ) (t : Bool) → nat_lt p m ≡ t → cond t (Some p) None ≡ None → m ≤ p
-missing p m true e h = absurd cc
-missing p m false e h = ltb-false p m e
-
 -- the place of the first element that passes, and that none passes
 pub position_some : (p : ℕ → Bool) (xs : List ℕ) (n : ℕ) → Some n ≡ position p xs → n ≡ position_or_len p xs
-position_some p xs n h = found _ n (length xs) (nat_lt (position_or_len p xs) (length xs)) (sym h)
+position_some p xs n h = search rules
 
 pub position_none : (p : ℕ → Bool) (xs : List ℕ) → None ≡ position p xs → length xs ≤ position_or_len p xs
-position_none p xs h = missing _ (length xs) (nat_lt (position_or_len p xs) (length xs)) refl (sym h)
+position_none p xs h = search (rules, nat_tests)
 
 split_first : (xs : List ℕ) (n : ℕ) → Some n ≡ position is_blank xs → n < length xs →
     slice_split is_blank xs ≡ take n xs ∷ slice_split is_blank (drop (n + 1) xs)
