@@ -1,7 +1,7 @@
 -- How long the text of an instruction is.
-use Rattle.std.proofs.Common.{ℕ, suc, ◌^◌, ◌<◌, ◌≤◌, ◌≡◌, length, subst, sym, arith, length-append}
+use Rattle.std.proofs.Common.{rules, ℕ, ◌^◌, ◌<◌, ◌≤◌, ◌≡◌, length, subst, sym, arith, length-append}
 use Rattle.std.proofs.lemmas.Fmt.{length-decimal-le, length_signed_le}
-use Rattle.std.specs.Prelude.{ℤ, pos, negsuc}
+use Rattle.std.specs.Prelude.{ℤ}
 use Rattle.std.specs.Fmt.{decimal, signed_decimal}
 use Rattle.rv_isa.specs.Number.{IsWithin}
 use Rattle.rv_isa.specs.Formats.{in_format}
@@ -34,16 +34,13 @@ csr_number_length : (n : ℕ) → n < 2 ^ 12 → length (short_hex n) ≤ 5
 csr_number_length n h = omega (arith, hex_length 2 n (omega arith) (omega arith))
 
 immediate_length : (z : ℤ) → IsWithin (2 ^ 11) z → length (signed_decimal z) ≤ 5
-immediate_length (pos n) h = length_signed_le 4 (pos n) (omega arith) (omega arith)
-immediate_length (negsuc n) h = length_signed_le 4 (negsuc n) (omega arith) (omega arith)
+immediate_length z h = search (rules, length_signed_le 4 z)
 
 branch_length : (z : ℤ) → IsWithin (2 ^ 12) z → length (target z) ≤ 6
-branch_length (pos n) h = omega (arith, length-decimal-le 4 n (omega arith) (omega arith) (omega arith))
-branch_length (negsuc n) h = omega (arith, length-decimal-le 4 (suc n) (omega arith) (omega arith) (omega arith))
+branch_length z h = search (rules, length-decimal-le 4)
 
 jump_length : (z : ℤ) → IsWithin (2 ^ 20) z → length (target z) ≤ 9
-jump_length (pos n) h = omega (arith, length-decimal-le 7 n (omega arith) (omega arith) (omega arith))
-jump_length (negsuc n) h = omega (arith, length-decimal-le 7 (suc n) (omega arith) (omega arith) (omega arith))
+jump_length z h = search (rules, length-decimal-le 7)
 
 -- ---- lines
 

@@ -1,8 +1,8 @@
 -- The meaning of a word is the kind of the operation whose codes it has, with the fields at their places.
 use Rattle.std.proofs.lemmas.Grind.{common_steps}
-use Rattle.std.proofs.Common.{◌≡◌, ◌∙◌, ℕ, ◌/◌, ◌%◌, ◌^◌, ◌<◌, Bool, true, false, nat_lt, List, [], ◌∷◌, Option, Some, None, refl, sym, ap, subst, SFits, w32, arith}
+use Rattle.std.proofs.Common.{rules, ◌≡◌, ◌∙◌, ℕ, ◌/◌, ◌%◌, ◌^◌, ◌<◌, Bool, true, false, List, [], ◌∷◌, Option, Some, None, refl, sym, ap, subst, SFits, w32, arith}
 use Rattle.std.specs.Prelude.{if◌then◌else◌}
-use Rattle.std.proofs.lemmas.Bool.{ltb-true, lt-ltb, true≢false}
+use Rattle.std.proofs.lemmas.Bool.{ltb-true, lt-ltb}
 use Rattle.std.proofs.lemmas.Bool.Decides.{nat_tests}
 use Rattle.std.proofs.lemmas.Option.{none-some, same_Some}
 use Rattle.rv_isa.specs.Fields.{kind_of, encoded, AreInRange, with_fields}
@@ -105,14 +105,9 @@ unfolding Means
 by_operation w (Some x) e b = (read x w, read_fits x w b, refl, read_encoded x w b (first_has w operations x e))
 by_operation w None e b = λ f r q. none-some f.operation (sym e ∙ found w f.operation (word_codes f w r q))
 
-by_size : (w : ℕ) (b : Bool) → nat_lt w (2 ^ 32) ≡ b → Means w (if b then kind_with w (first_in w operations) else None)
-unfolding Means
-by_size w true e = by_operation w (first_in w operations) refl (ltb-true _ _ e)
-by_size w false e = λ f r q. true≢false (sym (lt-ltb _ _ (word_below f w r q)) ∙ e)
-
 pub means_inverts : (w : ℕ) → Means w (means w)
-unfolding means
-means_inverts w = by_size w (nat_lt w (2 ^ 32)) refl
+unfolding Means means
+means_inverts w = search (rules, by_operation, ltb-true, word_below)
 
 none_is : (w : ℕ) (k : Option Kind) → Means w k → Means w None → k ≡ None
 unfolding Means

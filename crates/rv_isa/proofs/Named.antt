@@ -1,7 +1,7 @@
 -- The operation with a mnemonic, found among those with its first letter.
-use Rattle.std.proofs.Common.{◌≡◌, ◌∙◌, ℕ, ◌<◌, ◌≤◌, Bool, true, false, List, [], ◌∷◌, length, get_or, Option, Some, refl, ap, sym, arith}
-use Rattle.std.specs.Prelude.{None, filter, ◌↔◌, if◌then◌else◌}
-use Rattle.std.proofs.lemmas.Option.{none-some, same_Some}
+use Rattle.std.proofs.Common.{rules, ◌≡◌, ◌∙◌, ℕ, ◌<◌, ◌≤◌, false, List, [], ◌∷◌, length, get_or, Some, refl, ap, sym, arith}
+use Rattle.std.specs.Prelude.{None, filter, ◌↔◌}
+use Rattle.std.proofs.lemmas.Option.{same_Some}
 use Rattle.std.proofs.lemmas.Slice.Eq.{bytes_eq-Decides}
 use Rattle.std.specs.Str.{bytes_eq}
 use Rattle.rv_isa.specs.declared.op.Operation.{Operation}
@@ -17,19 +17,12 @@ those_with letter ops = filter (λ op. begins letter (mnemonic op)) ops
 
 -- a text that begins with another letter
 other : (letter : ℕ) (rest text : List ℕ) → begins letter text ≡ false → bytes_eq text (letter ∷ rest) ≡ false
-other letter rest [] e = refl
-other letter rest (b ∷ bs) e = rw e refl
-
-step : (letter : ℕ) (rest : List ℕ) (op : Operation) (ops : List Operation) (b : Bool) → begins letter (mnemonic op) ≡ b
-    → first_named (letter ∷ rest) ops ≡ first_named (letter ∷ rest) (those_with letter ops)
-    → first_named (letter ∷ rest) (op ∷ ops) ≡ first_named (letter ∷ rest) (those_with letter (op ∷ ops))
-step letter rest op ops true e h = rw (e, h) refl
-step letter rest op ops false e h = rw (e, other letter rest (mnemonic op) e) h
+other letter rest text e = search rules
 
 among : (letter : ℕ) (rest : List ℕ) (ops : List Operation) →
     first_named (letter ∷ rest) ops ≡ first_named (letter ∷ rest) (those_with letter ops)
 among letter rest [] = refl
-among letter rest (op ∷ ops) = step letter rest op ops (begins letter (mnemonic op)) refl (among letter rest ops)
+among letter rest (op ∷ ops) = search (rules, other, among letter rest ops)
 
 pub named_among : (text : List ℕ) → 1 ≤ length text → named text ≡ first_named text (beginning_with (get_or text 0 0))
 unfolding beginning_with
@@ -49,16 +42,9 @@ unfolding operations mnemonic
 named_itself o.Lui = refl
 named_itself x = refl
 
-by_row : (text : List ℕ) (y : Operation) (others : Option Operation) (x : Operation) (b : Bool)
-    → bytes_eq (mnemonic y) text ≡ b → (others ≡ Some x → mnemonic x ≡ text)
-    → (if b then Some y else others) ≡ Some x → mnemonic x ≡ text
-by_row text y others x true b h e = ap mnemonic (sym (same_Some y x e)) ∙ (bytes_eq-Decides (mnemonic y) text).0 b
-by_row text y others x false b h e = h e
-
 first_has : (text : List ℕ) (ops : List Operation) (x : Operation) → first_named text ops ≡ Some x → mnemonic x ≡ text
-first_has text [] x e = absurd (none-some x e)
-first_has text (y ∷ ys) x e =
-    by_row text y (first_named text ys) x (bytes_eq (mnemonic y) text) refl (first_has text ys x) e
+first_has text [] x e = absurd cc
+first_has text (y ∷ ys) x e = search (rules, bytes_eq-Decides, same_Some, first_has text ys x)
 
 pub one_mnemonic : (text : List ℕ) (x : Operation) → (named text ≡ Some x) ↔ (mnemonic x ≡ text)
 one_mnemonic text x = (first_has text operations x, λ e. ap named (sym e) ∙ named_itself x)

@@ -2,6 +2,7 @@
 use Rattle.std.proofs.lemmas.Bool.Decides.{nat_tests}
 use Rattle.std.proofs.lemmas.Grind.{common_steps}
 use Rattle.std.proofs.Common.{◌≡◌, ◌∙◌, ℕ, ℤ, pos, negsuc, refl, ap, sym, subst, SFits, w32, arith}
+use Rattle.std.proofs.lemmas.Int.{to_z-of_z}
 use Rattle.rv_isa.specs.Fields.{kind_of, with_fields}
 use Rattle.rv_isa.specs.Formats.{in_format}
 use Rattle.rv_isa.specs.Table.{row, Encoding, R}
@@ -47,3 +48,5 @@ pub normal_fields : (x : Operation) (rd rs1 rs2 : ℕ) (imm : ℤ) (n : Fields) 
     → IsInRange (kind_of (with_fields x rd rs1 rs2 imm)) → fields_of (kind_of n) ≡ n
 unfolding kind_of
 normal_fields x rd rs1 rs2 imm n c b e is r = grind (arith, nat_tests, common_steps, kind, fields)
+
+pub ruleset normal_laws = (normal_kind, normal_range, normal_fields, to_z-of_z)

@@ -1,7 +1,7 @@
 -- Words as signed numbers, and signed numbers as words.
 use Rattle.std.proofs.lemmas.Bool.Decides.{nat_tests}
 use Rattle.std.proofs.lemmas.Grind.{common_steps}
-use Rattle.std.proofs.Common.{◌≡◌, ◌∙◌, ℕ, zero, suc, ◌-◌, ◌/◌, ◌%◌, ◌^◌, ◌<◌, ◌≤◌, refl, sym, ap, subst, ℤ, pos, negsuc, ◌*ℤ◌, w32, w64, SFits, to_z, of_z, arith}
+use Rattle.std.proofs.Common.{rules, ◌≡◌, ◌∙◌, ℕ, zero, suc, ◌-◌, ◌^◌, ◌<◌, ◌≤◌, refl, ap, ℤ, pos, ◌*ℤ◌, w32, w64, SFits, to_z, of_z, arith}
 use Rattle.std.specs.Prelude.{int_div, int_rem}
 use Rattle.std.specs.Int.{int_wrapping_div}
 use Rattle.std.specs.Int.RustNames.{unsigned_abs}
@@ -16,12 +16,10 @@ signed_is a = grind (arith, nat_tests, common_steps)
 
 -- a number after casts to a word, to 64 bits and back
 widened : (x : ℤ) → SFits w32 x → to_z w64 (of_z w64 (to_z w32 (of_z w32 x))) ≡ x
-widened x f = ap (λ (z : ℤ). to_z w64 (of_z w64 z)) (to_z-of_z w32 x f)
-    ∙ to_z-of_z w64 x (record { sfits = omega (arith, f.sfits) })
+widened x f = search (rules, to_z-of_z)
 
 abs_le : (x : ℤ) → SFits w32 x → unsigned_abs x ≤ 2 ^ 31
-abs_le (pos n) f = omega (arith, f.sfits)
-abs_le (negsuc n) f = omega (arith, f.sfits)
+abs_le x f = search rules
 
 -- the product of two words as signed numbers, and of a signed and an unsigned one, in 64 bits
 pub signed_product : (a b : ℕ) (x y : ℤ) → SFits w32 x → SFits w32 y → x ≡ to_z w32 a → y ≡ to_z w32 b
@@ -38,7 +36,7 @@ mixed_is_small x b f h = fits_signed_mul w64 x (pos b) (2 ^ 31) (2 ^ 32 - 1) (ab
 
 pub mixed_fits : (x : ℤ) (b : ℕ) → SFits w32 x → b < 2 ^ 32 →
     SFits w64 (to_z w64 (of_z w64 (to_z w32 (of_z w32 x))) *ℤ to_z w64 b)
-mixed_fits x b f h = subst (SFits w64) (sym (mixed_factors x b f h)) (mixed_is_small x b f h)
+mixed_fits x b f h = rw (mixed_factors x b f h) (mixed_is_small x b f h)
 
 pub mixed_product : (a b : ℕ) (x : ℤ) → SFits w32 x → b < 2 ^ 32 → x ≡ to_z w32 a
     → to_z w64 (of_z w64 (to_z w64 (of_z w64 (to_z w32 (of_z w32 x))) *ℤ to_z w64 b)) ≡ signed a *ℤ pos b
@@ -53,25 +51,22 @@ word_below zero h = refl
 word_below (suc n) h = omega arith
 
 is_word : (z : ℤ) → to_word z < 2 ^ 32
-is_word (pos n) = omega arith
-is_word (negsuc n) = omega arith
+is_word z = search rules
 
 quotient : (x y : ℤ) → SFits w32 x → of_z w32 (int_div x y) ≡ to_word (int_div x y)
-quotient (pos a) (pos b) f = word_above (a / b) (omega (arith, div-le_self a b))
-quotient (pos a) (negsuc b) f = word_below (a / suc b) (omega (arith, div-le_self a (suc b)))
-quotient (negsuc a) (pos b) f = word_below (suc a / b) (omega (arith, div-le_self (suc a) b))
-quotient (negsuc a) (negsuc b) f = word_above (suc a / suc b) (omega (arith, div-le_self (suc a) (suc b)))
+quotient x y f = search (rules, word_above, word_below, div-le_self)
 
 pub quotient_word : (x y : ℤ) → SFits w32 x → of_z w32 (int_wrapping_div w32 x y) ≡ to_word (int_div x y)
 quotient_word x y f = ap (λ (n : ℕ). of_z w32 (to_z w32 n)) (quotient x y f)
     ∙ of_z-to_z w32 (to_word (int_div x y)) (is_word (int_div x y))
 
 pub remainder_word : (x y : ℤ) → SFits w32 x → of_z w32 (int_rem x y) ≡ to_word (int_rem x y)
-remainder_word (pos a) y f = word_above (a % unsigned_abs y) (omega (arith, mod-le a (unsigned_abs y)))
-remainder_word (negsuc a) y f = word_below (suc a % unsigned_abs y) (omega (arith, mod-le (suc a) (unsigned_abs y)))
+remainder_word x y f = search (rules, word_above, word_below, mod-le)
 
 -- the value of an operation on the signed numbers of two words, cast to a word
 pub word_of : (op : ℤ → ℤ → ℤ) (meaning : ℤ → ℤ → ℕ) (a b r : ℕ) (x y z : ℤ) → SFits w32 x → SFits w32 y → SFits w32 z
     → x ≡ to_z w32 a → y ≡ to_z w32 b → z ≡ op (to_z w32 (of_z w32 x)) (to_z w32 (of_z w32 y)) →
     r ≡ of_z w32 (to_z w32 (of_z w32 z)) → of_z w32 (op x y) ≡ meaning x y → r ≡ meaning (signed a) (signed b)
 word_of op meaning a b r x y z f g h e d is was small = grind (arith, nat_tests, common_steps, to_z-of_z, signed_is)
+
+pub ruleset word_laws = (word_of, quotient_word, remainder_word)

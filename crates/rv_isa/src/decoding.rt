@@ -34,6 +34,7 @@ pub fn meaning_inverts()
 {}
 
 /// Returns the instruction of an operation with the fields at their places in a word.
+#[tactic(auto, using(crate::proofs::Meaning::read_kind, crate::proofs::Meaning::read_range, crate::proofs::Meaning::read_laid))]
 fn read(operation: Operation, word: u32) -> Instr
     ensures { result ≡ kind_of (spec.read operation word) }
 {

@@ -54,6 +54,7 @@ impl Instr {
 
     /// Returns the instruction of a kind whose fields are in range.
     #[inline(always)]
+    #[tactic(auto, using(crate::proofs::OneLayout::kept))]
     pub fn of(kind: Kind) -> Instr
         requires { IsInRange kind }
         ensures { result ≡ kind }

@@ -48,6 +48,7 @@ fn first_named(operations: &[Operation], mnemonic: &[u8]) -> Option<Operation>
 impl Operation {
     /// Returns the instruction of the operation with these fields. Those that the operation doesn't have
     /// count for nothing.
+    #[tactic(auto, using(crate::proofs::Normal::normal_laws))]
     pub fn with(self, rd: Reg, rs1: Reg, rs2: Reg, imm: i32) -> Instr
         requires { IsInRange (kind_of (with_fields self rd rs1 rs2 imm)) }
         ensures { result ≡ kind_of (with_fields self rd rs1 rs2 imm) }
