@@ -1,5 +1,6 @@
 -- The entries that match addresses, one after another.
-use Rattle.std.proofs.Common.{◌≡◌, ℕ, zero, suc, ◌+◌, ◌<◌, ◌≤◌, true, false, cond, List, [], ◌∷◌, ◌++◌, length, take, drop, get_or, refl, ◌∙◌, arith, add-one, append_assoc, append-nil}
+use Rattle.std.proofs.Common.{◌≡◌, ℕ, ◌+◌, ◌<◌, ◌≤◌, true, false, List, [], ◌∷◌, ◌++◌, length, take, drop, get_or, refl, add-one, append_assoc, append-nil}
+use Rattle.std.proofs.Math.Seq.{drop-cons}
 use Rattle.std.proofs.lemmas.List.{take_more_set, drop_all}
 use Rattle.std.proofs.Math.ListN.{set}
 use Rattle.rv_pmp.specs.declared.active_entries.ActiveEntry.{ActiveEntry}
@@ -11,31 +12,20 @@ pub take_push : (items : List ActiveEntry) (count : ℕ) (a : ActiveEntry) → c
     → take (count + 1) (set items count a) ≡ take count items ++ a ∷ []
 take_push items count a h = take_more_set items count a h
 
-actives_from-drop : (lower : ℕ) (es : List Entry) (i : ℕ) (e : Entry) → i < length es → actives_from lower (drop i es)
-    ≡ cond (is_matching (get_or es i e).matching)
-    (active_of lower (get_or es i e) ∷ actives_from (get_or es i e).address (drop (suc i) es))
-    (actives_from (get_or es i e).address (drop (suc i) es))
-unfolding actives_from
-actives_from-drop lower [] i e h = absurd (omega arith)
-actives_from-drop lower (x ∷ es) zero e h = refl
-actives_from-drop lower (x ∷ es) (suc i) e h = actives_from-drop lower es i e (omega arith)
-
 -- the next entry matches addresses, or it doesn't
 pub one_more : (lower : ℕ) (es : List Entry) (xs ys all : List ActiveEntry) (i : ℕ) (e : Entry) (a : ActiveEntry)
     → i < length es
     → is_matching (get_or es i e).matching ≡ true → a ≡ active_of lower (get_or es i e) → ys ≡ xs ++ a ∷ []
     → xs ++ actives_from lower (drop i es) ≡ all → ys ++ actives_from (get_or es i e).address (drop (i + 1) es) ≡ all
-one_more lower es xs ys all i e a h on is more done = rw (more, is) (join ∙ done) where
-  join : (xs ++ active_of lower (get_or es i e) ∷ []) ++ actives_from (get_or es i e).address
-      (drop (i + 1) es) ≡ xs ++ actives_from lower (drop i es)
-  join = rw (actives_from-drop lower es i e h, on, add-one, append_assoc) refl
+unfolding actives_from
+one_more lower es xs ys all i e a h on is more done =
+    rw (more, is, ← done, drop-cons es i e h, on, add-one, append_assoc) refl
 
 pub none_more : (lower : ℕ) (es : List Entry) (xs ys all : List ActiveEntry) (i : ℕ) (e : Entry) → i < length es
     → is_matching (get_or es i e).matching ≡ false → ys ≡ xs → xs ++ actives_from lower (drop i es) ≡ all
     → ys ++ actives_from (get_or es i e).address (drop (i + 1) es) ≡ all
-none_more lower es xs ys all i e h off same done = rw same (join ∙ done) where
-  join : xs ++ actives_from (get_or es i e).address (drop (i + 1) es) ≡ xs ++ actives_from lower (drop i es)
-  join = rw (actives_from-drop lower es i e h, off, add-one) refl
+unfolding actives_from
+none_more lower es xs ys all i e h off same done = rw (same, ← done, drop-cons es i e h, off, add-one) refl
 
 pub no_more : (lower : ℕ) (es : List Entry) (xs : List ActiveEntry) (i : ℕ) → length es ≤ i
     → xs ++ actives_from lower (drop i es) ≡ xs

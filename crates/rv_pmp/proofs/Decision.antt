@@ -1,66 +1,49 @@
 -- The decision by spans is the one by number.
-use Rattle.std.proofs.Common.{rules, ◌≡◌, ℕ, zero, suc, ◌+◌, ◌-◌, ◌*◌, ◌%◌, ◌^◌, ◌<◌, ◌≤◌, ◌⊎◌, inl, inr, Bool, true, false, cond, List, [], ◌∷◌, length, drop, get_or, Option, Some, None, refl, ap, sym, ◌∙◌, arith, add-one, add-zero, nat_lt, nat_le, ◌/◌, ◌==◌, eqb-true, mul_assoc, div-add-mod', add-sub_of_le}
-use Rattle.std.specs.Prelude.{if◌then◌else◌, ◌&&◌, ◌||◌, find, unwrap_or}
+use Rattle.std.proofs.Common.{rules, ◌≡◌, ℕ, zero, suc, ◌+◌, ◌-◌, ◌*◌, ◌%◌, ◌^◌, ◌<◌, ◌≤◌, ◌⊎◌, inl, Bool, true, false, cond, List, [], ◌∷◌, length, drop, get_or, Option, Some, None, refl, ap, sym, ◌∙◌, arith, add-one, add-zero, nat_lt, nat_le, ◌/◌, ◌==◌, eqb-true, mul_assoc, div-add-mod', add-sub_of_le}
+use Rattle.std.specs.Prelude.{if◌then◌else◌, ◌&&◌, find, unwrap_or}
 use Rattle.std.specs.List.{list_any, list_all, range_with_len}
 use Rattle.std.specs.Option.{option_map_or}
 use Rattle.std.proofs.lemmas.Bool.{and_parts, or_parts}
 use Rattle.std.proofs.lemmas.Bool.Decides.{nat_tests}
 use Rattle.std.proofs.lemmas.Grind.{common_steps}
+use Rattle.std.proofs.Math.Seq.{drop-cons}
+use Rattle.std.proofs.lemmas.List.{drop_all}
 use Rattle.std.proofs.lemmas.Nat.{pow_pos, pow-add, mod_below, div-mul-add}
 use Rattle.rv_isa.specs.Width.{bytes_of}
 use Rattle.rv_isa.specs.declared.op.Width.{Width}
-use Rattle.rv_isa.specs.declared.op.Width.TheVariants.{One, Two, Four}
 use Rattle.rv_pmp.specs.declared.access.Access.{Access}
 use Rattle.rv_pmp.specs.declared.mode.Mode.{Mode}
 use Rattle.rv_pmp.specs.declared.mode.Mode.TheVariants.{Machine}
 use Rattle.rv_pmp.specs.declared.entry.Entry.{Entry}
 use Rattle.rv_pmp.specs.declared.entry.Matching.{Matching}
-use Rattle.rv_pmp.specs.declared.entry.Matching.TheVariants.{Off, Tor, Na4, Napot}
+use Rattle.rv_pmp.specs.declared.entry.Matching.TheVariants.{Napot}
 use Rattle.rv_pmp.specs.declared.active_entries.ActiveEntry.{ActiveEntry}
 use Rattle.rv_pmp.specs.declared.span.Span.{Span}
 use Rattle.rv_pmp.specs.Mode.{is_machine}
 use Rattle.rv_pmp.specs.Entry.{matched, permits, trailing_ones}
 use Rattle.rv_pmp.specs.Support.ActiveEntries.{entry_answer, decision, some_on, some_locked, active_of, actives_from}
 use Rattle.rv_pmp.specs.Pmp.{PmpState, decided, decider, entry_at, grants, lower_of, matches, off_entry}
-use Rattle.rv_pmp.specs.Support.Span.{is_between, span, span_of, holds, meets, no_bytes}
+use Rattle.rv_pmp.specs.Support.Span.{is_between, span, span_of, holds, meets}
 
 -- ---- one step of the search
-
--- the answer of the entry at a place, or of the rest
-step : Mode → Access → ℕ → ℕ → ActiveEntry → Option Bool → Option Bool
-step mode access first last a rest = if meets a.span first last
-    then Some (holds a.span first last && permits a.entry mode access) else rest
-
-decision-drop : (mode : Mode) (access : Access) (first last : ℕ) (xs : List ActiveEntry) (i : ℕ) (a : ActiveEntry)
-    → i < length xs → decision mode access first last (drop i xs)
-    ≡ step mode access first last (get_or xs i a) (decision mode access first last (drop (suc i) xs))
-unfolding decision step
-decision-drop mode access first last [] i a h = absurd (omega arith)
-decision-drop mode access first last (x ∷ xs) zero a h = refl
-decision-drop mode access first last (x ∷ xs) (suc i) a h = grind (arith, decision-drop mode access first last xs i a)
 
 pub decision-entry_answer : (mode : Mode) (access : Access) (first last : ℕ) (xs : List ActiveEntry) (i : ℕ)
     (a : ActiveEntry) (granted : Bool)
     → i < length xs → entry_answer mode access first last (get_or xs i a) ≡ Some granted
     → decision mode access first last (drop i xs) ≡ Some granted
-unfolding step
-decision-entry_answer mode access first last xs i a granted h e =
-    rw (decision-drop mode access first last xs i a h) (search rules)
+unfolding decision
+decision-entry_answer mode access first last xs i a granted h e = rw (drop-cons xs i a h) (search rules)
 
 pub decision-passed : (mode : Mode) (access : Access) (first last : ℕ) (xs : List ActiveEntry) (i : ℕ) (a : ActiveEntry)
     → i < length xs → entry_answer mode access first last (get_or xs i a) ≡ None
     → decision mode access first last (drop (i + 1) xs) ≡ decision mode access first last (drop i xs)
-unfolding step
-decision-passed mode access first last xs i a h e =
-    rw (add-one, decision-drop mode access first last xs i a h) (search rules)
+unfolding decision
+decision-passed mode access first last xs i a h e = rw (add-one, drop-cons xs i a h) (search rules)
 
 pub decision-end : (mode : Mode) (access : Access) (first last : ℕ) (xs : List ActiveEntry) (i : ℕ)
     → length xs ≤ i → decision mode access first last (drop i xs) ≡ None
 unfolding decision
-decision-end mode access first last [] zero h = refl
-decision-end mode access first last [] (suc i) h = refl
-decision-end mode access first last (x ∷ xs) zero h = absurd (omega arith)
-decision-end mode access first last (x ∷ xs) (suc i) h = grind (arith, decision-end mode access first last xs i)
+decision-end mode access first last xs i h = rw (drop_all i xs h) refl
 
 -- ---- a region as a span
 
@@ -70,35 +53,18 @@ record IsWhole (s : Span) : Type 0 where
   pub last_word : s.«end» % 4 ≡ 0
   pub some_byte : (s.first < s.«end») ⊎ (s.«end» ≡ 0)
 
-whole_no_bytes : IsWhole no_bytes
-whole_no_bytes = record { first_word = refl; last_word = refl; some_byte = inr refl }
-
-whole_top : (b : Bool) (lower address : ℕ) → nat_lt lower address ≡ b
-    → IsWhole (if b then record { first = 4 * lower; «end» = 4 * address } else no_bytes)
-whole_top true lower address e = search rules
-whole_top false lower address e = whole_no_bytes
-
 whole_span : (m : Matching) (lower address : ℕ) → IsWhole (span m lower address)
-whole_span Off lower address = whole_no_bytes
-whole_span Tor lower address = whole_top (nat_lt lower address) lower address refl
-whole_span Na4 lower address = search rules
 whole_span Napot lower address =
     let k = trailing_ones address in
     let p : (2 ^ (k + 3) % 4 ≡ 0) × (0 < 2 ^ (k + 3)) = (omega (arith, pow-add 2 k 3), omega (arith, pow_pos (k + 3))) in
     let b : ℕ = address / 2 ^ (k + 1) in
     let q : b * 2 ^ (k + 3) % 4 ≡ 0 = omega (arith, ap (λ n. b * n) (pow-add 2 k 3), mul_assoc b (2 ^ k) 8) in
     record { first_word = omega arith; last_word = omega arith; some_byte = inl (omega arith) }
+whole_span m lower address = search rules
 
 whole : (lower : ℕ) (e : Entry) → IsWhole (span_of lower e)
 unfolding span_of
 whole lower e = whole_span e.matching lower e.address
-
-top_between : (b : Bool) (lower address byte : ℕ) → nat_lt lower address ≡ b
-    → (nat_le lower (byte / 4) && nat_lt (byte / 4) address)
-    ≡ is_between (if b then record { first = 4 * lower; «end» = 4 * address } else no_bytes).first
-    (if b then record { first = 4 * lower; «end» = 4 * address } else no_bytes).«end» byte
-top_between true lower address byte e = grind (arith, nat_tests)
-top_between false lower address byte e = grind (arith, nat_tests)
 
 -- the bytes of block q, where blocks have d bytes
 block_between : (byte d q : ℕ) → 0 < d → (byte / d == q) ≡ is_between (q * d) (q * d + d) byte
@@ -106,10 +72,7 @@ block_between byte d q some = grind (arith, nat_tests, common_steps, eqb-true, d
 
 matched-between : (m : Matching) (lower address byte : ℕ)
     → matched m lower address byte ≡ is_between (span m lower address).first (span m lower address).«end» byte
-matched-between Off lower address byte = grind (arith, nat_tests)
-matched-between Tor lower address byte = top_between (nat_lt lower address) lower address byte refl
-matched-between Na4 lower address byte = grind (arith, nat_tests)
-matched-between Napot lower address byte = search (rules, block_between, pow_pos)
+matched-between m lower address byte = search (rules, nat_tests, block_between, pow_pos)
 
 entry-between : (lower : ℕ) (e : Entry) (byte : ℕ)
     → matched e.matching lower e.address byte ≡ is_between (span_of lower e).first (span_of lower e).«end» byte
@@ -119,8 +82,7 @@ entry-between lower e byte = matched-between e.matching lower e.address byte
 -- ---- the bytes that an entry matches, and the first entry that matches a byte
 
 pub lower_before : (pmp : PmpState) (n : ℕ) → 0 < n → lower_of pmp n ≡ (entry_at pmp (n - 1)).address
-lower_before pmp zero h = absurd (omega arith)
-lower_before pmp (suc n) h = let same : suc n - 1 ≡ n = omega arith in ap (λ k. (entry_at pmp k).address) (sym same)
+lower_before pmp n h = search rules
 
 pub matched_span : (pmp : PmpState) (n lower byte : ℕ) (s : Span) → lower ≡ lower_of pmp n
     → s ≡ span_of lower (entry_at pmp n) → matches pmp n byte ≡ (nat_le s.first byte && nat_lt byte s.«end»)
@@ -174,6 +136,11 @@ all_matched : (lower : ℕ) (e : Entry) (a n : ℕ)
 all_matched lower e a n = search (rules, nat_tests, entry-between, all_between)
 
 -- ---- the decision by spans is the one by number
+
+-- the answer of an entry, or of the rest
+step : Mode → Access → ℕ → ℕ → ActiveEntry → Option Bool → Option Bool
+step mode access first last a rest = if meets a.span first last
+    then Some (holds a.span first last && permits a.entry mode access) else rest
 
 -- the decision of the entries from one on: the answer of that one, whether it matches addresses or not, or of
 -- the rest
@@ -247,24 +214,13 @@ decision-word access first last lower (e ∷ es) free some within = grind (arith
 
 -- ---- the answer of the registers
 
-same_lower : (pmp : PmpState) (n : ℕ) → lower_of pmp n ≡ lower_from 0 pmp.entries n
-same_lower pmp zero = refl
-same_lower pmp (suc n) = refl
-
 same_matches : (pmp : PmpState) (n byte : ℕ) → matches pmp n byte ≡ matches_from 0 pmp.entries n byte
-same_matches pmp n byte = search (rules, same_lower)
-
--- the decision of an entry, if any
-decision_of : (pmp : PmpState) (mode : Mode) (access : Access) (bytes : List ℕ) (n : Option ℕ)
-    → decided pmp mode access bytes n
-    ≡ option_map_or (λ n. list_all (matches pmp n) bytes && permits (entry_at pmp n) mode access) n (is_machine mode)
-decision_of pmp mode access bytes None = refl
-decision_of pmp mode access bytes (Some n) = refl
+same_matches pmp n byte = search rules
 
 by_entries : (pmp : PmpState) (mode : Mode) (access : Access) (bytes : List ℕ)
     → decided pmp mode access bytes (decider pmp bytes)
     ≡ decided_from mode access bytes 0 pmp.entries (range_with_len 0 (length pmp.entries))
-by_entries pmp mode access bytes = grind (arith, nat_tests, common_steps, decision_of, same_matches)
+by_entries pmp mode access bytes = search (rules, same_matches)
 
 pub decision-grants : (pmp : PmpState) (mode : Mode) (access : Access) (first count : ℕ) → 0 < count
     → unwrap_or (decision mode access first (first + count) (actives_from 0 pmp.entries)) (is_machine mode)
@@ -275,8 +231,10 @@ decision-grants pmp mode access first (suc n) h = grind (arith, nat_tests, commo
 
 pub grants-off : (pmp : PmpState) (mode : Mode) (access : Access) (first count : ℕ) → 0 < count
     → some_on pmp.entries ≡ false → grants pmp mode access first count ≡ is_machine mode
-grants-off pmp mode access first count h off = sym (decision-grants pmp mode access first count h)
-    ∙ ap (λ o. unwrap_or o (is_machine mode)) (decision-off mode access first (first + count) 0 pmp.entries off)
+grants-off pmp mode access first count h off = rw (
+  ← decision-grants pmp mode access first count h,
+  decision-off mode access first (first + count) 0 pmp.entries off,
+) refl
 
 pub grants-word : (pmp : PmpState) (access : Access) (first count : ℕ) → 0 < count
     → some_locked pmp.entries ≡ false → first % 4 + count ≤ 4 → grants pmp Machine access first count ≡ true
@@ -286,9 +244,7 @@ grants-word pmp access first count h free within = sym (decision-grants pmp Mach
 -- so if no entry is locked, machine mode is granted every aligned access
 pub grants-aligned : (pmp : PmpState) (access : Access) (first : ℕ) (w : Width)
     → some_locked pmp.entries ≡ false → first % bytes_of w ≡ 0 → grants pmp Machine access first (bytes_of w) ≡ true
-grants-aligned pmp access first One free aligned = search (rules, grants-word)
-grants-aligned pmp access first Two free aligned = search (rules, grants-word)
-grants-aligned pmp access first Four free aligned = search (rules, grants-word)
+grants-aligned pmp access first w free aligned = search (rules, grants-word)
 
 -- ---- bytes that are granted together are granted one by one
 
@@ -313,25 +269,18 @@ decided_each : (pmp : PmpState) (mode : Mode) (access : Access) (first count i :
     (find (λ n. list_any (matches pmp n) (range_with_len (first + i) 1)) ns) ≡ true
 decided_each pmp mode access first count i h [] granted = granted
 decided_each pmp mode access first count i h (n ∷ ns) granted =
-    go (list_any (matches pmp n) bytes) refl (decided_each pmp mode access first count i h ns) granted
-  where
-    bytes : List ℕ
-    bytes = range_with_len first count
-
-    one : List ℕ
-    one = range_with_len (first + i) 1
-
-    go : (b : Bool) → list_any (matches pmp n) bytes ≡ b
-        → (decided pmp mode access bytes (find (λ n. list_any (matches pmp n) bytes) ns) ≡ true
-        → decided pmp mode access one (find (λ n. list_any (matches pmp n) one) ns) ≡ true)
-        → decided pmp mode access bytes (cond b (Some n) (find (λ n. list_any (matches pmp n) bytes) ns)) ≡ true
-        → decided pmp mode access one
-        (cond (matches pmp n (first + i) || false) (Some n) (find (λ n. list_any (matches pmp n) one) ns)) ≡ true
-    go true m later r =
-        let parts = and_parts (list_all (matches pmp n) bytes) (permits (entry_at pmp n) mode access) r in
-        let held = all_bytes (matches pmp n) first count i h parts.0 in
-        rw (held, held) parts.1
-    go false m later r = rw (any_byte (matches pmp n) first count i h m) (later r)
+    elim (list_any (matches pmp n) (range_with_len first count)) as (λ b.
+    list_any (matches pmp n) (range_with_len first count) ≡ b → decided pmp mode access (range_with_len first count)
+    (cond b (Some n) (find (λ n. list_any (matches pmp n) (range_with_len first count)) ns)) ≡ true
+    → decided pmp mode access (range_with_len (first + i) 1)
+    (find (λ n. list_any (matches pmp n) (range_with_len (first + i) 1)) (n ∷ ns)) ≡ true) [
+      | true ↦ λ m r.
+          let parts = and_parts (list_all (matches pmp n) (range_with_len first count)) _ r in
+          let held = all_bytes (matches pmp n) first count i h parts.0 in
+          rw (held, held) parts.1
+      | false ↦ λ m r.
+          rw (any_byte (matches pmp n) first count i h m) (decided_each pmp mode access first count i h ns r)
+    ] refl granted
 
 pub grants_each : (pmp : PmpState) (mode : Mode) (access : Access) (first count i : ℕ) → i < count
     → grants pmp mode access first count ≡ true → grants pmp mode access (first + i) 1 ≡ true
@@ -342,13 +291,13 @@ grants_each pmp mode access first count i h granted = search (rules, nat_tests, 
 pub grants-some : (pmp : PmpState) (mode : Mode) (access : Access) (first count : ℕ) (granted : Bool) → 0 < count
     → decision mode access first (first + count) (actives_from 0 pmp.entries) ≡ Some granted
     → grants pmp mode access first count ≡ granted
-grants-some pmp mode access first count granted h d =
-    sym (decision-grants pmp mode access first count h) ∙ ap (λ o. unwrap_or o (is_machine mode)) d
+grants-some pmp mode access first count granted h d = rw (← decision-grants pmp mode access first count h, d) refl
 
 pub grants-none : (pmp : PmpState) (mode : Mode) (access : Access) (first count : ℕ) → 0 < count
     → decision mode access first (first + count) (actives_from 0 pmp.entries) ≡ None
     → grants pmp mode access first count ≡ is_machine mode
-grants-none pmp mode access first count h d =
-    sym (decision-grants pmp mode access first count h) ∙ ap (λ o. unwrap_or o (is_machine mode)) d
+grants-none pmp mode access first count h d = rw (← decision-grants pmp mode access first count h, d) refl
 
 pub ruleset quick_answers = (grants-off, grants-word, grants-some, grants-none)
+
+pub ruleset deciding = (decision-entry_answer, decision-passed, decision-end)

@@ -1,7 +1,7 @@
 -- The registers by number are what the code reads and writes.
 use Rattle.std.proofs.lemmas.Grind.{common_steps}
-use Rattle.std.proofs.Common.{rules, ◌≡◌, ◌≢◌, ◌∙◌, ℕ, zero, suc, ◌+◌, ◌-◌, ◌*◌, ◌/◌, ◌<◌, ◌≤◌, ◌==◌, Bool, true, false, List, [], ◌∷◌, length, map, get_or, Some, None, refl, ap, sym, arith, add-zero, nat_lt}
-use Rattle.std.specs.Prelude.{slice_get, slice_set, if◌then◌else◌, ◌&&◌, ◌||◌, not}
+use Rattle.std.proofs.Common.{rules, ◌≡◌, ◌≢◌, ◌∙◌, ℕ, zero, suc, ◌+◌, ◌-◌, ◌*◌, ◌<◌, ◌≤◌, ◌==◌, Bool, true, false, List, [], ◌∷◌, length, map, get_or, Some, None, refl, arith, add-zero, nat_lt}
+use Rattle.std.specs.Prelude.{slice_get, slice_set, if◌then◌else◌, ◌&&◌, not}
 use Rattle.std.specs.List.{range_with_len}
 use Rattle.std.specs.Option.{option_map, option_map_or}
 use Rattle.std.proofs.Math.ListN.{get_or-eq_default}
@@ -10,10 +10,10 @@ use Rattle.std.proofs.lemmas.List.FromFn.{fill_by_all, get_or-map-range_with_len
 use Rattle.std.proofs.lemmas.Bool.Decides.{nat_tests}
 use Rattle.rv_pmp.specs.declared.entry.Entry.{Entry}
 use Rattle.rv_pmp.specs.declared.register.PmpRegister.{PmpRegister}
-use Rattle.rv_pmp.specs.declared.register.PmpRegister.TheVariants.{Config, Address}
+use Rattle.rv_pmp.specs.declared.register.PmpRegister.TheVariants.{Config}
 use Rattle.rv_pmp.specs.Entry.{matching_code, config_byte, configured, addressed}
 use Rattle.rv_pmp.specs.Pmp.{PmpState, is_address, is_config, off_entry, entry_at, config_word, is_locked_tor, read_register, write_register, written}
-use Rattle.rv_pmp.specs.Support.Registers.{register_at, config_at, word_of, byte_of, with_config, starts_locked, with_address, with_word}
+use Rattle.rv_pmp.specs.Support.Registers.{register_at, word_of, byte_of, with_config, starts_locked, with_address, with_word}
 use Rattle.rv_pmp.proofs.Writes.{with_config-at, with_config-past, with_address-at, with_address-locked, with_address-past}
 
 -- ---- reads
@@ -28,12 +28,9 @@ by_number f (e ∷ es) (suc n) = by_number f es n
 pub found_entry : (pmp : PmpState) (n : ℕ) → option_map_or (λ e. e) (slice_get pmp.entries n) off_entry ≡ entry_at pmp n
 found_entry pmp n = by_number (λ e. e) pmp.entries n
 
-config : (pmp : PmpState) (n : ℕ) → config_at pmp n ≡ config_byte (entry_at pmp n)
-unfolding config_byte
-config pmp n = by_number config_byte pmp.entries n
-
 four : (pmp : PmpState) (first : ℕ) → word_of pmp (Config first) ≡ config_word pmp first
-four pmp first = search (rules, config, add-zero)
+unfolding config_byte
+four pmp first = search (rules, by_number, add-zero)
 
 pub loads : (pmp : PmpState) (addr : ℕ) → read_register pmp addr ≡ option_map (word_of pmp) (register_at addr)
 unfolding read_register register_at
@@ -72,13 +69,9 @@ config-at es p byte i within = changed (λ e. configured e byte) es (with_config
 
 address-at : (es : List Entry) (p word i : ℕ) → i < length es → at (with_address es p word) i
     ≡ (if (i == p) && not (starts_locked es (p + 1)) then addressed (at es i) word else at es i)
-address-at es p word i within = go (starts_locked es (p + 1)) refl where
-  go : (t : Bool) → starts_locked es (p + 1) ≡ t
-      → at (with_address es p word) i ≡ (if (i == p) && not t then addressed (at es i) word else at es i)
-  go true locked = rw (with_address-locked es p word locked, and-false (i == p)) refl
-  go false free = changed (λ e. addressed e word) es (with_address es p word) p i within
-      (λ inside. with_address-at es p word off_entry inside free) (λ past. with_address-past es p word past)
-      ∙ ap (λ b. if b then addressed (at es i) word else at es i) (sym (and-true (i == p)))
+unfolding with_address starts_locked addressed
+address-at es p word i within =
+    search (rules, with_address-locked, and-false, changed, addressed, with_address-at, with_address-past, and-true)
 
 -- ---- a write to a configuration register
 
@@ -118,18 +111,9 @@ module _ (pmp : PmpState) (addr word i : ℕ) where
   unfolding starts_locked is_locked_tor
   top = by_number (λ e. e.locked && (matching_code e.matching == 1)) pmp.entries (i + 1)
 
-  no_config : is_address addr ≡ true → i < 16 → (addr == 0x3A0 + i / 4) ≡ false
-  no_config is small = grind (arith, nat_tests)
-
-  same_test : is_address addr ≡ true → (c : Bool) → (addr == 0x3B0 + i) ≡ c
-      → ((i == addr - 0x3B0) && not (starts_locked pmp.entries (addr - 0x3B0 + 1)))
-      ≡ (c && not (is_locked_tor pmp (i + 1)))
-  same_test is true here = grind (arith, nat_tests, common_steps, top)
-  same_test is false apart = grind (arith, nat_tests, common_steps)
-
   address_written : is_address addr ≡ true → i < 16 → i < length pmp.entries
       → at (with_address pmp.entries (addr - 0x3B0) word) i ≡ written pmp addr word i
-  address_written is small within = grind (arith, nat_tests, common_steps, address-at, same_test, no_config)
+  address_written is small within = grind (arith, nat_tests, common_steps, address-at, top)
 
 abbrev with_entries : List Entry → PmpState
 with_entries es = record { entries = es }
@@ -154,18 +138,21 @@ module _ (pmp : PmpState) (addr word : ℕ) (sixteen : length pmp.entries ≡ 16
       ≡ option_map (λ register. with_entries (with_word pmp.entries register word)) (register_at addr)
   unfolding write_register register_at entries with_word
   stores = go (is_config addr) refl (is_address addr) refl where
-    go : (a : Bool) → is_config addr ≡ a → (b : Bool) → is_address addr ≡ b
-        → (if a || b then Some (with_entries entries) else None)
-        ≡ option_map (λ register. with_entries (with_word pmp.entries register word))
-        (if a then Some (Config (4 * (addr - 0x3A0))) else (if b then Some (Address (addr - 0x3B0)) else None))
-    go true is b also = ap (λ (es : List Entry). Some (with_entries es))
-        (sym (same _ (configs-length pmp.entries (4 * (addr - 0x3A0)) word)
-        (λ i less. configs-at pmp.entries (4 * (addr - 0x3A0)) word i (omega arith)
-        ∙ config_written pmp addr word i is less)))
-    go false not_config true is = ap (λ (es : List Entry). Some (with_entries es))
-        (sym (same _ (address-length pmp.entries (addr - 0x3B0) word)
-        (λ i less. address_written pmp addr word i is less (omega arith))))
-    go false not_config false not_address = refl
+    go : (a : Bool) → is_config addr ≡ a → (b : Bool) → is_address addr ≡ b → write_register pmp addr word
+        ≡ option_map (λ register. with_entries (with_word pmp.entries register word)) (register_at addr)
+    go true is b also = rw (
+      is,
+      same _ (configs-length pmp.entries (4 * (addr - 0x3A0)) word)
+          (λ i less. configs-at pmp.entries (4 * (addr - 0x3A0)) word i (omega arith)
+          ∙ config_written pmp addr word i is less),
+    ) refl
+    go false not_config true is = rw (
+      not_config,
+      is,
+      same _ (address-length pmp.entries (addr - 0x3B0) word)
+          (λ i less. address_written pmp addr word i is less (omega arith)),
+    ) refl
+    go false not_config false not_address = rw (not_config, not_address) refl
 
   pub stored_by : (register : PmpRegister) (new : PmpState) → Some register ≡ register_at addr
       → new ≡ record { entries = with_word pmp.entries register word } → write_register pmp addr word ≡ Some new

@@ -80,3 +80,5 @@ pub napot_span : (lower : ℕ) (e : Entry) (k : ℕ) → e.matching ≡ Napot �
     }) (span_of lower e)
 unfolding span_of
 napot_span lower e k way is most small = search (rules, power_fits, block_first)
+
+pub ruleset counting = (count_trailing_zeros-complement, trailing_ones-in, ones_in-le)

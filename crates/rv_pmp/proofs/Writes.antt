@@ -1,6 +1,6 @@
 -- The entries after a write.
 use Rattle.std.proofs.Common.{rules, ◌≡◌, ◌≢◌, ℕ, ◌+◌, ◌<◌, ◌≤◌, true, false, List, length, get_or, refl}
-use Rattle.std.specs.Prelude.{IsTrue, slice_set}
+use Rattle.std.specs.Prelude.{slice_set}
 use Rattle.std.proofs.lemmas.Option.{slice_get-get_or, slice_get_past}
 use Rattle.std.proofs.lemmas.List.Elements.{All-set, All-get_or}
 use Rattle.rv_pmp.specs.declared.entry.Entry.{Entry}
@@ -14,16 +14,6 @@ pub matching_rest : (code : ℕ) → code ≢ 0 → code ≢ 1 → code ≢ 2 �
 unfolding matching_of
 matching_rest code a b c = search rules
 
-configured-readable : (e : Entry) (byte : ℕ) → (IsTrue e.writable → IsTrue e.readable)
-    → IsTrue (configured e byte).writable → IsTrue (configured e byte).readable
-unfolding configured
-configured-readable e byte h = search rules
-
-addressed-readable : (e : Entry) (word : ℕ) → (IsTrue e.writable → IsTrue e.readable)
-    → IsTrue (addressed e word).writable → IsTrue (addressed e word).readable
-unfolding addressed
-addressed-readable e word h = search rules
-
 pub with_config-at : (es : List Entry) (place byte : ℕ) (e : Entry) → place < length es
     → with_config es place byte ≡ slice_set es place (configured (get_or es place e) byte)
 unfolding with_config
@@ -35,7 +25,8 @@ with_config-past es place byte h = rw (slice_get_past es place h) refl
 
 pub config-readable : (es : List Entry) (place byte : ℕ) (e : Entry) → place < length es → AllReadable es
     → AllReadable (slice_set es place (configured (get_or es place e) byte))
-config-readable es place byte e h all = search (rules, All-set, configured-readable, All-get_or)
+unfolding configured
+config-readable es place byte e h all = search (rules, All-set, All-get_or)
 
 pub with_address-at : (es : List Entry) (place word : ℕ) (e : Entry) → place < length es
     → starts_locked es (place + 1) ≡ false
@@ -54,7 +45,8 @@ with_address-past es place word h = search (rules, slice_get_past)
 
 pub address-readable : (es : List Entry) (place word : ℕ) (e : Entry) → place < length es → AllReadable es
     → AllReadable (slice_set es place (addressed (get_or es place e) word))
-address-readable es place word e h all = search (rules, All-set, addressed-readable, All-get_or)
+unfolding addressed
+address-readable es place word e h all = search (rules, All-set, All-get_or)
 
 pub ruleset config_steps = (with_config-at, with_config-past, config-readable)
 

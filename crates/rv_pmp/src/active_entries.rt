@@ -89,6 +89,7 @@ impl ActiveEntries {
     }
 
     /// Selects the entries that match addresses.
+    #[tactic(auto, using(crate::proofs::ActiveEntries::no_more))]
     pub(crate) fn of(entries: &[Entry; ENTRIES]) -> ActiveEntries
         ensures { result ≡ actives_from 0 entries.now }
     {

@@ -365,6 +365,7 @@ pub fn bytes_are_granted_alone()
 
 /// Returns the answer of the first entry that has some of the bytes from `first` up to but not including
 /// `end`.
+#[tactic(auto, using(crate::proofs::Decision::deciding))]
 fn decide(actives: &[ActiveEntry], mode: Mode, access: Access, first: u64, end: u64) -> Option<bool>
     ensures { result ≡ decision mode access first end actives.now }
 {
@@ -378,6 +379,7 @@ fn decide(actives: &[ActiveEntry], mode: Mode, access: Access, first: u64, end: 
 
 /// Returns the widest span round `addr` in which the entries grant user mode the access: the permitted part,
 /// of the first entry that has `addr`, of the bytes that no entry before it has.
+#[tactic(auto, using(crate::proofs::Widest::left_free, crate::proofs::Widest::none_free))]
 fn widest_span(actives: &[ActiveEntry], access: Access, addr: u64) -> Span
     requires small { addr < 2 ^ 64 - 1 }
     requires forward { AreForward actives.now }

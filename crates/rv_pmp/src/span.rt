@@ -108,6 +108,7 @@ impl Span {
 }
 
 /// Counts the lowest bits that are ones, up to the first zero.
+#[tactic(auto, using(crate::proofs::TrailingOnes::counting))]
 fn trailing_ones(number: u32) -> u32
     ensures value { result ≡ ones.trailing_ones number }
     ensures at_most { result ≤ 32 }

@@ -1,17 +1,8 @@
 use Rattle.std.proofs.Common.{sym, ◌∙◌, arith}
-use Rattle.rv_pmp.proofs.Widest.{beside_free, left_free, none_free}
+use Rattle.rv_pmp.proofs.Widest.{beside_free}
 use Rattle.rv_pmp.proofs.pmp.widest_span.Goals as goal
 
 pub loop-active-preserved : goal.loop-active-preserved
 loop-active-preserved c = rw c.part_beside-free.ensures
     (beside_free c.args.actives.now c.args.access c.args.addr c.loop-active.free c.loop-active.active-index _
     (omega arith) c.loop-active.invariant (sym c.has.ensures.value ∙ c.if-has.false) c.requires.forward)
-
-pub returns-then-has : goal.returns-then-has
-returns-then-has c = rw c.permitted_part.ensures
-    (left_free c.args.actives.now c.args.access c.args.addr c.loop-active.free c.loop-active.active-index _
-    (omega arith) c.loop-active.invariant (sym c.has.ensures.value ∙ c.if-has.true) c.has.ensures.small)
-
-pub returns : goal.returns
-returns c = none_free c.args.actives.now c.args.access c.args.addr c.loop-active.free c.loop-active.active-index
-    (omega arith) c.loop-active.invariant
