@@ -117,6 +117,6 @@ pub without_next : (ps : List ℕ) (t n : ℕ) (s : Sources) → HasThoseBelow n
 without_next ps t n s so_far low high under q = search rules
 
 pub has_all : (ps : List ℕ) (t n : ℕ) (s : Sources) → 32 ≤ n → HasThoseBelow n ps t s → s ≡ sources_above ps t
-has_all ps t n s past all = search (rules, same_sources, contains-above, in_range, and_from, lt-ltb, and_right)
+has_all ps t n s past all = search (rules, nat_tests, same_sources, contains-above)
 
 pub ruleset collection = (starts_empty, with_next, without_next, has_all)

@@ -38,11 +38,6 @@ module _ (waits : ℕ → Bool) (priority : ℕ → ℕ) where
   abbrev above : ℕ → ℕ → Bool
   above limit source = waits source && nat_lt limit (priority source)
 
-  -- the priority of a source that waits isn't above that of the best
-  not_above : (source other : ℕ) → (above 0 other ≡ true → IsFirst priority source other)
-      → above (priority source) other ≡ false
-  not_above source other first = search rules
-
   -- a source with a lower number than the best has a lower priority
   above_lower : (source other : ℕ) → IsFirst priority source other → other < source → waits source ≡ true
       → above (priority other) source ≡ true
@@ -53,7 +48,7 @@ module _ (waits : ℕ → Bool) (priority : ℕ → ℕ) where
     is_unbeaten source = above 0 source && not (list_any (above (priority source)) (range_with_len 1 n))
 
     best_is_unbeaten : (source : ℕ) → IsBestBelow (1 + n) (above 0) priority (Some source) → is_unbeaten source ≡ true
-    best_is_unbeaten source is = search (rules, and_from, not_from_false, none-range, not_above)
+    best_is_unbeaten source is = search (rules, nat_tests, and_from, not_from_false, none-range)
 
     lower_is_beaten : (source other : ℕ) → IsBestBelow (1 + n) (above 0) priority (Some source) → 1 ≤ other
         → other < source → is_unbeaten other ≡ false

@@ -72,16 +72,16 @@ pub taken_and_given : (s : Sources) (a : ℕ) (edges : Edges) → ((k : ℕ) →
     → changed one_more s a (changed one_less s a edges) ≡ edges
 unfolding changed
 taken_and_given s a [] each = refl
-taken_and_given s a (n ∷ ns) each = λ i. first (contains s a) refl i ∷ taken_and_given s (a + 1) ns
-    (λ k in_list is. let same : a + suc k ≡ a + 1 + k = omega arith
-    in each (suc k) (omega arith) (ap (contains s) same ∙ is)) i
-  where
-    first : (b : Bool) → contains s a ≡ b → (if contains s a then one_more (if contains s a then one_less n else n)
-        else (if contains s a then one_less n else n)) ≡ n
-    first true is = ap (λ b. if b then one_more (if b then one_less n else n)
-        else (if b then one_less n else n)) is ∙ again_same n (let same : a + 0 ≡ a = omega arith
-        in each zero (omega arith) (ap (contains s) same ∙ is))
-    first false is = ap (λ b. if b then one_more (if b then one_less n else n) else (if b then one_less n else n)) is
+taken_and_given s a (n ∷ ns) each = grind (
+  arith,
+  nat_tests,
+  common_steps,
+  again_same,
+  each 0,
+  taken_and_given s (a + 1) ns
+      (λ k in_list is. let same : a + suc k ≡ a + 1 + k = omega arith in
+      each (suc k) (omega arith) (ap (contains s) same ∙ is)),
+)
 
 -- ---- one source after the other
 -- the counts of the sources below `number` are changed, and the others are as before

@@ -11,7 +11,7 @@ use Rattle.rv_plic.specs.Plic.{registers, priority_of, best, claimed, completed,
 use Rattle.rv_base.specs.Registers.{Register, register}
 use Rattle.rv_plic.specs.Support.Registers.{reg_at, word_at, with_word, after_reading}
 use Rattle.rv_plic.specs.declared.register.PlicReg.{PlicReg}
-use Rattle.rv_plic.specs.declared.register.PlicReg.TheVariants.{Priority, Pending, Enables, Threshold, Claim}
+use Rattle.rv_plic.specs.declared.register.PlicReg.TheVariants.{Pending, Enables, Threshold, Claim}
 
 -- the register of a row, or of no row
 abbrev found : Option (ℕ × Register PlicState) → Register PlicState
@@ -44,14 +44,7 @@ none_from : (off a n : ℕ) (rest : List (ℕ × Register PlicState)) → ((s : 
     → find (λ r. off == r.0) (map priority_row (range_with_len a n) ++ rest) ≡ find (λ r. off == r.0) rest
 unfolding priority_row
 none_from off a zero rest none = refl
-none_from off a (suc n) rest none =
-    go (off == 4 * a) refl (none_from off (a + 1) n rest (λ s low high. none s (omega arith) (omega arith)))
-  where
-    go : (b : Bool) → (off == 4 * a) ≡ b → find (λ r. off == r.0) (map priority_row (range_with_len (a + 1) n) ++ rest)
-        ≡ find (λ r. off == r.0) rest → cond b (Some (priority_row a))
-        (find (λ r. off == r.0) (map priority_row (range_with_len (a + 1) n) ++ rest)) ≡ find (λ r. off == r.0) rest
-    go true here later = absurd (none a (omega arith) (omega arith) (eqb-true off (4 * a) here))
-    go false apart later = later
+none_from off a (suc n) rest none = grind (arith, nat_tests, common_steps, none a, none_from off (a + 1) n rest (λ s low high. none s (omega arith) (omega arith)))
 
 -- ---- each register
 
@@ -69,15 +62,14 @@ others plic off = search rules
 
 same : (plic : PlicState) (off : ℕ) → off % 4 ≡ 0 → Agrees plic (find (λ r. off == r.0) registers) (reg_at off)
 unfolding registers reg_at sources priority_row after
-same plic off aligned = go (nat_le 4 off && nat_lt off 128) refl where
-  go : (b : Bool) → (nat_le 4 off && nat_lt off 128) ≡ b → Agrees plic
-      (find (λ r. off == r.0) (map priority_row (range_with_len 1 31) ++ after)) (if b then Some (Priority (off / 4))
-      else (if off == 0x1000 then Some Pending else (if off == 0x2000 then Some Enables
-      else (if off == 0x200000 then Some Threshold else (if off == 0x200004 then Some Claim else None)))))
-  go true within =
-      rw (found_from off (off / 4) 1 31 after (omega arith) (grind (arith, nat_tests)) (grind (arith, nat_tests)))
-      (record { word = refl; loaded = refl; stored = λ word. refl })
-  go false out = rw (none_from off 1 31 after (λ s low high is. absurd (grind (arith, nat_tests)))) (others plic off)
+same plic off aligned = elim (nat_le 4 off && nat_lt off 128) as (λ b. (nat_le 4 off && nat_lt off 128) ≡ b
+    → Agrees plic (find (λ r. off == r.0) registers) (reg_at off)) [
+      | true ↦ λ within.
+          rw (within, found_from off (off / 4) 1 31 after (omega arith) (grind (arith, nat_tests)) (grind (arith, nat_tests)))
+          (record { word = refl; loaded = refl; stored = λ word. refl })
+      | false ↦ λ out.
+          rw (out, none_from off 1 31 after (λ s low high is. absurd (grind (arith, nat_tests)))) (others plic off)
+    ] refl
 
 -- ---- loads and stores by the register at the offset
 

@@ -2,7 +2,7 @@
 use Rattle.std.proofs.lemmas.Bool.Decides.{nat_tests}
 use Rattle.std.proofs.lemmas.Grind.{common_steps}
 use Rattle.std.proofs.Common.{rules, true, ◌≡◌, ℕ, zero, suc, ◌+◌, ◌-◌, ◌*◌, ◌/◌, ◌%◌, ◌^◌, ◌<◌, ◌≤◌, Bool, false, lit<, refl, sym, ◌∙◌, ap, arith, bit_and, bit_or, inl, inr}
-use Rattle.std.specs.Prelude.{◌==◌, ◌&&◌, ◌||◌, not, filter, max, min}
+use Rattle.std.specs.Prelude.{◌==◌, filter, max, min}
 use Rattle.std.specs.Ordering.{nat_cmp}
 use Rattle.std.specs.Int.{bit_at, bit_not, w32}
 use Rattle.std.specs.List.{range_with_len}
@@ -59,41 +59,22 @@ same_at_bits : (f g : ℕ → ℕ → Bool) → f 0 0 ≡ g 0 0 → f 0 1 ≡ g 
     → (x y : ℕ) → x < 2 → y < 2 → f x y ≡ g x y
 same_at_bits f g none right left both x y h k = search rules
 
-max_one : (x y : ℕ) → x < 2 → y < 2 → (max x y == 1) ≡ (x == 1 || y == 1)
-max_one = same_at_bits (λ x y. max x y == 1) (λ x y. x == 1 || y == 1) refl refl refl refl
-
-min_one : (x y : ℕ) → x < 2 → y < 2 → (min x y == 1) ≡ (x == 1 && y == 1)
-min_one = same_at_bits (λ x y. min x y == 1) (λ x y. x == 1 && y == 1) refl refl refl refl
-
-min_not_one : (x y : ℕ) → x < 2 → y < 2 → (min x (1 - y) == 1) ≡ (x == 1 && not (y == 1))
-min_not_one = same_at_bits (λ x y. min x (1 - y) == 1) (λ x y. x == 1 && not (y == 1)) refl refl refl refl
-
 pub union_word : (a b : ℕ) → IsSourceWord a → IsSourceWord b
     → sources_of (bit_or a b) ≡ union (sources_of a) (sources_of b)
-union_word a b is also = search (rules, same_sources, contains-sources_of, bit_or, or_word, bit_at_or, max_one, bit_at-lt, contains-union)
+union_word a b is also = search (rules, same_sources, contains-sources_of, bit_or, or_word, bit_at_or, bit_at-lt, contains-union, nat_cmp_total, same_at_bits, max)
 
 pub intersection_word : (a b : ℕ) → IsSourceWord a → IsSourceWord b
     → sources_of (bit_and a b) ≡ intersection (sources_of a) (sources_of b)
-intersection_word a b is also =
-    same_sources _ _ (λ q. contains-sources_of (bit_and a b) q (and_word a b is) ∙ ap (λ n. n == 1) (bit_at_and a b q)
-    ∙ min_one _ _ (bit_at-lt a q) (bit_at-lt b q)
-    ∙ sym (contains-intersection nat_cmp_total (sources_of a) (sources_of b) q
-    ∙ (λ i. contains-sources_of a q is i && contains-sources_of b q also i)))
+intersection_word a b is also = search (rules, nat_tests, same_sources, contains-sources_of, bit_and, and_word, bit_at_and, bit_at-lt, contains-intersection, nat_cmp_total)
 
 without_bit : (a b q : ℕ) → IsSourceWord a → IsSourceWord b
     → bit_at (bit_and a (bit_not w32 b)) q ≡ min (bit_at a q) (1 - bit_at b q)
-without_bit a b q is also = bit_at_and a (bit_not w32 b) q ∙ elim (cases_lt q 32) [
-  | inl below ↦ ap (λ n. min (bit_at a q) n) (bit_at_not w32 b q also.fits below)
-  | inr above ↦ omega (arith, bit_at_above a 32 q is.fits above)
-]
+without_bit a b q is also =
+    grind (arith, nat_tests, common_steps, bit_at_and, bit_at_not w32 b q also.fits, bit_at_above a 32 q is.fits)
 
 pub difference_word : (a b : ℕ) → IsSourceWord a → IsSourceWord b
     → sources_of (bit_and a (bit_not w32 b)) ≡ difference (sources_of a) (sources_of b)
-difference_word a b is also =
-    same_sources _ _ (λ q. contains-sources_of _ q (and_word a _ is) ∙ ap (λ n. n == 1) (without_bit a b q is also)
-    ∙ min_not_one _ _ (bit_at-lt a q) (bit_at-lt b q)
-    ∙ sym (contains-difference nat_cmp_total (sources_of a) (sources_of b) q
-    ∙ (λ i. contains-sources_of a q is i && not (contains-sources_of b q also i))))
+difference_word a b is also = search (rules, nat_tests, same_sources, contains-sources_of, and_word, without_bit, bit_at-lt, contains-difference, nat_cmp_total)
 
 -- the word of one source
 pub place_word : (s : ℕ) → 0 < s → s < 32 → IsSourceWord (1 * 2 ^ s % 2 ^ 32)
@@ -104,12 +85,10 @@ place_word s low high =
 
 pub insert_word : (a s : ℕ) → IsSourceWord a → 0 < s → s < 32
     → sources_of (bit_or a (1 * 2 ^ s % 2 ^ 32)) ≡ insert (sources_of a) s
-insert_word a s is low high = inserted (sources_of a) _ s (has s ∙ ap (λ n. n == 1) (bit_at_set_same w32 a s high))
+insert_word a s is low high =
+    let has = λ (q : ℕ). contains-sources_of _ q (or_word a _ is (place_word s low high)) in
+    inserted (sources_of a) _ s (has s ∙ ap (λ n. n == 1) (bit_at_set_same w32 a s high))
     (λ q other. has q ∙ ap (λ n. n == 1) (bit_at_set_other w32 a s high q other) ∙ sym (contains-sources_of a q is))
-  where
-    has : (q : ℕ) → contains (sources_of (bit_or a (1 * 2 ^ s % 2 ^ 32))) q
-        ≡ (bit_at (bit_or a (1 * 2 ^ s % 2 ^ 32)) q == 1)
-    has q = contains-sources_of _ q (or_word a _ is (place_word s low high))
 
 cleared_bit : (a s q : ℕ) → IsSourceWord a → s < 32 → (q ≡ s → ⊥)
     → bit_at (bit_and a (bit_not w32 (1 * 2 ^ s % 2 ^ 32))) q ≡ bit_at a q
