@@ -1,17 +1,17 @@
 -- The table of the registers says what the cases by register say.
 use Rattle.std.proofs.lemmas.Grind.{common_steps}
-use Rattle.std.proofs.Common.{rules, ◌≡◌, ℕ, zero, suc, ◌+◌, ◌-◌, ◌*◌, ◌==◌, Bool, true, false, List, [], ◌∷◌, ◌++◌, map, length, Option, Some, None, refl, ap, sym, ◌∙◌, arith, nat_lt, nat_le}
-use Rattle.std.specs.Prelude.{◌&&◌, ◌||◌, find, if◌then◌else◌, codes}
+use Rattle.std.proofs.Common.{rules, ◌≡◌, ℕ, zero, suc, ◌+◌, ◌==◌, Bool, true, false, List, [], ◌∷◌, ◌++◌, map, Option, Some, None, refl, arith}
+use Rattle.std.specs.Prelude.{◌||◌, find, if◌then◌else◌, codes}
 use Rattle.std.specs.Fmt.{digits}
-use Rattle.std.specs.List.{list_all, list_any, range_with_len}
-use Rattle.std.specs.Option.{option_map, option_or}
+use Rattle.std.specs.List.{list_all, list_any}
+use Rattle.std.specs.Option.{option_map}
 use Rattle.std.proofs.lemmas.Bool.Decides.{nat_tests}
 use Rattle.std.proofs.lemmas.Bool.{eqb-true, or_from, or_parts}
 use Rattle.std.proofs.lemmas.List.Folds.{list_any-append}
 use Rattle.rv_isa.specs.Names.{csr_names, numbered}
 use Rattle.rv_isa.specs.declared.Lines.{Lines}
 use Rattle.rv_pmp.specs.Pmp as protection
-use Rattle.rv_pmp.specs.Pmp.{PmpState, config_word, entry_at, is_address, is_config, written}
+use Rattle.rv_pmp.specs.Pmp.{is_address, is_config, written}
 use Rattle.rv_pmp.specs.declared.mode.Mode.{Mode}
 use Rattle.rv_csr.specs.State.{CsrState}
 use Rattle.rv_csr.specs.Registers.{CsrRow, is_at, may_read, may_write, number_of, read, row_at, table, word_at, write, written_at, wrote_half}
@@ -33,38 +33,23 @@ Same (Some row) None = ⊥
 
 -- ---- the registers that have a name
 
-any-numbered : (addr : ℕ) (prefix suffix : List ℕ) (base first count : ℕ)
-    → list_any (λ named. addr == named.1) (numbered prefix suffix base first count)
-    ≡ (nat_le (base + first) addr && nat_lt addr (base + first + count))
-any-numbered addr prefix suffix base first zero = grind (arith, nat_tests)
-any-numbered addr prefix suffix base first (suc count) =
-    grind (arith, nat_tests, any-numbered addr prefix suffix base (first + 1) count)
-
 any-from_to : (addr : ℕ) (prefix suffix : List ℕ) (base first count low high : ℕ) → base + first ≡ low
     → base + first + count ≡ suc high
     → list_any (λ named. addr == named.1) (numbered prefix suffix base first count) ≡ is_from_to low high addr
-any-from_to addr prefix suffix base first count low high begin end = search (rules, any-numbered, nat_tests)
+any-from_to addr prefix suffix base first zero low high begin end = grind (arith, nat_tests)
+any-from_to addr prefix suffix base first (suc count) low high begin end =
+    grind (arith, nat_tests, any-from_to addr prefix suffix base (first + 1) count (low + 1) high)
 
 joined : (addr : ℕ) (xs ys : List (List ℕ × ℕ)) (a b : Bool)
     → list_any (λ named. addr == named.1) xs ≡ a → list_any (λ named. addr == named.1) ys ≡ b
     → list_any (λ named. addr == named.1) (xs ++ ys) ≡ (a || b)
-joined addr xs ys a b p q = list_any-append (λ named. addr == named.1) xs ys ∙ (λ i. p i || q i)
+joined addr xs ys a b p q = search (rules, list_any-append)
 
--- the names with numbers in them, each list with those after it
-abbrev high_halves : List (List ℕ × ℕ)
-high_halves = numbered (codes "mhpmcounter") (codes "h") 0xb80 3 29
-
-abbrev counters_on : List (List ℕ × ℕ)
-counters_on = numbered (codes "mhpmcounter") [] 0xb00 3 29 ++ high_halves
-
-abbrev events_on : List (List ℕ × ℕ)
-events_on = numbered (codes "mhpmevent") [] 0x320 3 29 ++ counters_on
-
-abbrev addresses_on : List (List ℕ × ℕ)
-addresses_on = numbered (codes "pmpaddr") [] 0x3b0 0 16 ++ events_on
-
+-- the names with numbers in them
 abbrev more_names : List (List ℕ × ℕ)
-more_names = numbered (codes "pmpcfg") [] 0x3a0 0 4 ++ addresses_on
+more_names = numbered (codes "pmpcfg") [] 0x3a0 0 4 ++ (numbered (codes "pmpaddr") [] 0x3b0 0 16
+    ++ (numbered (codes "mhpmevent") [] 0x320 3 29 ++ (numbered (codes "mhpmcounter") [] 0xb00 3 29
+    ++ numbered (codes "mhpmcounter") (codes "h") 0xb80 3 29)))
 
 any-more : (addr : ℕ) → list_any (λ named. addr == named.1) more_names
     ≡ (is_from_to 0x3A0 0x3A3 addr || (is_from_to 0x3B0 0x3BF addr || (is_from_to 0x323 0x33F addr
@@ -85,13 +70,6 @@ any-name : (addr : ℕ) → list_any (λ named. addr == named.1) csr_names
 unfolding csr_names
 any-name addr = refl
 
-five_and_more : (addr : ℕ)
-    → ((addr == 0x306) || ((addr == 0x30A) || ((addr == 0x310) || ((addr == 0x31A) || ((addr == 0x320)
-    || ((addr == 0xF11) || ((addr == 0xF12) || ((addr == 0xF13) || ((addr == 0xF14) || ((addr == 0xF15)
-    || (is_from_to 0x323 0x33F addr || (is_from_to 0xB03 0xB1F addr || is_from_to 0xB83 0xB9F addr))))))))))))
-    ≡ is_zero addr
-five_and_more addr = search rules
-
 -- the registers that have a row of their own, by their numbers
 abbrev registers : List (ℕ × Register)
 registers = (0x300, Mstatus) ∷ (0x301, Misa) ∷ (0x304, Mie) ∷ (0x305, Mtvec) ∷ (0x340, Mscratch) ∷ (0x341, Mepc)
@@ -101,7 +79,7 @@ registers = (0x300, Mstatus) ∷ (0x301, Misa) ∷ (0x304, Mie) ∷ (0x305, Mtve
 -- a name that is of neither the table nor protection is one of a register that reads 0
 named_zero : (addr : ℕ) → list_any (λ r. addr == r.0) registers ≡ false
     → is_config addr ≡ false → is_address addr ≡ false → list_any (λ named. addr == named.1) csr_names ≡ is_zero addr
-named_zero addr none config address = search (rules, or_parts, any-name, any-more, five_and_more)
+named_zero addr none config address = search (rules, or_parts, any-name, any-more)
 
 -- ---- the rows
 
@@ -124,13 +102,11 @@ zero_found addr (n ∷ ns) b each is = grind (arith, nat_tests, common_steps, eq
 -- the halves of the counters
 pub half_mcycle : (wrote : Option ℕ) → wrote_half (codes "mcycle") wrote ≡ cases.wrote_half 0xB00 wrote
 unfolding number_of csr_names
-half_mcycle None = refl
-half_mcycle (Some addr) = refl
+half_mcycle wrote = search rules
 
 pub half_minstret : (wrote : Option ℕ) → wrote_half (codes "minstret") wrote ≡ cases.wrote_half 0xB02 wrote
 unfolding number_of csr_names
-half_minstret None = refl
-half_minstret (Some addr) = refl
+half_minstret wrote = search rules
 
 pub ruleset counter_halves = (half_mcycle, half_minstret)
 
@@ -164,74 +140,37 @@ same addr config address = search (rules, rows_of, are_rows, zero_found, each_nu
 -- ---- what is at an address, by the register there
 
 -- where protection has a register, none of these is at the address
-module _ (addr : ℕ) (within : is_from_to 0x3A0 0x3BF addr ≡ true) where
-  none_within : register_at addr ≡ None
-  unfolding register_at
-  none_within = search rules
+none_there : (addr : ℕ) → (is_config addr || is_address addr) ≡ true → register_at addr ≡ None
+unfolding register_at
+none_there addr within = search (rules, nat_tests)
 
-none_config : (addr : ℕ) → is_config addr ≡ true → register_at addr ≡ None
-none_config addr within = none_within addr (grind (arith, nat_tests))
+loaded : (state : CsrState) (lines : Lines) (addr : ℕ) (found : Option CsrRow) (register : Option Register)
+    → Same found register → protection.read_register state.pmp addr ≡ None
+    → option_map (λ row. row.value state lines) found ≡ cases.value_at state lines addr register
+loaded state lines addr found register same none = search rules
 
-none_address : (addr : ℕ) → is_address addr ≡ true → register_at addr ≡ None
-none_address addr within = none_within addr (grind (arith, nat_tests))
-
-abbrev given : {A : Type 0} → (Register → A) → Option A → Option Register → Option A
-given of_register protected None = protected
-given of_register protected (Some register) = Some (of_register register)
-
-module _ {A : Type 0} (of_row : CsrRow → A) (of_register : Register → A) where
-  -- where protection has no register
-  picked : (found : Option CsrRow) (register : Option Register) → Same found register
-      → ((row : CsrRow) (register : Register) → Agrees row register → of_row row ≡ of_register register)
-      → option_map of_row found ≡ given of_register None register
-  picked found register s each = search rules
+stored : (state : CsrState) (addr word : ℕ) (found : Option CsrRow) (register : Option Register)
+    → Same found register → protection.write_register state.pmp addr word ≡ None
+    → option_map (λ row. row.written state word) found ≡ with_value_at state addr word register
+stored state addr word found register same none = search rules
 
 pub values : (state : CsrState) (lines : Lines) (addr : ℕ)
     → word_at state addr lines ≡ cases.value_at state lines addr (register_at addr)
 unfolding protection.read_register
-values state lines addr = go (is_config addr) refl (is_address addr) refl ∙ sym (as_given (register_at addr)) where
-  loaded : Bool → Bool → Option ℕ
-  loaded a b = if a then Some (config_word state.pmp (4 * (addr - 0x3A0)))
-      else (if b then Some (entry_at state.pmp (addr - 0x3B0)).address else None)
-
-  as_given : (register : Option Register) → cases.value_at state lines addr register
-      ≡ given (value_of state lines) (loaded (is_config addr) (is_address addr)) register
-  as_given None = refl
-  as_given (Some register) = refl
-
-  go : (a : Bool) → is_config addr ≡ a → (b : Bool) → is_address addr ≡ b
-      → option_or (loaded a b) (option_map (λ row. row.value state lines) (row_at addr))
-      ≡ given (value_of state lines) (loaded a b) (register_at addr)
-  go true c b d = sym (ap (given (value_of state lines) (loaded true b)) (none_config addr c))
-  go false c true d = sym (ap (given (value_of state lines) (loaded false true)) (none_address addr d))
-  go false c false d = picked (λ row. row.value state lines) (value_of state lines) (row_at addr) (register_at addr)
-      (same addr c d) (λ row register agrees. agrees.value state lines)
+values state lines addr = elim (is_config addr || is_address addr) as (λ b. (is_config addr || is_address addr) ≡ b
+    → word_at state addr lines ≡ cases.value_at state lines addr (register_at addr)) [
+      | true ↦ λ is. search (rules, nat_tests, none_there)
+      | false ↦ λ is. search (rules, or_parts, loaded, same)
+    ] refl
 
 pub writes : (state : CsrState) (addr word : ℕ)
     → written_at state addr word ≡ with_value_at state addr word (register_at addr)
 unfolding protection.write_register
-writes state addr word = go (is_config addr) refl (is_address addr) refl ∙ sym (as_given (register_at addr)) where
-  after : PmpState
-  after = record { entries = map (written state.pmp addr word) (range_with_len 0 (length state.pmp.entries)) }
-
-  stored : Bool → Bool → Option CsrState
-  stored a b = option_map (λ (pmp : PmpState). record state { pmp = pmp }) (if a || b then Some after else None)
-
-  of_register : Register → CsrState
-  of_register register = with_value state register word
-
-  as_given : (register : Option Register) → with_value_at state addr word register
-      ≡ given of_register (stored (is_config addr) (is_address addr)) register
-  as_given None = refl
-  as_given (Some register) = refl
-
-  go : (a : Bool) → is_config addr ≡ a → (b : Bool) → is_address addr ≡ b
-      → option_or (stored a b) (option_map (λ row. row.written state word) (row_at addr))
-      ≡ given of_register (stored a b) (register_at addr)
-  go true c b d = sym (ap (given of_register (stored true b)) (none_config addr c))
-  go false c true d = sym (ap (given of_register (stored false true)) (none_address addr d))
-  go false c false d = picked (λ row. row.written state word) of_register (row_at addr) (register_at addr)
-      (same addr c d) (λ row register agrees. agrees.written state word)
+writes state addr word = elim (is_config addr || is_address addr) as (λ b. (is_config addr || is_address addr) ≡ b
+    → written_at state addr word ≡ with_value_at state addr word (register_at addr)) [
+      | true ↦ λ is. search (rules, none_there)
+      | false ↦ λ is. search (rules, stored, same, or_parts)
+    ] refl
 
 -- ---- a read and a write by the register at the address
 
