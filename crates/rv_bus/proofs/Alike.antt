@@ -1,19 +1,19 @@
 -- Loads, stores and fetches read and write only their own bytes of the memory. Each law compares a bus with
 -- the same bus over another memory of the same size.
-use Rattle.std.proofs.Common.{◌≡◌, ◌≢◌, ℕ, zero, suc, ◌+◌, ◌-◌, ◌≤◌, ◌<◌, List, [], ◌∷◌, slice_get, slice_index, slice_set, length, Option, Some, None, arith, refl, sym, ap, subst, ◌∙◌, rules}
+use Rattle.std.proofs.Common.{◌≡◌, ◌≢◌, ℕ, zero, suc, ◌+◌, ◌-◌, ◌≤◌, ◌<◌, List, [], ◌∷◌, slice_get, slice_index, slice_set, length, Option, Some, None, refl, ap, rules}
 use Rattle.std.specs.Option.{option_map}
 use Rattle.std.proofs.lemmas.Bool.{le-leb, leb-true, cases_eq, cases_lt}
 use Rattle.std.proofs.lemmas.Grind.{get_or-set_at}
+use Rattle.std.proofs.lemmas.Option.{slice_get-get_or, slice_get_past}
 use Rattle.std.proofs.lemmas.List.{set_past, get_or-set_other}
 use Rattle.rv_base.specs.Limits.{ram_base}
 use Rattle.rv_isa.specs.declared.op.Width.{Width}
 use Rattle.rv_isa.specs.Width.{bytes_of}
 use Rattle.rv_ram.specs.Bytes.{value_at, put}
 use Rattle.rv_bus.specs.State.{BusState}
-use Rattle.rv_bus.specs.Support.Locations.{location_of}
 use Rattle.rv_bus.proofs.Memory.{fetch_is}
 use Rattle.rv_bus.specs.Access.{fetch, load, store, ram_byte}
-use Rattle.rv_bus.specs.Support.AtLocation.{load_at, store_at}
+use Rattle.rv_bus.specs.Support.AtLocation.{load_at}
 use Rattle.rv_bus.proofs.Others.{byte_put}
 use Rattle.rv_bus.proofs.Rows.{at_location}
 use Rattle.rv_bus.proofs.Windows.{each_location}
@@ -36,11 +36,7 @@ same_number one other off n same = same_value other one off off n same
 
 same_get : (one other : List ℕ) (k : ℕ) → length other ≡ length one
     → slice_index other k ≡ slice_index one k → slice_get other k ≡ slice_get one k
-same_get [] [] k size same = refl
-same_get [] (y ∷ other) k size same = absurd (omega arith)
-same_get (x ∷ one) [] k size same = absurd (omega arith)
-same_get (x ∷ one) (y ∷ other) zero size same = ap Some same
-same_get (x ∷ one) (y ∷ other) (suc k) size same = same_get one other k (omega arith) same
+same_get one other k size same = search (rules, cases_lt, slice_get-get_or, slice_get_past)
 
 same_index : (one other : List ℕ) (k : ℕ) → slice_get other k ≡ slice_get one k
     → slice_index other k ≡ slice_index one k
@@ -62,11 +58,10 @@ with_ram_after ram loaded = option_map (λ (r : ℕ × BusState). (r.0, with_ram
 pub same_load : (b : BusState) (ram : List ℕ) (a : ℕ) (w : Width) → length ram ≡ length b.ram
     → (ram_base ≤ a → SameBytes b.ram ram (a - ram_base) (bytes_of w))
     → load (with_ram b ram) a w ≡ with_ram_after ram (load b a w)
-same_load b ram a w size same = (at_location (with_ram b ram) a w).load
-    ∙ ap (λ n. load_at (with_ram b ram) (location_of n a w) w) size
-    ∙ each_location (λ p. load_at (with_ram b ram) p w ≡ with_ram_after ram (load_at b p w)) (length b.ram) a w
+same_load b ram a w size same = rw ((at_location (with_ram b ram) a w).load, (at_location b a w).load, size)
+    (each_location (λ p. load_at (with_ram b ram) p w ≡ with_ram_after ram (load_at b p w)) (length b.ram) a w
     (λ above. ap (λ (v : ℕ). Some (v, with_ram b ram)) (same_number b.ram ram (a - ram_base) (bytes_of w) (same above)))
-    refl (λ off. refl) (λ off. refl) (λ reg. refl) refl ∙ ap (with_ram_after ram) (sym (at_location b a w).load)
+    refl (λ off. refl) (λ off. refl) (λ reg. refl) refl)
 
 -- a load leaves the memory
 abbrev pub KeepsMemory : BusState → Option (ℕ × BusState) → Type 0
@@ -123,16 +118,8 @@ memory_store b ram a v w size above = search (rules, length_put, byte_put, same_
 
 pub same_store : (b : BusState) (ram : List ℕ) (a v : ℕ) (w : Width) → length ram ≡ length b.ram
     → BothStore b ram a w (store b a w v) (store (with_ram b ram) a w v)
-same_store b ram a v w size =
-    subst (λ x. BothStore b ram a w x (store (with_ram b ram) a w v)) (sym ((at_location b a w).store v))
-    (subst (λ y. BothStore b ram a w (store_at b (location_of (length b.ram) a w) w v) y)
-    (sym ((at_location (with_ram b ram) a w).store v))
-    (subst (λ n. BothStore b ram a w (store_at b (location_of (length b.ram) a w) w v)
-    (store_at (with_ram b ram) (location_of n a w) w v)) (sym size)
-    (each_location (λ p. BothStore b ram a w (store_at b p w v) (store_at (with_ram b ram) p w v)) (length b.ram) a w
-    (λ above. memory_store b ram a v w size above) (device_store b ram a w _ size refl)
-    (λ reg. device_store b ram a w _ size refl) (λ off. device_store b ram a w _ size refl)
-    (λ reg. device_store b ram a w _ size refl) tt)))
+unfolding store
+same_store b ram a v w size = search (rules, at_location, each_location, memory_store, device_store)
 
 -- ---- a byte at an address
 

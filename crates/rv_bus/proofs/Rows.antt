@@ -1,5 +1,5 @@
 -- The rows of the address table do what the accesses at their locations do.
-use Rattle.std.proofs.Common.{◌≡◌, ℕ, ◌+◌, ◌-◌, ◌<◌, ◌==◌, Bool, true, false, cond, nat_le, nat_lt, List, [], ◌∷◌, Option, Some, None, arith, refl, rules, sym, ap, subst, ◌∙◌}
+use Rattle.std.proofs.Common.{◌≡◌, ℕ, ◌+◌, ◌-◌, ◌<◌, ◌==◌, Bool, true, false, cond, nat_le, List, [], ◌∷◌, Option, Some, None, refl, rules, sym, ap, subst, ◌∙◌}
 use Rattle.std.specs.Prelude.{◌&&◌, if◌then◌else◌, drop, find, length}
 use Rattle.std.specs.List.{list_any}
 use Rattle.std.specs.Option.{option_map}
@@ -59,10 +59,7 @@ module _ (b : BusState) (a : ℕ) (w : Width) where
 
   none_takes : (xs : List Window) → list_any (λ (x : Window). has x.first x.places a) xs ≡ false → find takes_it xs ≡ None
   none_takes [] none = refl
-  none_takes (x ∷ xs) none =
-      let p = or_parts (has x.first x.places a) (list_any (λ (x : Window). has x.first x.places a) xs) none in
-      ap (λ t. cond t (Some x) (find takes_it xs)) (and_right (nat_le x.narrowest (bytes_of w)) (has x.first x.places a) p.0)
-      ∙ none_takes xs p.1
+  none_takes (x ∷ xs) none = search (rules, or_parts, and_right, none_takes xs)
 
   nowhere : (t : Bool) → IsRow None (if t then Nowhere else Nowhere)
   nowhere t = search rules
@@ -140,9 +137,8 @@ module _ (b : BusState) (a : ℕ) (w : Width) where
   pub at_location : IsFor b a w (location b a w)
   unfolding load store
   at_location = record {
-    load = twice (λ (x : Reached). x.0) (window_at b a (bytes_of w)) ∙ ap (option_map (λ (x : Reached). x.0)) rows;
-    store = λ v. twice (λ (x : Reached). x.1 v) (window_at b a (bytes_of w))
-        ∙ ap (option_map (λ (x : Reached). x.1 v)) rows;
+    load = search (rules, twice, rows);
+    store = λ v. search (rules, twice, rows);
     writes = written;
     room = has_room;
     fetch = fetches;
@@ -154,8 +150,4 @@ module _ (b : BusState) (a : ℕ) (w : Width) where
   -- the memory
   pub in_ram : (off : ℕ) → a ≡ ram_base + off → off < length b.ram → IsFor b a w (Ram off)
   unfolding location_of
-  in_ram off is below =
-      let low : nat_le ram_base a ≡ true = le-leb ram_base a (omega arith) in
-      let high : nat_lt (a - ram_base) (length b.ram) ≡ true = lt-ltb (a - ram_base) (length b.ram) (omega arith) in
-      let gap : a - ram_base ≡ off = omega arith in
-      is_for (Ram off) (sym (ap (λ t. if t then Ram (a - ram_base) else for_width (device_in registers a) w) (and_from _ _ low high) ∙ ap Ram gap))
+  in_ram off is below = is_for (Ram off) (search (rules, le-leb, lt-ltb, and_from))

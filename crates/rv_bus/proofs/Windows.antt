@@ -1,7 +1,8 @@
 -- What holds of each location holds of the one at an address.
 use Rattle.std.proofs.Common.{◌≡◌, ℕ, ◌-◌, ◌≤◌, ◌==◌, Bool, true, List, [], ◌∷◌, rules}
 use Rattle.std.specs.List.{list_all}
-use Rattle.std.proofs.lemmas.Bool.{and_parts, and_from, and_left, and_right, cases_order, cond_both, eq-eqb, leb-true, le-leb, lt-leb, lt-ltb, le-ltb, ne_eqb}
+use Rattle.std.proofs.lemmas.Bool.Decides.{nat_tests}
+use Rattle.std.proofs.lemmas.Bool.{and_parts, cond_both, leb-true}
 use Rattle.rv_base.specs.Limits.{ram_base}
 use Rattle.rv_isa.specs.declared.op.Width.{Width}
 use Rattle.rv_mmio.specs.declared.serial.SerialReg.{SerialReg}
@@ -13,8 +14,7 @@ use Rattle.rv_bus.specs.declared.locations.Location.TheVariants.{Ram, Halt, Time
 -- ---- the window of one address
 
 pub one_address : (first a : ℕ) → has first 1 a ≡ (a == first)
-one_address first a =
-    search (rules, cases_order, and_from, le-leb, lt-ltb, eq-eqb, and_left, lt-leb, ne_eqb, and_right, le-ltb)
+one_address first a = search (rules, nat_tests)
 
 -- ---- a property of each location is one of the location at an address
 
@@ -23,10 +23,7 @@ pub at_device : (test : Location → Bool) (ys : List (ℕ × Location)) (a : �
     → list_all (λ y. test y.1) ys ≡ true → ((off : ℕ) → test (Plic off) ≡ true) → test Nowhere ≡ true
     → test (device_in ys a) ≡ true
 at_device test [] a all plic nowhere = search (rules, cond_both)
-at_device test (y ∷ ys) a all plic nowhere =
-    let p = and_parts (test y.1) (list_all (λ y. test y.1) ys) all in
-    cond_both (a == y.0) y.1 (device_in ys a) (λ p. test p ≡ true) (λ t. p.0)
-    (λ t. at_device test ys a p.1 plic nowhere)
+at_device test (y ∷ ys) a all plic nowhere = search (rules, and_parts, cond_both, at_device test ys a)
 
 pub each_device : (P : Location → Type 0) (a : ℕ) (w : Width) → P Halt → ((reg : TimerReg) → P (Timer reg))
     → ((off : ℕ) → P (Plic off)) → ((reg : SerialReg) → P (Serial reg)) → P Nowhere
