@@ -1,5 +1,5 @@
 -- An image in a memory of zeros.
-use Rattle.std.proofs.Common.{rules, ◌≡◌, ℕ, zero, suc, ◌+◌, ◌-◌, ◌%◌, ◌<◌, ◌≤◌, ◌++◌, List, [], ◌∷◌, length, take, drop, set, get_or, refl, sym, ap, ◌∙◌, add-one, arith}
+use Rattle.std.proofs.Common.{rules, ◌≡◌, ℕ, suc, ◌+◌, ◌-◌, ◌%◌, ◌<◌, ◌≤◌, ◌++◌, List, ◌∷◌, length, take, drop, set, get_or, sym, ap, ◌∙◌, add-one, arith}
 use Rattle.rv_ram.specs.Bytes.{put, zeros}
 use Rattle.rv_ram.proofs.Put.{put_byte}
 use Rattle.rv_ram.proofs.Zeros.{drop_zeros}
@@ -10,10 +10,8 @@ image_over image ram e = search (rules, arith, drop_zeros)
 
 take-set : (image old : List ℕ) (i : ℕ) → i < length image → length image ≤ length old
     → set (take i image ++ drop i old) i (get_or image i 0) ≡ take (suc i) image ++ drop (suc i) old
-take-set [] old i within fits = absurd (omega (arith, within))
-take-set (x ∷ image) [] i within fits = absurd (omega (arith, fits))
-take-set (x ∷ image) (y ∷ old) zero within fits = refl
 take-set (x ∷ image) (y ∷ old) (suc i) within fits = search (rules, arith, take-set image old i)
+take-set image old i within fits = search (rules, arith)
 
 -- a store of a byte
 pub one_byte : (bs : List ℕ) (i v : ℕ) → v < 256 → put bs i 1 v ≡ set bs i v

@@ -1,5 +1,5 @@
 -- Locked entries of protection, which no event changes.
-use Rattle.std.proofs.Common.{rules, arith, ◌≡◌, ◌∙◌, ℕ, List, ◌+◌, ◌*◌, ◌/◌, ◌%◌, ◌^◌, Bool, true, false, [], ◌∷◌, length, Option, Some, None, Result, Ok, refl, sym, ap, nat_lt}
+use Rattle.std.proofs.Common.{rules, arith, ◌≡◌, ◌∙◌, ℕ, List, ◌+◌, ◌*◌, ◌/◌, ◌%◌, ◌^◌, Bool, true, false, [], ◌∷◌, length, Option, Some, Result, refl, ap, nat_lt}
 use Rattle.std.specs.Prelude.{if◌then◌else◌, ◌&&◌, not}
 use Rattle.rv_isa.specs.declared.kind.Kind.{Kind}
 use Rattle.rv_isa.specs.declared.op.CsrOp.{CsrOp}
@@ -10,17 +10,15 @@ use Rattle.rv_pmp.specs.Pmp.{PmpState, entry_at, is_locked_tor, written}
 use Rattle.rv_pmp.proofs.Registers.{stored_entry}
 use Rattle.rv_pmp.specs.declared.entry.Entry.{Entry}
 use Rattle.rv_pmp.specs.declared.mode.Mode.{Mode}
-use Rattle.rv_pmp.specs.declared.mode.Mode.TheVariants as mode
 use Rattle.rv_csr.specs.State.{CsrState}
-use Rattle.rv_csr.specs.Registers.{may_write, read, write}
-use Rattle.rv_csr.specs.Support.RegisterCases.{register_at, with_value_at}
+use Rattle.rv_csr.specs.Registers.{write}
+use Rattle.rv_csr.specs.Support.RegisterCases.{with_value_at}
 use Rattle.rv_csr.proofs.Table.{write_by_cases}
 use Rattle.rv_csr.specs.Traps.{entered, after_return}
 use Rattle.rv_csr.specs.declared.register.Register.{Register}
-use Rattle.rv_bus.specs.Access.{lines_of}
 use Rattle.rv_hart.specs.State.{Machine}
 use Rattle.rv_hart.specs.Effect.{effect}
-use Rattle.rv_hart.specs.Support.EffectParts.{csr_value, exchange_effect, exchange_result, is_write, return_effect, with_result, write_result}
+use Rattle.rv_hart.specs.Support.EffectParts.{exchange_effect, return_effect}
 use Rattle.rv_hart.specs.Step.{step, ticked, fetched, attempt, counts, enter}
 use Rattle.rv_hart.specs.declared.trap.Trap.{Trap}
 use Rattle.rv_hart.proofs.Rows.{IfRetired, rows}
@@ -33,7 +31,7 @@ use Rattle.rv_board.specs.declared.event.Event.{Event}
 -- ---- one change after another
 
 kept : (a : PmpState) → KeepsLocked a a
-kept a = record { locked = λ n locked. refl; below = λ n top. refl }
+kept a = search (rules, arith)
 
 kept_on : (a b c : PmpState) → KeepsLocked a b → KeepsLocked b c → KeepsLocked a c
 unfolding is_locked_tor
@@ -92,11 +90,7 @@ module _ (state new : CsrState) (addr word : ℕ) where
   at_register found gives = search (rules, arith, kept, store_kept)
 
   wrote_kept : (d : Mode) → write state addr d word ≡ Some new → KeepsLocked state.pmp new.pmp
-  wrote_kept d is = by (may_write addr d) (sym (write_by_cases state addr d word) ∙ is) where
-    by : (may : Bool) → (if may then with_value_at state addr word (register_at addr) else None) ≡ Some new
-        → KeepsLocked state.pmp new.pmp
-    by true is = at_register (register_at addr) is
-    by false is = absurd cc
+  wrote_kept d is = search (rules, arith, write_by_cases, at_register)
 
 -- ---- a step
 
@@ -111,28 +105,14 @@ module _ (m : Machine) where
   registers : (k : Kind) (op : CsrOp) (field operand rd csr : ℕ)
       → IfRetired (KeptFrom m) (exchange_effect k m op field operand rd csr)
   unfolding exchange_effect
-  registers k op field operand rd csr = by (read m.csrs csr m.mode (lines_of m.bus)) where
-    after : (old : ℕ) (wrote : Option CsrState) → write m.csrs csr m.mode (csr_value op old operand) ≡ wrote
-        → IfRetired (KeptFrom m) (write_result k m rd old wrote)
-    after old None is = tt
-    after old (Some csrs) is = wrote_kept m.csrs csrs csr (csr_value op old operand) m.mode is
-
-    or_not : (old : ℕ) (writes : Bool) → IfRetired (KeptFrom m)
-        (if writes then write_result k m rd old (write m.csrs csr m.mode (csr_value op old operand))
-        else Ok (with_result m rd old))
-    or_not old true = after old (write m.csrs csr m.mode (csr_value op old operand)) refl
-    or_not old false = kept m.csrs.pmp
-
-    by : (old : Option ℕ) → IfRetired (KeptFrom m) (exchange_result k m op field operand rd csr old)
-    by None = tt
-    by (Some old) = or_not old (is_write op field)
+  registers k op field operand rd csr = search (rules, arith, wrote_kept, kept)
 
   returns : (d : Mode) → IfRetired (KeptFrom m) (return_effect m d)
   unfolding return_effect after_return
   returns d = search (rules, arith, kept)
 
   effects : (k : Kind) → IfRetired (KeptFrom m) (effect k m)
-  effects = rows m (KeptFrom m) (λ new in_mode same. same_registers new same) registers (returns m.mode)
+  effects = search (rules, arith, rows, same_registers, registers, returns)
 
   attempts : (f : Result Kind Trap) → KeptFrom m (attempt m f).0
   unfolding counts enter entered
