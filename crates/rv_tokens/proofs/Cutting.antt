@@ -14,9 +14,8 @@ use Rattle.rv_tokens.proofs.Longest.{longest_found}
 
 cut_drop : (line : List ℕ) (n : ℕ) → tokens_after line n ≡ tokens_after (drop n line) 0
 unfolding tokens_after
-cut_drop [] zero = refl
+cut_drop line zero = refl
 cut_drop [] (suc n) = refl
-cut_drop (b ∷ bs) zero = refl
 cut_drop (b ∷ bs) (suc n) = cut_drop bs n
 
 pub cut_end : (line : List ℕ) → length line ≡ 0 → tokens_after line 0 ≡ Ok []
@@ -69,9 +68,8 @@ pub ruleset cut_steps = (cut_end, cut_blank, cut_comment, cut_token, cut_none, n
 
 places_drop : (total : ℕ) (line : List ℕ) (n : ℕ) → places_after total line n ≡ places_after total (drop n line) 0
 unfolding places_after
-places_drop total [] zero = refl
+places_drop total line zero = refl
 places_drop total [] (suc n) = refl
-places_drop total (b ∷ bs) zero = refl
 places_drop total (b ∷ bs) (suc n) = places_drop total bs n
 
 -- the places after the first

@@ -63,9 +63,8 @@ local_is text some = search (rules, drop-cons, drop_all, swapped)
 
 bytes_after_drop : (text : List ℕ) (n : ℕ) → bytes_after text n ≡ string_bytes (drop n text)
 unfolding bytes_after
-bytes_after_drop [] zero = refl
+bytes_after_drop text zero = refl
 bytes_after_drop [] (suc n) = refl
-bytes_after_drop (b ∷ bs) zero = refl
 bytes_after_drop (b ∷ bs) (suc n) = bytes_after_drop bs n
 
 pub bytes_of_none : (text : List ℕ) → 0 < length text → first_byte text ≡ None → string_bytes text ≡ None
@@ -77,8 +76,7 @@ pub bytes_of_some : (text : List ℕ) (x n : ℕ) → first_byte text ≡ Some (
     → string_bytes text ≡ option_map (λ cs. x ∷ cs) (string_bytes (drop n text))
 unfolding bytes_after
 bytes_of_some [] x n e = search (rules, longest_found)
-bytes_of_some (b ∷ bs) x zero e = search (rules, longest_found)
-bytes_of_some (b ∷ bs) x (suc n) e = rw e (ap (option_map (λ cs. x ∷ cs)) (bytes_after_drop bs n))
+bytes_of_some (b ∷ bs) x n e = search (rules, longest_found, bytes_after_drop)
 
 -- the bytes of a text that spells some
 unfoldable pub bytes_of : List ℕ → List ℕ

@@ -31,11 +31,6 @@ pub kept_in : (line : List ℕ) (m : ℕ) → (is_name_byte (get_or line (m - 1)
 unfolding token_in
 kept_in line m h = rw h refl
 
-lost_in : (line : List ℕ) (m : ℕ) → (is_name_byte (get_or line (m - 1) 0) && is_name_byte (get_or line m 0)) ≡ true
-    → token_in line m ≡ None
-unfolding token_in
-lost_in line m h = rw h refl
-
 -- the token of n bytes, if no other number of bytes is one
 pub front_at : (line : List ℕ) (n : ℕ) (o : Option Token) → 0 < n → n ≤ length line → token_in line n ≡ o
     → ((m : ℕ) → n < m → m ≤ length line → token_in line m ≡ None)
@@ -70,9 +65,9 @@ word_above line m n lt two le first stop = search (rules, length-take, get_or-ta
 
 word_shorter : (line : List ℕ) (m n : ℕ) → 0 < m → m < n → n ≤ length line
     → list_all is_name_byte (take n line) ≡ true → token_in line m ≡ None
-word_shorter line m n some lt within all =
-    lost_in line m (and_from _ _ (name_byte_at line (m - 1) n (omega arith) within all)
-    (name_byte_at line m n lt within all))
+unfolding token_in
+word_shorter line m n some lt within all = rw (and_from _ _ (name_byte_at line (m - 1) n (omega arith) within all)
+    (name_byte_at line m n lt within all)) refl
 
 -- the word of n bytes at the front of a line
 pub front_word : (line : List ℕ) (n : ℕ) → n ≤ length line → is_name_byte (get_or line 0 0) ≡ true
@@ -91,9 +86,8 @@ front_word line (suc n) within first all stop = (
 
 token_of_other : (xs : List ℕ) → 1 < length xs → is_name_byte (get_or xs 0 0) ≡ false
     → (get_or xs 0 0 == 34) ≡ false → (get_or xs 0 0 == 39) ≡ false → (get_or xs 0 0 == 37) ≡ false → token_of xs ≡ None
-token_of_other [] long h s c p = absurd (omega arith)
-token_of_other (a ∷ []) long h s c p = absurd (omega arith)
-token_of_other (a ∷ b ∷ bs) long h s c p = token_is a (b ∷ bs) ∙ rw (s, c, h) (no_sign a b bs p)
+token_of_other (a ∷ b ∷ bs) long h s c p = search (rules, token_is, no_sign)
+token_of_other xs long h s c p = absurd (omega arith)
 
 sign_above : (line : List ℕ) (m : ℕ) → 1 < m → m ≤ length line → is_name_byte (get_or line 0 0) ≡ false
     → (get_or line 0 0 == 34) ≡ false → (get_or line 0 0 == 39) ≡ false → (get_or line 0 0 == 37) ≡ false
@@ -147,10 +141,8 @@ pub front_half : (line : List ℕ) → 2 < length line → get_or line 0 0 ≡ 3
     → front line ≡ option_map (λ t. (t, 3)) (cond (is_name_byte (get_or line 3 0)) None
     (cond (bytes_eq (take 3 line) (codes "%hi")) (Some High)
     (cond (bytes_eq (take 3 line) (codes "%lo")) (Some Low) None)))
-front_half line long e =
-    let is = half_is (take 3 line) (get_or-take 3 line 0 0 (omega arith) ∙ e) in
-    front_at line 3 _ (omega arith) (omega arith)
-    (half_in line e ∙ ap (λ (o : Option Token). cond (is_name_byte (get_or line 3 0)) None o) is)
+front_half line long e = front_at line 3 _ (omega arith) (omega arith)
+    (rw (← half_is (take 3 line) (get_or-take 3 line 0 0 (omega arith) ∙ e)) (half_in line e))
     (λ m p q. half_not line m (omega arith) q (λ same. omega arith) e)
     (λ m p q. half_not line m p (omega arith) (λ same. omega arith) e)
 
@@ -187,13 +179,9 @@ character_in line m some le e = quoted_in 39 (get_or line (m - 1) 0) line m refl
     ∙ ap (λ o. option_map (λ n. Character n) (option_and_then (spelled 39) o))
     (between_open 39 39 (take m line) (ap (λ b. b == 39) (last_of line m some le) ∙ f))) ∙ character_of line m some e
 
-between_none : (c : Bool) (f : List ℕ → Option ℕ) (ys : List ℕ) → f ys ≡ None
-    → option_and_then f (cond c (Some ys) None) ≡ None
-between_none c f ys h = search rules
-
 -- a character has at most six bytes
 character_long : (xs : List ℕ) → 6 < length xs → character xs ≡ None
-character_long xs long = search (rules, length-drop, length-take, between_none, spelled_long)
+character_long xs long = search (rules, length-drop, length-take, spelled_long)
 
 pub character_within : (line : List ℕ) (n : ℕ) → n ≤ length line → ((m : ℕ) → n < m → m ≤ length line → 6 < m)
     → get_or line 0 0 ≡ 39 → longest (token_in line) n ≡ front line

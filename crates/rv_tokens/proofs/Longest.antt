@@ -1,7 +1,5 @@
 -- The longest prefix of a text that spells something.
-use Rattle.std.proofs.lemmas.Bool.Decides.{nat_tests}
-use Rattle.std.proofs.lemmas.Grind.{common_steps}
-use Rattle.std.proofs.Common.{rules, ◌≡◌, ℕ, zero, suc, ◌+◌, ◌-◌, ◌<◌, ◌≤◌, refl, sym, ap, ◌∙◌, arith, add-suc}
+use Rattle.std.proofs.Common.{rules, ◌≡◌, ℕ, zero, suc, ◌+◌, ◌-◌, ◌<◌, ◌≤◌, refl, ap, ◌∙◌, arith, add-suc}
 use Rattle.std.specs.Prelude.{Option, None, Some}
 use Rattle.std.proofs.lemmas.Bool.{cases_lt}
 use Rattle.rv_tokens.specs.Literals.{longest}
@@ -18,8 +16,7 @@ none_above spells n (suc d) h =
 pub longest_above : {A : Type 0} (spells : ℕ → Option A) (n k : ℕ) → n ≤ k
     → ((m : ℕ) → n < m → m ≤ k → spells m ≡ None) → longest spells k ≡ longest spells n
 longest_above spells n k le h =
-    let whole : n + (k - n) ≡ k = omega arith in
-    ap (longest spells) (sym whole) ∙ none_above spells n (k - n) (λ m p q. h m p (omega arith))
+    rw (← none_above spells n (k - n) (λ m p q. h m p (omega arith))) (ap (longest spells) (omega arith))
 
 pub longest_zero : {A : Type 0} (spells : ℕ → Option A) → longest spells 0 ≡ None
 unfolding longest
@@ -56,43 +53,28 @@ abbrev pub reach : {A : Type 0} → Option (A × ℕ) → ℕ
 reach None = 0
 reach (Some found) = found.1
 
-over_step : {A : Type 0} (spells : ℕ → Option A) (k m : ℕ) (o : Option A) → spells (suc k) ≡ o
-    → (reach (longest spells k) < m → m ≤ k → spells m ≡ None) → reach (longest spells (suc k)) < m → m ≤ suc k
-    → spells m ≡ None
-unfolding longest
-over_step spells k m o e below p q = search (rules, cases_lt)
-
 -- no longer prefix spells anything
 pub longest_over : {A : Type 0} (spells : ℕ → Option A) (k m : ℕ) → reach (longest spells k) < m → m ≤ k
     → spells m ≡ None
-longest_over spells zero m p q = absurd (omega arith)
-longest_over spells (suc k) m p q = over_step spells k m (spells (suc k)) refl (longest_over spells k m) p q
-
-read_step : {A : Type 0} (spells : ℕ → Option A) (k n : ℕ) (x : A) (o : Option A) → spells (suc k) ≡ o
-    → (longest spells k ≡ Some (x, n) → (0 < n) × (n ≤ k) × (spells n ≡ Some x))
-    → longest spells (suc k) ≡ Some (x, n) → (0 < n) × (n ≤ suc k) × (spells n ≡ Some x)
 unfolding longest
-read_step spells k n x o e below h = search rules
+longest_over spells zero m p q = absurd (omega arith)
+longest_over spells (suc k) m p q = search (rules, cases_lt, longest_over spells k m)
 
 read : {A : Type 0} (spells : ℕ → Option A) (k n : ℕ) (x : A) → longest spells k ≡ Some (x, n)
     → (0 < n) × (n ≤ k) × (spells n ≡ Some x)
 unfolding longest
 read spells zero n x h = cc
-read spells (suc k) n x h = read_step spells k n x (spells (suc k)) refl (read spells k n x) h
+read spells (suc k) n x h = search (rules, read spells k n x)
 
 pub longest_found : {A : Type 0} (spells : ℕ → Option A) (k n : ℕ) (x : A) → longest spells k ≡ Some (x, n)
     → IsLongest spells k n x
 longest_found spells k n x h =
-    let l = read spells k n x h in record {
-      some = l.0;
-      within = l.1;
-      is = l.2;
-      above = λ m p q. longest_over spells k m (rw h p) q;
-    }
+    let l = read spells k n x h in
+    record { some = l.0; within = l.1; is = l.2; above = λ m p q. longest_over spells k m (rw h p) q }
 
 pub longest_same : {A : Type 0} (f g : ℕ → Option A) (k : ℕ) → ((m : ℕ) → m ≤ k → f m ≡ g m) → longest f k ≡ longest g k
 unfolding longest
 longest_same f g zero h = refl
-longest_same f g (suc k) h = grind (arith, nat_tests, common_steps, longest_same f g k)
+longest_same f g (suc k) h = search (rules, longest_same f g k)
 
 pub ruleset longest_steps = (longest_zero, longest_at, longest_less)

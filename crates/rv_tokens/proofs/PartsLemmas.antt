@@ -1,7 +1,7 @@
 -- The tokens of a line are its only parts in the sense of Parts.antt.
 use Rattle.std.proofs.lemmas.Grind.{common_steps}
 use Rattle.std.proofs.Common.{rules, ◌≡◌, ℕ, zero, suc, ◌<◌, ◌≤◌, Bool, true, false, cond, List, [], ◌∷◌, length, take, drop, get_or, refl, ap, ◌∙◌, arith, length-drop}
-use Rattle.std.specs.Prelude.{Option, None, Some, Result, Ok, Err, ◌↔◌, ◌||◌, nat_lt, MatchBool}
+use Rattle.std.specs.Prelude.{Option, None, Some, Result, Ok, Err, ◌↔◌}
 use Rattle.std.specs.Bool.{◌==◌}
 use Rattle.std.proofs.lemmas.Bool.Decides.{nat_tests}
 use Rattle.rv_tokens.specs.declared.token.Token.{Token}
@@ -41,12 +41,8 @@ begins (b ∷ bs) (suc n) t h =
     let tab : (b == 9) ≡ false = apart 9 (token_is 9) in
     (omega arith, rw (space, tab) refl, comment_not b bs (apart 35 (token_is 35)) (apart 47 (token_is 47)))
 
-not_blank : (b : ℕ) (bs : List ℕ) (x y : Bool) → (b == 32) ≡ x → (b == 9) ≡ y
-    → is_comment (b ∷ bs) ≡ true → (x || y) ≡ false
-not_blank b bs x y e f h = search rules
-
 comment_ends : (line : List ℕ) → is_comment line ≡ true → tokens_after line 0 ≡ Ok []
-comment_ends line h = search (rules, cut_comment, not_blank)
+comment_ends line h = search (rules, cut_comment, cut_blank)
 
 -- ---- from the parts of a line to its tokens
 
@@ -64,11 +60,8 @@ cut_is _ _ (Nothing b rest blank comment none) = grind (arith, nat_tests, common
 
 -- ---- from the tokens of a line to its parts
 
-none_first : (line : List ℕ) → token_in line 0 ≡ None
-none_first line = none_in line 0 no_token
-
 none_all : (line : List ℕ) → front line ≡ None → (n : ℕ) → n ≤ length line → token_in line n ≡ None
-none_all line h zero le = none_first line
+none_all line h zero le = none_in line 0 no_token
 none_all line h (suc n) le = longest_over (token_in line) (length line) (suc n) (rw h (omega arith)) le
 
 -- a line, if each of its ends has the parts that it is cut into
@@ -100,15 +93,11 @@ short_tokens line h = search (rules, nat_tests)
 
 pub long_tokens : (line : List ℕ) → 1024 < length line → tokens line ≡ Err LineTooLong
 unfolding tokens
-long_tokens line h = let long : nat_lt 1024 (length line) ≡ true = grind (arith, nat_tests) in rw long refl
-
-cut_by : (line : List ℕ) (r : Result (List Token) LineFault) (b : Bool) → nat_lt 1024 (length line) ≡ b
-    → MatchBool b (r ≡ Err LineTooLong) (IsCut line r) ↔ (tokens line ≡ r)
-cut_by line r b e = search (rules, long_tokens, short_tokens, cut_is, made)
+long_tokens line h = search (rules, nat_tests)
 
 -- the parts of a line are its tokens
 pub cut_means : (line : List ℕ) (r : Result (List Token) LineFault) → IsCutInto line r ↔ (tokens line ≡ r)
-cut_means line r = cut_by line r (nat_lt 1024 (length line)) refl
+cut_means line r = search (rules, long_tokens, short_tokens, cut_is, made)
 
 pub is_cut : (line : List ℕ) → IsCutInto line (tokens line)
 is_cut line = (cut_means line (tokens line)).1 refl

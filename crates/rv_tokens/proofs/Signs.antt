@@ -1,6 +1,6 @@
 -- Numbers by the tests of their prefix, and the token that a text spells by its first byte.
-use Rattle.std.proofs.Common.{rules, ◌≡◌, ℕ, Bool, false, cond, List, [], ◌∷◌, length, drop, get_or, refl, arith}
-use Rattle.std.specs.Prelude.{Option, None, Some, nat_lt, option_and_then, codes}
+use Rattle.std.proofs.Common.{rules, ◌≡◌, ℕ, false, cond, List, [], ◌∷◌, drop, get_or, refl, arith}
+use Rattle.std.specs.Prelude.{Option, None, Some, option_and_then, codes}
 use Rattle.std.specs.Str.{bytes_eq}
 use Rattle.std.specs.Bool.{◌==◌}
 use Rattle.std.specs.List.{list_all}
@@ -36,9 +36,6 @@ no_sign b c bs h = search rules
 
 -- ---- tokens
 
-pub between_not : (q b : ℕ) (bs : List ℕ) → (b == q) ≡ false → between q q (b ∷ bs) ≡ None
-between_not q b bs h = rw (h, and-false (nat_lt 1 (length (b ∷ bs)))) refl
-
 none_after : (o : Option Token) → option_or o None ≡ o
 none_after o = search rules
 
@@ -48,12 +45,9 @@ token_by b bs = cond (b == 34) (option_map (λ s. Text s) (option_and_then strin
     (cond (b == 39) (option_map (λ n. Character n) (option_and_then (spelled 39) (between 39 39 (b ∷ bs))))
     (cond (list_all is_name_byte (b ∷ bs)) (word (b ∷ bs)) (lookup (b ∷ bs) signs)))
 
-by_first : (b : ℕ) (bs : List ℕ) (s t : Bool) → (b == 34) ≡ s → (b == 39) ≡ t → token_of (b ∷ bs) ≡ token_by b bs
-unfolding token_of
-by_first b bs s t e f = search (rules, between_not, none_after)
-
 pub token_is : (b : ℕ) (bs : List ℕ) → token_of (b ∷ bs) ≡ token_by b bs
-token_is b bs = by_first b bs (b == 34) (b == 39) refl refl
+unfolding token_of
+token_is b bs = search (rules, and-false, none_after)
 
 pub no_token : token_of [] ≡ None
 unfolding token_of word local short_decimal number number_in

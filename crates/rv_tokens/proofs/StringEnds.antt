@@ -1,7 +1,7 @@
 -- The end of a string.
 use Rattle.std.proofs.lemmas.Grind.{common_steps}
 use Rattle.std.proofs.Common.{rules, ◌≡◌, ℕ, zero, suc, ◌+◌, ◌-◌, ◌<◌, ◌≤◌, Bool, true, false, cond, leb, List, [], ◌∷◌, length, take, drop, get_or, refl, sym, ap, ◌∙◌, arith, length-take, length-drop, get_or-take, get_or-drop}
-use Rattle.std.specs.Prelude.{Option, None, Some, option_and_then, is_some, ◌&&◌}
+use Rattle.std.specs.Prelude.{Option, None, Some, is_some, ◌&&◌}
 use Rattle.std.specs.Bool.{◌==◌}
 use Rattle.std.specs.Option.{option_map}
 use Rattle.std.proofs.lemmas.Bool.{le-leb, lt-leb, cases_lt}
@@ -9,7 +9,6 @@ use Rattle.std.proofs.lemmas.Bool.Decides.{nat_tests}
 use Rattle.std.proofs.lemmas.List.{take-take, drop-take, drop-drop}
 use Rattle.std.proofs.Math.Bool.{and-false}
 use Rattle.std.proofs.Math.Seq.{drop-cons}
-use Rattle.rv_tokens.specs.declared.token.Token.{Token}
 use Rattle.rv_tokens.specs.declared.token.Token.TheVariants.{Text}
 use Rattle.rv_base.specs.Numbers.{digit_value, hex_digit, hex_byte, number_in}
 use Rattle.rv_base.proofs.NumberReading.{no_digits}
@@ -29,30 +28,17 @@ unfolding hex_digit
 no_quote base i ds low lt q =
     let other : base ≤ digit_value (get_or ds i 0) = rw q (omega (arith, low)) in no_digits base 255 i ds lt other
 
-none_each : (a b c : Bool) → ◌≡◌ {A = Option ℕ} (cond a (cond b None None) (cond c None None)) None
-none_each a b c = search rules
-
 escape_quote : (c : ℕ) (ds : List ℕ) (i : ℕ) → i < length ds → get_or ds i 0 ≡ 34 → escape (c ∷ ds) ≡ None
 unfolding escape hex_byte
+escape_quote c (d ∷ ds) i lt q =
+    grind (arith, nat_tests, common_steps, no_quote 16 i (d ∷ ds), no_quote 8 (suc i) (c ∷ d ∷ ds), no_letter)
 escape_quote c [] i lt q = absurd (omega arith)
-escape_quote c (d ∷ ds) i lt q = rw (
-  no_quote 16 i (d ∷ ds) (omega arith) lt q,
-  no_quote 8 (suc i) (c ∷ d ∷ ds) (omega arith) (omega arith) q,
-  no_letter (c ∷ d ∷ ds) (λ e. omega arith),
-) (none_each _ _ _)
-
-after_first : (s x y : Bool) (o : Option ℕ) (a b : ℕ) → y ≡ false
-    → cond s o (cond (x && y) (Some a) None) ≡ Some b → (s ≡ true) × (o ≡ Some b)
-after_first s x y o a b e h = search (rules, and-false)
 
 before_quote : (quote : ℕ) (s : List ℕ) (b j : ℕ) → spelled quote s ≡ Some b → 0 < j → j < length s
     → get_or s j 0 ≡ 34 → take j s ≡ 92 ∷ []
 unfolding spelled
-before_quote quote [] b j h some lt q = absurd (omega arith)
-before_quote quote (a ∷ []) b j h some lt q = absurd (omega arith)
-before_quote quote (a ∷ c ∷ cs) b zero h some lt q = absurd (omega arith)
-before_quote quote (a ∷ c ∷ cs) b (suc zero) h some lt q = grind (arith, nat_tests, common_steps, after_first)
-before_quote quote (a ∷ c ∷ cs) b (suc (suc j)) h some lt q = grind (arith, nat_tests, common_steps, after_first, escape_quote)
+before_quote quote (a ∷ c ∷ cs) b j h some lt q = search (rules, and-false, escape_quote)
+before_quote quote s b j h some lt q = absurd (omega arith)
 
 lone_backslash : string_bytes (92 ∷ []) ≡ None
 unfolding bytes_after longest spelled escape number_in
@@ -63,9 +49,7 @@ cut_quote : (t : List ℕ) (b k j : ℕ) → first_byte t ≡ Some (b, k) → 0 
     → string_bytes (take j t) ≡ None
 cut_quote t b k j e some lt q =
     let l = longest_found (string_byte_in t) (length t) k b e in
-    let lone : take j (take k t) ≡ 92 ∷ [] =
-    before_quote 34 (take k t) b j l.is some (omega (arith, length-take k t, l.within)) (get_or-take k t j 0 lt ∙ q) in
-    rw (sym (take-take j k t (omega arith)) ∙ lone) lone_backslash
+    grind (arith, nat_tests, common_steps, before_quote 34 (take k t) b j, length-take, get_or-take, take-take, lone_backslash)
 
 -- ---- the bytes of a text up to one of its quotes
 
@@ -85,19 +69,13 @@ spells t m = is_some (string_bytes (take m t))
 spells_none : (t : List ℕ) (j : ℕ) → first_byte t ≡ None → 0 < j → j ≤ length t → spells t j ≡ false
 spells_none t j e some le = grind (arith, nat_tests, common_steps, bytes_of_none, length-take, first_byte_take)
 
-is_some_map : (f : List ℕ → List ℕ) (o : Option (List ℕ)) → is_some (option_map f o) ≡ is_some o
-is_some_map f o = search rules
-
 drop_of_take : (k j : ℕ) (t : List ℕ) → k ≤ j → drop k (take j t) ≡ take (j - k) (drop k t)
-drop_of_take k j t le =
-    let e : k + (j - k) ≡ j = omega arith in ap (λ n. drop k (take n t)) (sym e) ∙ drop-take k (j - k) t
+drop_of_take k j t le = grind (arith, nat_tests, drop-take k (j - k) t)
 
 spells_next : (t : List ℕ) (b k j : ℕ) → first_byte t ≡ Some (b, k) → k ≤ j → j ≤ length t
     → spells t j ≡ spells (drop k t) (j - k)
 spells_next t b k j e le within =
-    ap is_some (bytes_of_some (take j t) b k (first_byte_take t (Some (b, k)) j e le within))
-    ∙ (is_some_map (λ cs. b ∷ cs) (string_bytes (drop k (take j t)))
-    ∙ ap (λ s. is_some (string_bytes s)) (drop_of_take k j t le))
+    rw (bytes_of_some (take j t) b k (first_byte_take t (Some (b, k)) j e le within), drop_of_take k j t le) (search rules)
 
 spells_step : (t : List ℕ) (b k j : ℕ) → first_byte t ≡ Some (b, k) → 0 < j → j < length t → get_or t j 0 ≡ 34
     → spells t j ≡ (leb k j && spells (drop k t) (j - k))
@@ -142,18 +120,13 @@ quoted_between : (ys : List ℕ) (n : ℕ) → length ys ≡ suc n
     → between 34 34 (34 ∷ ys) ≡ cond (get_or ys n 0 == 34) (Some (take n ys)) None
 quoted_between ys n len = search rules
 
-quoted_cond : (s : Bool) (ys : List ℕ)
-    → ◌≡◌ {A = Option Token} (option_map (λ s. Text s) (option_and_then string_bytes (cond s (Some ys) None)))
-    (cond s (option_map (λ s. Text s) (string_bytes ys)) None)
-quoted_cond s ys = search rules
-
 string_of : (text : List ℕ) (m : ℕ) → m < length text → token_of (34 ∷ take (suc m) text)
     ≡ cond (get_or text m 0 == 34) (option_map (λ s. Text s) (string_bytes (take m text))) None
 string_of text m lt = token_is 34 (take (suc m) text) ∙ rw (
   quoted_between (take (suc m) text) m (omega (arith, length-take (suc m) text)),
   get_or-take (suc m) text m 0 (omega arith),
   take-take m (suc m) text (omega arith),
-) (quoted_cond (get_or text m 0 == 34) (take m text))
+) (search rules)
 
 string_in : (text : List ℕ) (m : ℕ) → m < length text → token_in (34 ∷ text) (suc (suc m))
     ≡ cond (get_or text m 0 == 34) (option_map (λ s. Text s) (string_bytes (take m text))) None
@@ -162,17 +135,13 @@ string_in text m lt =
     quoted_in 34 (get_or text m 0) (34 ∷ text) (suc (suc m)) refl (ap (λ k. get_or (34 ∷ text) k 0) e)
     (λ f. string_of text m lt ∙ rw f refl) ∙ string_of text m lt
 
-no_string : (s : Bool) (o : Option (List ℕ)) → (s ≡ true → is_some o ≡ false)
-    → ◌≡◌ {A = Option Token} (cond s (option_map (λ s. Text s) o) None) None
-no_string s o h = search rules
-
 -- no string of m bytes, if the bytes up to a quote there spell none
 nowhere : (text : List ℕ) (m : ℕ)
     → ((k : ℕ) → suc (suc k) ≡ m → k < length text → get_or text k 0 ≡ 34 → spells text k ≡ false) → 0 < m
     → m ≤ length (34 ∷ text) → token_in (34 ∷ text) m ≡ None
-nowhere text zero h some le = absurd (omega arith)
+nowhere text (suc (suc m)) h some le = grind (arith, nat_tests, common_steps, string_in)
 nowhere text (suc zero) h some le = quoted_in 34 34 (34 ∷ text) 1 refl refl (λ f. token_is 34 []) ∙ token_is 34 []
-nowhere text (suc (suc m)) h some le = grind (arith, nat_tests, common_steps, string_in, no_string)
+nowhere text zero h some le = absurd (omega arith)
 
 -- the string that ends with the quote at n
 pub front_string : (text s : List ℕ) (n : ℕ) → IsScanned text n → n < length text → get_or text n 0 ≡ 34
@@ -188,18 +157,14 @@ pub scanned_some : (text : List ℕ) (n : ℕ) → IsScanned text n → n < leng
 unfolding bytes_after
 scanned_some text n so lt q = grind (arith, nat_tests, common_steps, late)
 
-front_open : (text : List ℕ) → ((k : ℕ) → k < length text → get_or text k 0 ≡ 34 → spells text k ≡ false)
-    → front (34 ∷ text) ≡ None
-front_open text h = grind (arith, nat_tests, common_steps, longest_none, nowhere)
-
 -- no quote ends the string
 pub front_unended : (text : List ℕ) (n : ℕ) → IsScanned text n → length text ≤ n → front (34 ∷ text) ≡ None
-front_unended text n so end = front_open text (λ k p q. early text n so k (omega arith) p q)
+front_unended text n so end = search (rules, longest_none, nowhere, early)
 
 -- no byte is spelled at n
 pub front_bad : (text : List ℕ) (n : ℕ) → IsScanned text n → (get_or text n 0 ≡ 34 → ⊥)
     → first_byte (drop n text) ≡ None → front (34 ∷ text) ≡ None
-front_bad text n so test e = search (rules, nat_tests, front_open, cases_lt, early, past)
+front_bad text n so test e = search (rules, nat_tests, longest_none, nowhere, cases_lt, early, past)
 
 -- a line that begins with a quote
 pub begins_quoted : (line : List ℕ) → 0 < length line → get_or line 0 0 ≡ 34 → line ≡ 34 ∷ drop 1 line

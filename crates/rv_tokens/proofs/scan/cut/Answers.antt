@@ -1,20 +1,17 @@
 use Rattle.std.proofs.Common.{rules, [], ◌∷◌, length, length-append, sym, ap, arith}
-use Rattle.rv_tokens.specs.Tokens.{token_in}
 use Rattle.rv_tokens.proofs.Cutting.{cut_token, cut_end, more_tokens, last_tokens}
 use Rattle.rv_tokens.proofs.Longest.{longest_found}
 use Rattle.rv_tokens.proofs.scan.cut.Goals as goal
 
 pub loop-rest-preserved : goal.loop-rest-preserved
 loop-rest-preserved c =
-    let found = sym c.in-Some.ensures in
-    let l = longest_found (token_in c.loop-rest.rest.now) (length c.loop-rest.rest.now) c.in-Some.n _ found in
-    let e = cut_token c.loop-rest.rest.now c.in-Some.token c.in-Some.n (sym c.if-is_blank.ensures)
-    (sym c.if-is_comment.ensures) found l.some in (
+    let l = longest_found _ _ _ _ (sym c.in-Some.ensures) in (
       rw (
         c.in_ok-push-in-Some.ensures.items,
         c.split_at-in-Some.ensures.back,
         ← more_tokens c.loop-rest.out.items (c.in-Some.token ∷ []),
-        ← e,
+        ← cut_token _ c.in-Some.token c.in-Some.n (sym c.if-is_blank.ensures) (sym c.if-is_comment.ensures)
+            (sym c.in-Some.ensures) l.some,
       ) c.loop-rest.invariant.0,
       omega (
         arith,
