@@ -1,5 +1,5 @@
 -- Operands as a grammar: the tokens of one have one form.
-use Rattle.std.proofs.Common.{◌≡◌, ◌∙◌, ℕ, ◌-◌, List, [], ◌∷◌, ◌++◌, length, take, drop, refl, sym, ap, subst, append_assoc, length-append, rules}
+use Rattle.std.proofs.Common.{◌≡◌, ◌∙◌, ℕ, ◌-◌, List, [], ◌∷◌, ◌++◌, length, take, drop, refl, ap, subst, append_assoc, length-append, rules}
 use Rattle.std.specs.Prelude.{◌↔◌, Option, Some, None, option_and_then, not}
 use Rattle.std.specs.Bool.{beq}
 use Rattle.std.specs.Option.{option_map, option_or}
@@ -23,26 +23,15 @@ use Rattle.rv_source.proofs.OneValue.{has_one_value}
 
 further_other : (ps qs : List Piece) → further (ps ++ p.Other ∷ qs) ≡ None
 unfolding further
-further_other [] qs = refl
 further_other (p.Sign s ∷ p.Atom x ∷ ps) qs = ap (with_term s x) (further_other ps qs)
 further_other (p.Sign s ∷ p.Sign r ∷ p.Atom x ∷ ps) qs = ap (with_term (not (beq s r)) x) (further_other ps qs)
-further_other (p.Sign s ∷ p.Sign r ∷ p.Sign q ∷ ps) qs = refl
-further_other (p.Sign s ∷ p.Sign r ∷ p.Other ∷ ps) qs = refl
-further_other (p.Sign s ∷ p.Sign r ∷ []) qs = refl
-further_other (p.Sign s ∷ p.Other ∷ ps) qs = refl
-further_other (p.Sign s ∷ []) qs = refl
-further_other (p.Atom x ∷ ps) qs = refl
-further_other (p.Other ∷ ps) qs = refl
+further_other ps qs = refl
 
 sum_other : (ps qs : List Piece) → sum (ps ++ p.Other ∷ qs) ≡ None
 unfolding sum
-sum_other [] qs = refl
 sum_other (p.Atom x ∷ ps) qs = ap (with_term _ x) (further_other ps qs)
 sum_other (p.Sign s ∷ p.Atom x ∷ ps) qs = ap (with_term s x) (further_other ps qs)
-sum_other (p.Sign s ∷ p.Sign r ∷ ps) qs = refl
-sum_other (p.Sign s ∷ p.Other ∷ ps) qs = refl
-sum_other (p.Sign s ∷ []) qs = refl
-sum_other (p.Other ∷ ps) qs = refl
+sum_other ps qs = refl
 
 -- tokens with a bracket among them
 no_sum : (x : Token) (us vs : List Token) → piece_of x ≡ p.Other → expression (us ++ x ∷ vs) ≡ None
@@ -82,24 +71,20 @@ sum_at name ts e h = search rules
 none_with : (name : List ℕ) (ts : List Token) (e : List Term) → expression ts ≡ Some e
     → form_with None (ts ++ bracketed name) ≡ None
 unfolding expression sum
+none_with name (x ∷ ts) e h = search (rules, no_sum t.Open (x ∷ ts))
 none_with name [] e h = absurd cc
-none_with name (t.Text bytes ∷ ts) e h = absurd cc
-none_with name (t.High ∷ ts) e h = absurd cc
-none_with name (t.Low ∷ ts) e h = absurd cc
-none_with name (x ∷ ts) e h =
-    ap (option_map (λ (e : List Term). f.Value Whole e None)) (no_sum t.Open (x ∷ ts) (t.Name name ∷ t.Close ∷ []) refl)
 
 part_with : (part : Part) (base : Option (List ℕ)) (ts : List Token) (e : List Term) → expression ts ≡ Some e
     → valued part base (enclosed (t.Open ∷ ts ++ t.Close ∷ [])) ≡ Some (f.Value part e base)
 part_with part base ts e h = search (rules, length-append, drop_at, take_at)
 
 none_after : (name : List ℕ) (ts : List Token) → form_with None (t.Low ∷ t.Open ∷ ts ++ t.Close ∷ bracketed name) ≡ None
-none_after name ts =
-    let inner = ts ++ t.Close ∷ t.Open ∷ t.Name name ∷ [] in
-    let is : ts ++ t.Close ∷ bracketed name ≡ inner ++ t.Close ∷ [] =
-    sym (append_assoc ts (t.Close ∷ t.Open ∷ t.Name name ∷ []) (t.Close ∷ [])) in
-    ap (λ (us : List Token). valued Low None (enclosed (t.Open ∷ us))) is ∙ (ap (valued Low None) (enclosed_is inner)
-    ∙ ap (option_map (λ (e : List Term). f.Value Low e None)) (no_sum t.Close ts (t.Open ∷ t.Name name ∷ []) refl))
+none_after name ts = search (
+  rules,
+  no_sum t.Close ts (t.Open ∷ t.Name name ∷ []) refl,
+  enclosed_is (ts ++ t.Close ∷ t.Open ∷ t.Name name ∷ []),
+  append_assoc,
+)
 
 -- the form of tokens with a base, which are no operand without it
 with_base : (ts : List Token) (name : List ℕ) (form : Form) → form_with None (ts ++ bracketed name) ≡ None
@@ -107,12 +92,9 @@ with_base : (ts : List Token) (name : List ℕ) (form : Form) → form_with None
 unfolding form_of
 with_base ts name form none is = search (rules, length-append, drop_at, take_at)
 
-first : (o p : Option Form) (form : Form) → o ≡ Some form → option_or o p ≡ Some form
-first o p form is = ap (λ (o : Option Form). option_or o p) is
-
 without_base : (ts : List Token) (form : Form) → form_with None ts ≡ Some form → form_of ts ≡ Some form
 unfolding form_of
-without_base ts form is = first (form_with None ts) _ form is
+without_base ts form is = search rules
 
 none_alone : (name : List ℕ) → form_with None (bracketed name) ≡ None
 unfolding expression sum
@@ -152,15 +134,12 @@ no_base_is [] form is = absurd cc
 no_base_is (t.Text bytes ∷ []) form is =
     let same : f.Text bytes ≡ form = cc in subst (IsOperand (t.Text bytes ∷ [])) same (Quoted bytes)
 no_base_is (t.Text bytes ∷ x ∷ ts) form is = absurd cc
-no_base_is (t.High ∷ ts) form is =
-    value_of High None (enclosed ts) form (IsOperand (t.High ∷ ts)) is (λ inner e o spells.
-    subst (λ us. IsOperand (t.High ∷ us) (f.Value High e None)) (sym (enclosed_of ts inner o)) (HighPart inner e spells))
-no_base_is (t.Low ∷ ts) form is =
-    value_of Low None (enclosed ts) form (IsOperand (t.Low ∷ ts)) is (λ inner e o spells.
-    subst (λ us. IsOperand (t.Low ∷ us) (f.Value Low e None)) (sym (enclosed_of ts inner o)) (LowPart inner e spells))
-no_base_is (x ∷ ts) form is =
-    value_of Whole None (Some (x ∷ ts)) form (IsOperand (x ∷ ts)) is (λ us e o spells.
-    let same : us ≡ x ∷ ts = cc in subst (λ vs. IsOperand vs (f.Value Whole e None)) same (Sum us e spells))
+no_base_is (t.High ∷ ts) form is = value_of High None (enclosed ts) form (IsOperand (t.High ∷ ts)) is
+    (λ inner e o spells. rw (enclosed_of ts inner o) (HighPart inner e spells))
+no_base_is (t.Low ∷ ts) form is = value_of Low None (enclosed ts) form (IsOperand (t.Low ∷ ts)) is
+    (λ inner e o spells. rw (enclosed_of ts inner o) (LowPart inner e spells))
+no_base_is (x ∷ ts) form is = value_of Whole None (Some (x ∷ ts)) form (IsOperand (x ∷ ts)) is
+    (λ us e o spells. let same : us ≡ x ∷ ts = cc in rw (← same) (Sum us e spells))
 
 base_is : (name : List ℕ) (ts : List Token) (form : Form) → form_with (Some name) ts ≡ Some form
     → IsOperand (ts ++ bracketed name) form
@@ -168,10 +147,7 @@ base_is name [] form is =
     let same : f.Value Whole zero (Some name) ≡ form = cc in subst (IsOperand (bracketed name)) same (Base name)
 base_is name (t.Low ∷ ts) form is =
     value_of Low (Some name) (enclosed ts) form (IsOperand ((t.Low ∷ ts) ++ bracketed name)) is (λ inner e o spells.
-    let whole : t.Low ∷ t.Open ∷ inner ++ t.Close ∷ bracketed name ≡ t.Low ∷ ts ++ bracketed name =
-    ap (λ (us : List Token). t.Low ∷ t.Open ∷ us) (sym (append_assoc inner (t.Close ∷ []) (bracketed name)))
-    ∙ ap (λ (us : List Token). t.Low ∷ us ++ bracketed name) (sym (enclosed_of ts inner o)) in
-    subst (λ us. IsOperand us (f.Value Low e (Some name))) whole (LowPartAndBase inner e name spells))
+    rw (enclosed_of ts inner o, append_assoc) (LowPartAndBase inner e name spells))
 base_is name (x ∷ ts) form is =
     value_of Whole (Some name) (Some (x ∷ ts)) form (IsOperand ((x ∷ ts) ++ bracketed name)) is (λ us e o spells.
     let same : us ≡ x ∷ ts = cc in

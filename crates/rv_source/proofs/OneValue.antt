@@ -1,5 +1,5 @@
 -- Expressions as a grammar: the tokens of one have one reading.
-use Rattle.std.proofs.Common.{◌≡◌, Bool, false, not, List, [], ◌∷◌, ◌++◌, refl, subst, append_assoc, rules}
+use Rattle.std.proofs.Common.{◌≡◌, Bool, false, not, List, [], ◌∷◌, ◌++◌, refl, append_assoc, rules}
 use Rattle.std.specs.Prelude.{◌↔◌, map, Option, Some}
 use Rattle.std.specs.Bool.{beq}
 use Rattle.std.proofs.lemmas.List.{append-nil}
@@ -21,17 +21,9 @@ further_more : (ps qs : List Piece) (ts us : List Term) → further ps ≡ Some 
     further (ps ++ qs) ≡ Some (ts ++ us)
 unfolding further
 further_more [] qs ts us e f = let is : [] ≡ ts = cc in rw (← is) f
-further_more (p.Sign s ∷ p.Atom x ∷ ps) qs ts us e f =
-    front_more s x (further ps) (further (ps ++ qs)) ts us e (λ vs i. further_more ps qs vs us i f)
-further_more (p.Sign s ∷ p.Sign r ∷ p.Atom x ∷ ps) qs ts us e f =
-    front_more (not (beq s r)) x (further ps) (further (ps ++ qs)) ts us e (λ vs i. further_more ps qs vs us i f)
-further_more (p.Sign s ∷ p.Sign r ∷ p.Sign q ∷ ps) qs ts us e f = cc
-further_more (p.Sign s ∷ p.Sign r ∷ p.Other ∷ ps) qs ts us e f = cc
-further_more (p.Sign s ∷ p.Sign r ∷ []) qs ts us e f = cc
-further_more (p.Sign s ∷ p.Other ∷ ps) qs ts us e f = cc
-further_more (p.Sign s ∷ []) qs ts us e f = cc
-further_more (p.Atom x ∷ ps) qs ts us e f = cc
-further_more (p.Other ∷ ps) qs ts us e f = cc
+further_more (p.Sign s ∷ p.Atom x ∷ ps) qs ts us e f = search (rules, front_more, further_more ps qs)
+further_more (p.Sign s ∷ p.Sign r ∷ p.Atom x ∷ ps) qs ts us e f = search (rules, front_more, further_more ps qs)
+further_more ps qs ts us e f = absurd cc
 
 sum_more : (ps qs : List Piece) (ts us : List Term) → sum ps ≡ Some ts → further qs ≡ Some us →
     sum (ps ++ qs) ≡ Some (ts ++ us)
@@ -55,37 +47,21 @@ grows : (ps qs : List Piece) (ts us : List Term) → IsSum ps ts → further qs 
 unfolding further
 grows ps [] ts us h e = let is : [] ≡ us = cc in rw (← is, append-nil, append-nil) h
 grows ps (p.Sign s ∷ p.Atom x ∷ qs) ts us h e =
-    front_of s x (further qs) us (λ vs. IsSum (ps ++ p.Sign s ∷ p.Atom x ∷ qs) (ts ++ vs)) e
-    (λ vs i. subst (λ rs. IsSum rs (ts ++ term s x ∷ vs)) (append_assoc ps (p.Sign s ∷ p.Atom x ∷ []) qs)
-    (subst (λ ws. IsSum ((ps ++ p.Sign s ∷ p.Atom x ∷ []) ++ qs) ws) (append_assoc ts (term s x ∷ []) vs)
-    (grows (ps ++ p.Sign s ∷ p.Atom x ∷ []) qs (ts ++ term s x ∷ []) vs (OneSign ps ts s x h) i)))
+    front_of s x (further qs) us (λ vs. IsSum (ps ++ p.Sign s ∷ p.Atom x ∷ qs) (ts ++ vs)) e (λ vs i.
+    simp append_assoc at (grows (ps ++ p.Sign s ∷ p.Atom x ∷ []) qs (ts ++ term s x ∷ []) vs (OneSign ps ts s x h) i))
 grows ps (p.Sign s ∷ p.Sign r ∷ p.Atom x ∷ qs) ts us h e = front_of (not (beq s r)) x (further qs) us
-    (λ vs. IsSum (ps ++ p.Sign s ∷ p.Sign r ∷ p.Atom x ∷ qs) (ts ++ vs)) e
-    (λ vs i. subst (λ rs. IsSum rs (ts ++ term (not (beq s r)) x ∷ vs))
-    (append_assoc ps (p.Sign s ∷ p.Sign r ∷ p.Atom x ∷ []) qs)
-    (subst (λ ws. IsSum ((ps ++ p.Sign s ∷ p.Sign r ∷ p.Atom x ∷ []) ++ qs) ws)
-    (append_assoc ts (term (not (beq s r)) x ∷ []) vs)
-    (grows (ps ++ p.Sign s ∷ p.Sign r ∷ p.Atom x ∷ []) qs (ts ++ term (not (beq s r)) x ∷ []) vs
-    (TwoSigns ps ts s r x h) i)))
-grows ps (p.Sign s ∷ p.Sign r ∷ p.Sign q ∷ qs) ts us h e = absurd (cc)
-grows ps (p.Sign s ∷ p.Sign r ∷ p.Other ∷ qs) ts us h e = absurd (cc)
-grows ps (p.Sign s ∷ p.Sign r ∷ []) ts us h e = absurd (cc)
-grows ps (p.Sign s ∷ p.Other ∷ qs) ts us h e = absurd (cc)
-grows ps (p.Sign s ∷ []) ts us h e = absurd (cc)
-grows ps (p.Atom x ∷ qs) ts us h e = absurd (cc)
-grows ps (p.Other ∷ qs) ts us h e = absurd (cc)
+    (λ vs. IsSum (ps ++ p.Sign s ∷ p.Sign r ∷ p.Atom x ∷ qs) (ts ++ vs)) e (λ vs i.
+    simp append_assoc at (grows (ps ++ p.Sign s ∷ p.Sign r ∷ p.Atom x ∷ []) qs
+    (ts ++ term (not (beq s r)) x ∷ []) vs (TwoSigns ps ts s r x h) i))
+grows ps qs ts us h e = absurd (cc)
 
 is_sum : (ps : List Piece) (ts : List Term) → sum ps ≡ Some ts → IsSum ps ts
 unfolding sum
-is_sum [] ts e = absurd (cc)
 is_sum (p.Atom x ∷ ps) ts e = front_of false x (further ps) ts (λ us. IsSum (p.Atom x ∷ ps) us) e
     (λ vs i. grows (p.Atom x ∷ []) ps (term false x ∷ []) vs (Alone x) i)
 is_sum (p.Sign s ∷ p.Atom x ∷ ps) ts e = front_of s x (further ps) ts (λ us. IsSum (p.Sign s ∷ p.Atom x ∷ ps) us) e
     (λ vs i. grows (p.Sign s ∷ p.Atom x ∷ []) ps (term s x ∷ []) vs (Signed s x) i)
-is_sum (p.Sign s ∷ p.Sign r ∷ ps) ts e = absurd (cc)
-is_sum (p.Sign s ∷ p.Other ∷ ps) ts e = absurd (cc)
-is_sum (p.Sign s ∷ []) ts e = absurd (cc)
-is_sum (p.Other ∷ ps) ts e = absurd (cc)
+is_sum ps ts e = absurd (cc)
 
 pub has_one_value : (ts : List Token) (terms : List Term) → IsSum (map piece_of ts) terms ↔ (expression ts ≡ Some terms)
 unfolding expression

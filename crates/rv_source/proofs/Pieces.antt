@@ -1,7 +1,7 @@
 -- Cutting operands at commas, one by one.
-use Rattle.std.proofs.Common.{◌≡◌, ℕ, ◌+◌, ◌-◌, ◌≤◌, Bool, cond, List, [], ◌∷◌, length, take, drop, refl, append_assoc, rules}
+use Rattle.std.proofs.Common.{◌≡◌, ℕ, ◌+◌, ◌-◌, ◌≤◌, Bool, List, [], ◌∷◌, length, take, drop, refl, append_assoc, rules}
 use Rattle.std.proofs.Math.Numerals.{one-add}
-use Rattle.std.specs.Prelude.{◌++◌, Some, None, nat_lt}
+use Rattle.std.specs.Prelude.{◌++◌, Some}
 use Rattle.std.specs.Option.{option_map, unwrap_or}
 use Rattle.std.specs.List.{position_or_len, position}
 use Rattle.std.proofs.lemmas.List.{take_all}
@@ -26,14 +26,10 @@ front : (ts : List Token) → pieces ts ≡ take (until_comma ts) ts ∷ pieces_
 front [] = refl
 front (t ∷ ts) = front_step t ts (is_comma t) refl (front ts)
 
-is_until : (ts : List Token) (n : ℕ) (b : Bool) → nat_lt (until_comma ts) (length ts) ≡ b
-    → n ≡ unwrap_or (cond b (Some (until_comma ts)) None) (length ts) → n ≡ until_comma ts
-is_until ts n b e h = search (rules, prefix_len-le-length)
-
 -- the pieces of tokens that are cut at the first comma, or at their end
 pub cut_at : (ts : List Token) (n : ℕ) → n ≡ unwrap_or (position is_comma ts) (length ts)
     → pieces ts ≡ take n ts ∷ pieces_after (drop n ts)
-cut_at ts n e = rw (is_until ts n (nat_lt (until_comma ts) (length ts)) refl e) (front ts)
+cut_at ts n e = search (rules, prefix_len-le-length, front)
 
 -- what follows a piece, without its comma
 pub after_comma : (ts : List Token) → 1 ≤ length ts → pieces_after ts ≡ pieces (take (length ts - 1) (drop 1 ts))

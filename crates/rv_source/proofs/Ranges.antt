@@ -1,5 +1,5 @@
 -- The instructions of rows are in range.
-use Rattle.std.proofs.Common.{◌+◌, ◌*◌, ◌%◌, ◌^◌, ◌<◌, arith, rules}
+use Rattle.std.proofs.Common.{◌^◌, ◌<◌, arith, rules}
 use Rattle.rv_isa.specs.Fields.{kind_of}
 use Rattle.rv_isa.specs.Support.Mnemonics.{zeroed, with_fields}
 use Rattle.rv_isa.specs.Number.{IsWithin}
@@ -8,14 +8,8 @@ use Rattle.rv_isa.specs.declared.op.Operation.{Operation}
 use Rattle.rv_source.specs.declared.field.Fields.{Fields}
 use Rattle.rv_source.specs.Fields.{immediate_of}
 
--- with its unsigned immediates as words
-of_each : (x : Operation) (f : Fields) → f.rd < 32 → f.rs1 < 32 → f.rs2 < 32 → IsWithin (2 ^ 11) f.imm
-    → f.csr % 2 ^ 32 < 2 ^ 12 → (16 * f.before + f.after) % 2 ^ 32 < 2 ^ 12
-    → IsInRange (kind_of (with_fields x f.rd f.rs1 f.rs2 (immediate_of (zeroed x) f)))
-unfolding kind_of zeroed
-of_each x f a b c h i j = search rules
-
 pub in_range : (x : Operation) (f : Fields) → f.rd < 32 → f.rs1 < 32 → f.rs2 < 32 → IsWithin (2 ^ 11) f.imm
     → f.csr < 4096 → f.before < 16 → f.after < 16
     → IsInRange (kind_of (with_fields x f.rd f.rs1 f.rs2 (immediate_of (zeroed x) f)))
-in_range x f a b c h i j k = of_each x f a b c h (omega arith) (omega arith)
+unfolding kind_of zeroed
+in_range x f a b c h i j k = search (rules, arith)

@@ -1,8 +1,8 @@
 -- The numbers of the sets that a fence orders, and of the control registers with names.
-use Rattle.std.proofs.Common.{◌≡◌, ℕ, ◌<◌, Bool, true, cond, List, [], ◌∷◌, refl, rules}
-use Rattle.std.specs.Prelude.{Option, Some, ◌&&◌, nat_lt}
+use Rattle.std.proofs.lemmas.Bool.Decides.{nat_tests}
+use Rattle.std.proofs.Common.{arith, ◌≡◌, ℕ, ◌<◌, Bool, true, List, [], ◌∷◌, refl, rules}
+use Rattle.std.specs.Prelude.{Some, ◌&&◌, nat_lt}
 use Rattle.std.specs.List.{list_all}
-use Rattle.std.specs.Str.{bytes_eq}
 use Rattle.rv_base.specs.Tables.{lookup}
 use Rattle.rv_isa.specs.Names.{csr_names}
 use Rattle.rv_source.specs.Fields.{fence_sets}
@@ -10,16 +10,10 @@ use Rattle.rv_source.specs.Fields.{fence_sets}
 pub both_parts : (b c : Bool) → (b && c) ≡ true → (b ≡ true) × (c ≡ true)
 both_parts b c e = search rules
 
-row_below : (bound : ℕ) (b : Bool) (m n : ℕ) (o : Option ℕ) → nat_lt m bound ≡ true → (o ≡ Some n → n < bound)
-    → cond b (Some m) o ≡ Some n → n < bound
-row_below bound b m n o e more h = search rules
-
 rows_below : (bound : ℕ) (name : List ℕ) (rows : List (List ℕ × ℕ)) (n : ℕ)
     → list_all (λ row. nat_lt row.1 bound) rows ≡ true → lookup name rows ≡ Some n → n < bound
 rows_below bound name [] n e h = cc
-rows_below bound name (row ∷ rows) n e h =
-    let p = both_parts (nat_lt row.1 bound) _ e in
-    row_below bound (bytes_eq row.0 name) row.1 n (lookup name rows) p.0 (rows_below bound name rows n p.1) h
+rows_below bound name (row ∷ rows) n e h = grind (arith, nat_tests, rows_below bound name rows n)
 
 pub below : (name : List ℕ) (n : ℕ) → lookup name fence_sets ≡ Some n → n < 16
 unfolding fence_sets

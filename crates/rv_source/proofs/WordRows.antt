@@ -1,6 +1,5 @@
 -- The rows of a word: those of one that begins with a dot and of one that doesn't, and those of an operation.
-use Rattle.std.proofs.Common.{◌≡◌, ℕ, Bool, true, false, cond, List, [], ◌∷◌, ◌++◌, not, refl, rules}
-use Rattle.std.specs.Prelude.{Some, None}
+use Rattle.std.proofs.Common.{◌≡◌, ℕ, Bool, true, false, List, [], ◌∷◌, not, refl, rules}
 use Rattle.std.specs.List.{list_all, list_any}
 use Rattle.std.specs.Str.{bytes_eq}
 use Rattle.std.proofs.lemmas.List.{append-nil}
@@ -23,25 +22,18 @@ alone_dot a b e f = search rules
 
 -- ---- rows
 
-of_words : (word : List ℕ) (xs ys : List (List ℕ × Row)) → of_word word (xs ++ ys) ≡ of_word word xs ++ of_word word ys
-of_words word xs ys = filter_map-append (λ row. cond (bytes_eq row.0 word) (Some row.1) None) xs ys
-
 is_not : (b : Bool) → not b ≡ true → b ≡ false
 is_not b e = search rules
 
 all_dots : (word : List ℕ) (rows : List (List ℕ × Row)) → list_all (λ row. has_dot row.0) rows ≡ true →
     has_dot word ≡ false → of_word word rows ≡ []
 all_dots word [] e f = refl
-all_dots word (row ∷ rows) e f =
-    let parts = both_parts (has_dot row.0) _ e in
-    rw (dot_alone row.0 word parts.0 f) (all_dots word rows parts.1 f)
+all_dots word (row ∷ rows) e f = search (rules, dot_alone, both_parts, all_dots word rows)
 
 no_dots : (word : List ℕ) (rows : List (List ℕ × Row)) → list_all (λ row. not (has_dot row.0)) rows ≡ true →
     has_dot word ≡ true → of_word word rows ≡ []
 no_dots word [] e f = refl
-no_dots word (row ∷ rows) e f =
-    let parts = both_parts (not (has_dot row.0)) _ e in
-    rw (alone_dot row.0 word (is_not (has_dot row.0) parts.0) f) (no_dots word rows parts.1 f)
+no_dots word (row ∷ rows) e f = search (rules, alone_dot, both_parts, is_not, no_dots word rows)
 
 plain : list_all (λ row. not (has_dot row.0)) pseudo_instructions ≡ true
 unfolding pseudo_instructions
@@ -52,19 +44,17 @@ unfolding directives
 dotted = refl
 
 pub of_directive : (word : List ℕ) → has_dot word ≡ true → of_word word words ≡ of_word word directives
-of_directive word e = search (rules, of_words, no_dots, plain)
+of_directive word e = search (rules, filter_map-append, no_dots, plain)
 
 pub of_other : (word : List ℕ) → has_dot word ≡ false → of_word word words ≡ of_word word pseudo_instructions
-of_other word e = search (rules, of_words, all_dots, dotted, append-nil)
+of_other word e = search (rules, filter_map-append, all_dots, dotted, append-nil)
 
 -- ---- markers
 
 none_among : (word : List ℕ) (names : List (List ℕ)) → list_all has_dot names ≡ true →
     has_dot word ≡ false → list_any (λ name. bytes_eq name word) names ≡ false
 none_among word [] e f = refl
-none_among word (name ∷ names) e f =
-    let parts = both_parts (has_dot name) _ e in
-    rw (dot_alone name word parts.0 f) (none_among word names parts.1 f)
+none_among word (name ∷ names) e f = search (rules, dot_alone, none_among word names)
 
 pub no_marker : (word : List ℕ) → has_dot word ≡ false → is_marker word ≡ false
 unfolding markers

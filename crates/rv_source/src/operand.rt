@@ -136,6 +136,7 @@ fn read_form<'a>(alloc: Global, tokens: &[Token<'a>]) -> Result<Option<Form<'a>>
 }
 
 /// A law: tokens spell an operand of at most one form, and `form_of` gives it.
+#[tactic(auto, using(crate::proofs::OneForm::has_one_form))]
 pub fn one_form()
     ensures { (ts : List Token) → (form : Form) → IsOperand ts form ↔ (form_of ts ≡ Some form) }
 {}
@@ -149,6 +150,7 @@ fn comma(tokens: &[Token]) -> Option<usize>
 }
 
 /// Returns the tokens before the first comma, and the others.
+#[tactic(auto, using(crate::proofs::Pieces::cut_at))]
 fn cut<'t, 'a>(tokens: &'t [Token<'a>]) -> (&'t [Token<'a>], &'t [Token<'a>])
     ensures pieces { pieces tokens.now ≡ result.0.now ∷ pieces_after result.1.now }
     ensures all { length result.0.now + length result.1.now ≡ length tokens.now }

@@ -110,6 +110,7 @@ pub fn read_expression<'a>(
 }
 
 /// A law: tokens have at most one reading as a sum of terms, and `read_expression` gives it.
+#[tactic(auto, using(crate::proofs::OneValue::has_one_value))]
 pub fn one_value()
     ensures { (ts : List Token) → (terms : List Term) → IsSum (map piece_of ts) terms ↔ (expression ts ≡ Some terms) }
 {}
