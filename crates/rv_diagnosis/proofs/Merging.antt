@@ -4,7 +4,7 @@ use Rattle.std.specs.Prelude.{Option, None, Some, IfSome, is_some, slice_get}
 use Rattle.std.specs.List.{All, filter_map, cons_option, range_with_len, find}
 use Rattle.std.specs.Option.{option_map, unwrap_or}
 use Rattle.std.proofs.lemmas.List.{map-append}
-use Rattle.std.proofs.lemmas.Option.{slice_get_read}
+use Rattle.std.proofs.lemmas.Option.{slice_get_past, slice_get_read}
 use Rattle.std.proofs.lemmas.List.Elements.{All-nil, All-push}
 use Rattle.std.proofs.lemmas.Bool.Decides.{nat_tests}
 use Rattle.rv_program.specs.declared.fault.FaultKind.{FaultKind}
@@ -132,18 +132,13 @@ module _ (fault : ℕ → Option FaultKind) (texts rest : List (List ℕ)) (n : 
 
 -- ---- one line
 
-past : (faults : List AsmFault) (i : ℕ) → length faults ≤ i → slice_get faults i ≡ None
-past [] i h = refl
-past (fault ∷ faults) zero h = absurd (omega (arith, h))
-past (fault ∷ faults) (suc i) h = past faults i (omega (arith, h))
-
 module _ (n : ℕ) (text : List ℕ) (faults : List AsmFault) (ds : List Diagnosis) where
   nothing : on_line n (slice_get faults (length ds)) ≡ None → Diagnoses n text faults ds ds
   nothing h =
       record { found = None; finds = sym h; appends = sym (append-nil ds); line = tt; from = tt; to = tt }
 
   pub none_next : length faults ≤ length ds → Diagnoses n text faults ds ds
-  none_next h = nothing (rw (past faults (length ds) h) refl)
+  none_next h = nothing (rw (slice_get_past faults (length ds) h) refl)
 
   module _ (fault : AsmFault) (at : fault ≡ get_or faults (length ds) fault) (some : length ds < length faults) where
     is : slice_get faults (length ds) ≡ Some fault
