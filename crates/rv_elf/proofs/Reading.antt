@@ -65,7 +65,7 @@ headers_from : (k : ℕ) (ss : List Section) → word_at (file_of k ss) 32 ≡ 8
 unfolding file_of file_header
 headers_from k ss = refl
 
-length_headers : (at : ℕ) (ss : List Section) → length (section_headers at ss) ≡ 40 * length ss
+pub length_headers : (at : ℕ) (ss : List Section) → length (section_headers at ss) ≡ 40 * length ss
 unfolding section_header
 length_headers at [] = refl
 length_headers at (s ∷ ss) = omega (arith, length_headers (at + length s.contents) ss)

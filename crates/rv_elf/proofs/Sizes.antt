@@ -12,9 +12,9 @@ use Rattle.rv_elf.specs.Support.LineBytes.{leb_bytes, line_step, rows_bytes, tab
 use Rattle.rv_elf.specs.declared.object.Tables.{Tables}
 use Rattle.rv_elf.specs.Support.Sections.{Parts, parts, sections_of}
 use Rattle.rv_elf.specs.Support.Tables.{names, table_of, strings_of}
-use Rattle.rv_elf.specs.Support.Written.{AreSmall, section_header, section_headers, bodies, bodies_from, file_header, program_header, file_of}
+use Rattle.rv_elf.specs.Support.Written.{AreSmall, bodies, bodies_from, file_header, program_header, file_of}
 use Rattle.rv_elf.proofs.Named.{length_entries}
-use Rattle.rv_elf.proofs.Reading.{file_sections}
+use Rattle.rv_elf.proofs.Reading.{file_sections, length_headers}
 
 -- ---- the line table
 
@@ -54,14 +54,9 @@ strings_exceed image ss lines name h = omega (arith, names_have ss)
 
 -- ---- a file
 
-headers_have : (at : ℕ) (ss : List Section) → length (section_headers at ss) ≡ 40 * length ss
-unfolding section_header
-headers_have at [] = refl
-headers_have at (s ∷ ss) = search (rules, length-append, headers_have (at + length s.contents) ss)
-
 file_length : (k : ℕ) (ss : List Section) → length (file_of k ss) ≡ bodies_from (length ss) + length (bodies ss)
 unfolding file_of file_header program_header
-file_length k ss = search (rules, length-append, headers_have)
+file_length k ss = search (rules, length-append, length_headers)
 
 pub file_within : (k : ℕ) (ss : List Section) → bodies_from (length ss) + length (bodies ss) < 2 ^ 32 →
     length (file_of k ss) < 2 ^ 32
