@@ -1,10 +1,10 @@
 -- What is said of all lines, line by line.
 use Rattle.std.proofs.lemmas.Bool.Decides.{nat_tests}
-use Rattle.std.proofs.Common.{◌≡◌, ℕ, zero, suc, ◌+◌, ◌-◌, ◌<◌, ◌≤◌, List, [], ◌∷◌, ◌++◌, length, refl, sym, ap, ◌∙◌, arith, append-nil, add-zero, rules}
+use Rattle.std.proofs.Common.{cond, ◌≡◌, ℕ, zero, suc, ◌+◌, ◌-◌, ◌<◌, ◌≤◌, List, [], ◌∷◌, ◌++◌, length, refl, sym, ap, ◌∙◌, arith, append-nil, add-zero, rules}
 use Rattle.std.specs.Prelude.{map, is_some, Option, None, slice_get, Result, Ok, Err}
 use Rattle.std.specs.Option.{option_map, option_map_or, option_or, unwrap_or}
 use Rattle.std.specs.Result.{result_unwrap_or}
-use Rattle.std.specs.List.{flat_map, filter_map, range_with_len, find}
+use Rattle.std.specs.List.{flat_map, range_with_len, find}
 use Rattle.std.proofs.lemmas.Grind.{flat_map-append, common_steps}
 use Rattle.std.proofs.lemmas.List.{map-append}
 use Rattle.std.proofs.lemmas.List.Elements.{filter_map-append}
@@ -28,12 +28,6 @@ range_parts a (suc n) m =
 range_more : (n : ℕ) → range_with_len 0 (suc n) ≡ range_with_len 0 n ++ n ∷ []
 range_more n = search (rules, range_parts)
 
-range_before : (n m : ℕ) → n ≤ m → range_with_len 0 m ≡ range_with_len 0 n ++ range_with_len n (m - n)
-range_before n m h =
-    let e : n + (m - n) ≡ m = omega arith in
-    let z : 0 + n ≡ n = omega arith in
-    rw (e, z) at (range_parts 0 n (m - n))
-
 pub joined_none : {A : Type 0} (f : ℕ → List A) → joined f 0 ≡ []
 unfolding joined
 joined_none f = refl
@@ -45,7 +39,11 @@ joined_more f n = grind (arith, nat_tests, common_steps, range_more, flat_map-ap
 pub joined_same : {A : Type 0} (f g : ℕ → List A) (n : ℕ) → ((k : ℕ) → k < n → f k ≡ g k) →
     joined f n ≡ joined g n
 joined_same f g zero h = joined_none f ∙ sym (joined_none g)
-joined_same f g (suc n) h = search (rules, joined_more, joined_same f g n (λ k p. h k (omega (arith, p))))
+joined_same f g (suc n) h = search (rules, joined_more, joined_same f g n)
+
+pub up_to_none : (f : ℕ → ℕ) → up_to f 0 ≡ f 0 ∷ []
+unfolding up_to
+up_to_none f = refl
 
 pub up_to_more : (f : ℕ → ℕ) (n : ℕ) → up_to f (suc n) ≡ up_to f n ++ f (suc n) ∷ []
 unfolding up_to
@@ -55,9 +53,7 @@ up_to_more f n = ap (map f) (range_more (suc n)) ∙ map-append f (range_with_le
 pub joined_before : {A : Type 0} (f : ℕ → List A) (n m : ℕ) → n ≤ m →
     joined f m ≡ joined f n ++ flat_map f (range_with_len n (m - n))
 unfolding joined
-joined_before f n m h =
-    ap (flat_map f) (range_before n m h)
-    ∙ flat_map-append f (range_with_len 0 n) (range_with_len n (m - n))
+joined_before f n m h = grind (arith, range_parts 0 n (m - n), flat_map-append)
 
 -- ---- faults
 
@@ -77,23 +73,26 @@ pub first_append : (xs ys : List AsmFault) → slice_get (xs ++ ys) 0 ≡ option
 first_append [] ys = refl
 first_append (x ∷ xs) ys = refl
 
+pub none_first : (faults : List AsmFault) → slice_get faults 0 ≡ None → faults ≡ []
+none_first [] h = refl
+none_first (fault ∷ faults) h = absurd cc
+
 left_nil : {A : Type 0} (xs ys : List A) → xs ++ ys ≡ [] → xs ≡ []
 left_nil [] ys h = refl
 left_nil (x ∷ xs) ys h = absurd (let no : x ∷ (xs ++ ys) ≡ [] = h in cc)
 
 pub none_appended : (faults found : List AsmFault) (k : ℕ) (o : Option FaultKind) → found ≡ faults ++ faults_at k o →
     found ≡ [] → (faults ≡ []) × (o ≡ None)
-none_appended faults found k o e h = grind (arith, nat_tests, common_steps)
+none_appended faults found k o e h = search (rules, left_nil)
 
 -- if n + 1 lines have no fault, neither has the last of them, nor have those before it
 pub none_last : (fault : ℕ → Option FaultKind) (n : ℕ) → all_faults fault (suc n) ≡ [] → fault n ≡ None
 none_last fault n h = (none_appended (all_faults fault n) _ n (fault n) (faults_more fault n) h).1
 
 pub none_before : (fault : ℕ → Option FaultKind) (n m : ℕ) → all_faults fault m ≡ [] → n ≤ m → all_faults fault n ≡ []
-unfolding all_faults
-none_before fault n m h p =
-    left_nil _ _ (sym (ap (filter_map (fault_at fault)) (range_before n m p)
-    ∙ filter_map-append (fault_at fault) (range_with_len 0 n) (range_with_len n (m - n))) ∙ h)
+none_before fault n zero h p = search (rules, faults_none)
+none_before fault n (suc m) h p =
+    grind (arith, nat_tests, common_steps, none_appended, faults_more, none_before fault n m)
 
 -- ---- the first of three phases that has faults
 
@@ -104,17 +103,22 @@ first_found one two three = unwrap_or (find (λ found. is_some (slice_get found 
 abbrev pub answer : List AsmFault → Assembly → Result Assembly AsmFault
 answer faults a = option_map_or (λ fault. Err fault) (slice_get faults 0) (Ok a)
 
-pub found_one : (one two three : List AsmFault) → (one ≡ [] → ⊥) → first_found one two three ≡ one
-found_one [] two three h = absurd (h refl)
-found_one (x ∷ one) two three h = refl
+-- it is empty if all three are
+pub none_found : (one two three : List AsmFault) → first_found one two three ≡ [] →
+    (one ≡ []) × (two ≡ []) × (three ≡ [])
+none_found [] [] [] h = (refl, refl, refl)
+none_found one two three h = absurd cc
 
-pub found_two : (one two three : List AsmFault) → one ≡ [] → (two ≡ [] → ⊥) → first_found one two three ≡ two
-found_two one [] three e h = absurd (h refl)
-found_two one (x ∷ two) three e h = rw e refl
+-- it is found by two tests
+pub found_in : (one two three old new : List AsmFault) → old ≡ cond (is_some (slice_get one 0)) one two →
+    new ≡ cond (is_some (slice_get old 0)) old three → new ≡ first_found one two three
+found_in one two three old new e f = search (rules, none_first)
 
-pub found_three : (one two three : List AsmFault) → one ≡ [] → two ≡ [] → first_found one two three ≡ three
-found_three one two [] e f = rw (e, f) refl
-found_three one two (x ∷ three) e f = rw (e, f) refl
+pub same_found : (one two three first second third : List AsmFault) → one ≡ first → (one ≡ [] → two ≡ second) →
+    (one ≡ [] → two ≡ [] → three ≡ third) → first_found one two three ≡ first_found first second third
+same_found (x ∷ one) two three first second third e f g = rw (← e) refl
+same_found [] (y ∷ two) three first second third e f g = rw (← e, ← f refl) refl
+same_found [] [] three first second third e f g = rw (← e, ← f refl, ← g refl refl) refl
 
 pub first_same : (one two other three : List AsmFault) → slice_get two 0 ≡ slice_get other 0 →
     slice_get (first_found one two three) 0 ≡ slice_get (first_found one other three) 0

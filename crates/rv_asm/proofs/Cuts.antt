@@ -1,6 +1,6 @@
 -- Lists in order of a number, looked up by binary search: the place at which the number passes one.
 use Rattle.std.proofs.lemmas.Grind.{common_steps}
-use Rattle.std.proofs.Common.{◌≡◌, ℕ, zero, suc, ◌<◌, ◌≤◌, true, false, List, [], ◌∷◌, length, take, get_or, ◌+◌, ap, refl, arith, leb, ◌-◌, rules}
+use Rattle.std.proofs.Common.{◌≡◌, ℕ, zero, suc, ◌<◌, ◌≤◌, true, false, List, [], ◌∷◌, length, take, get_or, ◌+◌, refl, arith, leb, ◌-◌, rules}
 use Rattle.std.proofs.lemmas.Option.{slice_get-get_or}
 use Rattle.std.specs.Prelude.{Option, Some, None, filter, nat_le, nat_lt, slice_get}
 use Rattle.std.specs.List.{find, last_or}
@@ -11,8 +11,7 @@ use Rattle.rv_asm.specs.Support.Statements.{last_of}
 last_taken : {X : Type 0} (o : Option X) (xs : List X) (k : ℕ) → k < length xs →
     last_or o (take (suc k) xs) ≡ slice_get xs k
 last_taken o [] k h = absurd (omega arith)
-last_taken o (x ∷ xs) zero h = refl
-last_taken {X} o (x ∷ xs) (suc k) h = last_taken (Some x) xs k (omega arith)
+last_taken o (x ∷ xs) k h = search (rules, last_taken (Some x) xs)
 
 pub last_some : {X : Type 0} (xs : List X) (i j : ℕ) (x : X) → x ≡ get_or xs j x → j + 1 ≡ i → i ≤ length xs →
     last_of xs i ≡ Some x
@@ -30,26 +29,19 @@ module _ {X : Type 0} (n : X → ℕ) (t : ℕ) where
   none x xs c = (λ k d p q. absurd (omega arith), λ k d p q. c.1 (suc k) d (omega arith) (omega arith))
 
   first : (xs : List X) (i : ℕ) → i ≤ length xs → IsCut xs i → filter (λ x. nat_le (n x) t) xs ≡ take i xs
-  first [] zero h c = refl
-  first [] (suc i) h c = absurd (omega arith)
-  first (x ∷ xs) zero h c = rw (c.1 zero x (omega arith) (omega arith)) (first xs zero (omega arith) (none x xs c))
-  first (x ∷ xs) (suc i) h c =
-      rw (c.0 zero x (omega arith) (omega arith)) (ap (λ ys. x ∷ ys) (first xs i (omega arith) (rest x xs i c)))
+  first [] i h c = grind (arith, nat_tests)
+  first (x ∷ xs) zero h c = grind (arith, nat_tests, c.1 zero x, first xs zero, none x xs c)
+  first (x ∷ xs) (suc i) h c = grind (arith, nat_tests, c.0 zero x, first xs i, rest x xs i c)
 
   pub last_cut : (xs : List X) (i : ℕ) → i ≤ length xs → IsCut xs i →
       last_or None (filter (λ x. nat_le (n x) t) xs) ≡ last_of xs i
-  last_cut xs zero h c = rw (first xs zero h c) refl
-  last_cut xs (suc k) h c = rw (first xs (suc k) h c) (last_taken None xs k (omega arith))
+  last_cut xs i h c = rw (first xs i h c) (search (rules, last_taken))
 
   pub next_cut : (xs : List X) (i : ℕ) → i ≤ length xs → IsCut xs i →
       find (λ x. nat_lt t (n x)) xs ≡ slice_get xs i
   next_cut [] i h c = refl
-  next_cut (x ∷ xs) zero h c =
-      let above : nat_lt t (n x) ≡ true = let e = c.1 zero x (omega arith) (omega arith) in grind (arith, nat_tests) in
-      rw above refl
-  next_cut (x ∷ xs) (suc i) h c =
-      let below : nat_lt t (n x) ≡ false = let e = c.0 zero x (omega arith) (omega arith) in grind (arith, nat_tests) in
-      rw below (next_cut xs i (omega arith) (rest x xs i c))
+  next_cut (x ∷ xs) zero h c = grind (arith, nat_tests, c.1 zero x)
+  next_cut (x ∷ xs) (suc i) h c = grind (arith, nat_tests, c.0 zero x, next_cut xs i, rest x xs i c)
 
 -- ---- the line of an address, which is the place at which the addresses pass it
 
@@ -62,4 +54,4 @@ module _ (xs : List ℕ) (a n m : ℕ) (c : IsPartitionPoint (λ x. nat_le x a �
   one_line = search (rules, above)
 
   pub no_line : length xs ≤ n → ⊥
-  no_line h = let w = above xs a m to in let e = one_line in omega (arith, e, w, h)
+  no_line h = search (rules, above, one_line)

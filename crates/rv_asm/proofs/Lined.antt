@@ -1,29 +1,30 @@
 -- The listing of an accepted source.
 use Rattle.std.proofs.lemmas.Grind.{common_steps}
-use Rattle.std.proofs.Common.{◌≡◌, ℕ, zero, suc, ◌+◌, ◌≤◌, true, cond, List, [], ◌∷◌, ◌++◌, length, refl, sym, ap, ◌∙◌, arith, append-nil, length-append, ◌-◌, ◌<◌, get_or, slice_range, append_assoc, add-zero, add-suc, rules}
+use Rattle.std.proofs.Common.{◌≡◌, ℕ, zero, suc, ◌+◌, ◌≤◌, true, cond, List, [], ◌∷◌, ◌++◌, length, refl, sym, ap, ◌∙◌, arith, append-nil, length-append, ◌-◌, ◌<◌, get_or, slice_range, append_assoc, rules}
 use Rattle.std.specs.Prelude.{Option, None, Some, Result, Ok, nat_lt, IfSome, ◌&&◌}
 use Rattle.std.specs.Option.{option_map, option_map_or}
 use Rattle.std.specs.Result.{result_err, result_unwrap_or}
 use Rattle.std.specs.List.{flat_map, All, range_with_len}
 use Rattle.std.proofs.lemmas.Bool.Decides.{nat_tests}
 use Rattle.rv_source.specs.Reading.{Parsed}
-use Rattle.rv_source.specs.declared.statement.Statement.{Statement}
 use Rattle.rv_program.specs.declared.fault.FaultKind.{FaultKind}
 use Rattle.rv_asm.specs.Symbols.{Definitions}
 use Rattle.rv_base.specs.Limits.{ram_base}
 use Rattle.rv_asm.specs.Layout.{line_at, definitions, labels_in}
-use Rattle.rv_asm.specs.Support.Steps.{address, known_on, joined, all_faults, phase_three_fault, up_to, labels, LabelsRise, LieInOrder, AreLinesOf, located, noted_with, Known, stated, known_before, stated_bytes, bytes_by, listed as listed_of}
-use Rattle.rv_asm.proofs.Counting.{joined_none, joined_more, none_last, none_before, answer, first_found, image_by, assembled_is, joined_before, joined_same, up_to_more}
+use Rattle.rv_asm.specs.Support.Steps.{address, joined, all_faults, phase_three_fault, up_to, labels, LieInOrder, AreLinesOf, located, noted_with, known_before, bytes_by, listed as listed_of}
+use Rattle.rv_asm.proofs.Counting.{joined_none, joined_more, none_last, none_before, answer, first_found, image_by, assembled_is, joined_before, joined_same, up_to_none, up_to_more}
 use Rattle.rv_asm.proofs.Rows.{statement_size}
-use Rattle.std.specs.List.Sorted.{IsNonDecreasing, IsNonDecreasingBy}
+use Rattle.std.specs.List.Sorted.{IsNonDecreasingBy}
 use Rattle.std.proofs.Math.Seq.{drop-append_seam, take-append_seam}
 use Rattle.std.proofs.lemmas.List.FromFn.{length-map-range_with_len, get_or-map-range_with_len}
-use Rattle.std.proofs.lemmas.List.Elements.{All-nil, All-push, All-weaker, All-get_or}
-use Rattle.std.proofs.lemmas.List.Sorted.{IsNonDecreasingBy-push, IsNonDecreasingBy-short, IsNonDecreasingBy-from_default}
+use Rattle.std.proofs.lemmas.List.Elements.{All-nil, All-cons, All-push, All-weaker, All-get_or}
+use Rattle.std.proofs.lemmas.List.Sorted.{IsNonDecreasingBy-push, IsNonDecreasingBy-short}
 use Rattle.rv_base.specs.Lines.{lines}
 use Rattle.rv_source.specs.declared.line.Label.{Label}
 use Rattle.rv_source.specs.declared.line.Label.TheVariants as label
 use Rattle.rv_program.specs.Program.{Assembly}
+use Rattle.rv_program.specs.Faults.{Gives}
+use Rattle.std.specs.Prelude.{Err}
 use Rattle.rv_program.specs.declared.fault.AsmFault.{AsmFault}
 use Rattle.rv_asm.specs.Assembly.{all_parsed, line_bytes, assembled}
 use Rattle.rv_asm.specs.Lines.{Listed, Located, listed, bytes_of, end_of}
@@ -31,23 +32,14 @@ use Rattle.rv_asm.proofs.Reading.{length-parsed}
 
 -- ---- the size of the image
 
-module _ (ds : Definitions) (k : ℕ) (known : Known) where
-  size_line : (statement : Option Statement) → result_err (stated_bytes ds k known statement) ≡ None
-      → (stated k known statement).address ≡ known.address + length (listed_of (stated_bytes ds k known statement))
-  size_line statement e = search (rules, statement_size)
-
 module _ (lines : List Parsed) where
   -- the bytes of n lines without a fault reach from the base to the address following these lines
   pub size_listed : (ds : Definitions) (n : ℕ) → all_faults (λ k. result_err (bytes_by ds lines k)) n ≡ []
       → ram_base + length (joined (λ k. listed_of (bytes_by ds lines k)) n) ≡ address lines n
   unfolding known_before
-  size_listed ds zero e = rw joined_none refl
+  size_listed ds zero e = search (rules, joined_none)
   size_listed ds (suc n) e =
-      let three = λ (k : ℕ). result_err (bytes_by ds lines k) in
-      let before = size_listed ds n (none_before three n (suc n) e (omega arith)) in
-      let last = size_line ds n (known_on lines n) (line_at lines n).statement (none_last three n e) in
-      let more = length-append (joined (λ k. listed_of (bytes_by ds lines k)) n) (listed_of (bytes_by ds lines n)) in
-      rw joined_more (omega (arith, more, before, last))
+      search (rules, joined_more, length-append, none_before, none_last, statement_size, size_listed ds n)
 
 -- ---- an accepted source has no fault
 
@@ -57,10 +49,8 @@ pub record IsAccepted (source : List ℕ) (a : Assembly) : Type 0 where
 
 answered : (one two three : List AsmFault) (p a : Assembly) →
     answer (first_found one two three) p ≡ Ok a → (three ≡ []) × (p ≡ a)
-answered (f ∷ fs) two three p a h = absurd cc
-answered [] (f ∷ fs) three p a h = absurd cc
-answered [] [] (f ∷ fs) p a h = absurd cc
 answered [] [] [] p a h = (refl, cc)
+answered one two three p a h = absurd cc
 
 accepted : (source : List ℕ) (a : Assembly) → assembled source ≡ Ok a → IsAccepted source a
 accepted source a h = search (rules, answered, assembled_is)
@@ -75,82 +65,63 @@ up_to_at : (f : ℕ → ℕ) (n i : ℕ) → i ≤ n → get_or (up_to f n) i 0 
 unfolding up_to
 up_to_at f n i h = get_or-map-range_with_len f 0 (suc n) i i 0 (omega (arith, h)) (omega arith)
 
--- ---- addresses rise
+-- ---- addresses and labels rise
 
-address_rises : (ls : List Parsed) (i d : ℕ) → address ls i ≤ address ls (i + d)
-unfolding known_before
-address_rises ls i zero = rw add-zero (omega arith)
-address_rises ls i (suc d) = let h = address_rises ls i d in rw add-suc (omega (arith, h))
+-- the numbers of elements never fall, and none is above another number
+record AreUpTo {X : Type 0} (f : X → ℕ) (here : ℕ) (xs : List X) : Type 0 where
+  below : All (λ x. f x ≤ here) xs
+  rises : IsNonDecreasingBy f xs
 
-rises_by : (ls : List Parsed) (i j : ℕ) → i ≤ j → address ls i ≤ address ls j
-rises_by ls i j h = let e : i + (j - i) ≡ j = omega arith in rw e at (address_rises ls i (j - i))
-
-pub addresses_rise : (ls : List Parsed) (n : ℕ) → IsNonDecreasing (up_to (address ls) n)
-addresses_rise ls n = IsNonDecreasingBy-from_default (λ x. x) (up_to (address ls) n) 0 (λ i j h p.
-    let l = length_up_to (address ls) n in
-    let r = rises_by ls i j h in
-    let x = up_to_at (address ls) n i (omega (arith, l, p, h)) in
-    let y = up_to_at (address ls) n j (omega (arith, l, p)) in
-    omega (arith, r, x, y))
-
--- ---- labels rise
-
-abbrev Labels : Type 0
-Labels = List (List ℕ × ℕ)
-
--- the labels never fall, and none is above an address
-record AreUpTo (here : ℕ) (xs : Labels) : Type 0 where
-  below : All (λ (l : List ℕ × ℕ). l.1 ≤ here) xs
-  rises : IsNonDecreasingBy (λ (l : List ℕ × ℕ). l.1) xs
-
-push_up : (here : ℕ) (xs : Labels) (name : List ℕ) → AreUpTo here xs → AreUpTo here (xs ++ (name, here) ∷ [])
-push_up here xs name h = record {
-  below = All-push (λ (l : List ℕ × ℕ). l.1 ≤ here) xs (name, here) h.below (omega arith);
-  rises = IsNonDecreasingBy-push (λ (l : List ℕ × ℕ). l.1) xs (name, here) h.rises
-      (λ d p. All-get_or (λ (l : List ℕ × ℕ). l.1 ≤ here) xs (length xs - 1) d (omega (arith, p)) h.below);
+push_up : {X : Type 0} (f : X → ℕ) (a b : ℕ) (xs : List X) (x : X) → AreUpTo f a xs → a ≤ f x → f x ≤ b →
+    AreUpTo f b (xs ++ x ∷ [])
+push_up f a b xs x h from to = record {
+  below = All-push (λ y. f y ≤ b) xs x (All-weaker (λ y. f y ≤ a) (λ y. f y ≤ b) (λ y p. omega arith) xs h.below) to;
+  rises = IsNonDecreasingBy-push f xs x h.rises
+      (λ d p. let le = All-get_or (λ y. f y ≤ a) xs (length xs - 1) d (omega (arith, p)) h.below in omega (arith, le));
 }
 
-labels_up : (here : ℕ) (xs : Labels) (ls : List Label) → AreUpTo here xs →
-    AreUpTo here (xs ++ labels_in here ls)
+goes_up : (ls : List Parsed) (n : ℕ) → address ls n ≤ address ls (suc n)
+unfolding known_before
+goes_up ls n = omega arith
+
+addresses_up : (ls : List Parsed) (n : ℕ) → AreUpTo (λ x. x) (address ls n) (up_to (address ls) n)
+addresses_up ls zero = search (rules, up_to_none, All-nil, All-cons, IsNonDecreasingBy-short)
+addresses_up ls (suc n) = search (rules, up_to_more, push_up, goes_up, addresses_up ls n)
+
+labels_up : (here : ℕ) (xs : List (List ℕ × ℕ)) (ls : List Label) → AreUpTo (λ (l : List ℕ × ℕ). l.1) here xs →
+    AreUpTo (λ (l : List ℕ × ℕ). l.1) here (xs ++ labels_in here ls)
 labels_up here xs [] h = rw append-nil h
-labels_up here xs (label.Name name ∷ ls) h =
-    search (rules, append_assoc, push_up, labels_up here (xs ++ (name, here) ∷ []) ls (push_up here xs name h))
+labels_up here xs (label.Name name ∷ ls) h = search (
+  rules,
+  append_assoc,
+  labels_up here (xs ++ (name, here) ∷ []) ls
+      (push_up (λ (l : List ℕ × ℕ). l.1) here here xs (name, here) h (omega arith) (omega arith)),
+)
 labels_up here xs (label.Local number ∷ ls) h = labels_up here xs ls h
 
-raised : (a b : ℕ) (xs : Labels) → a ≤ b → AreUpTo a xs → AreUpTo b xs
-raised a b xs le h = search (rules, All-weaker)
-
-labels_to : (ls : List Parsed) (n : ℕ) → AreUpTo (address ls n) (labels ls n)
+labels_to : (ls : List Parsed) (n : ℕ) → AreUpTo (λ (l : List ℕ × ℕ). l.1) (address ls n) (labels ls n)
 labels_to ls zero = search (rules, joined_none, All-nil, IsNonDecreasingBy-short)
-labels_to ls (suc n) = rw joined_more
-    (raised (address ls n) (address ls (suc n)) (labels ls n ++ labels_in (address ls n) (line_at ls n).labels)
-    (rises_by ls n (suc n) (omega arith))
-    (labels_up (address ls n) (labels ls n) (line_at ls n).labels (labels_to ls n)))
-
-pub labels_rise : (ls : List Parsed) (n : ℕ) → LabelsRise (labels ls n)
-labels_rise ls n = (labels_to ls n).rises
+labels_to ls (suc n) =
+    let up = labels_up (address ls n) (labels ls n) (line_at ls n).labels (labels_to ls n) in
+    let le = goes_up ls n in
+    rw joined_more (record { below = search (rules, All-weaker, up, le); rises = up.rises })
 
 pub lie_in_order : (ls : List Parsed) (n : ℕ) →
     LieInOrder (record { addresses = up_to (address ls) n; labels = labels ls n })
 unfolding known_before
-lie_in_order ls n = search (rules, length_up_to, up_to_at, addresses_rise, labels_rise)
+lie_in_order ls n = search (rules, length_up_to, up_to_at, addresses_up ls n, labels_to ls n)
 
 -- ---- the bytes of a line
 
 part_is : (xs ys zs : List ℕ) → slice_range (xs ++ (ys ++ zs)) (length xs) (length (xs ++ ys)) ≡ ys
 part_is xs ys zs = grind (arith, nat_tests, common_steps, length-append, drop-append_seam, take-append_seam)
 
-part_at : (f : ℕ → List ℕ) (n k : ℕ) → k < n →
-    slice_range (joined f n) (length (joined f k)) (length (joined f (suc k))) ≡ f k
-part_at f n k h =
-    rw (joined_before f (suc k) n (omega (arith, h)), joined_more f k, append_assoc) (part_is (joined f k) (f k) _)
-
 bytes_between : (image xs : List ℕ) (f : ℕ → List ℕ) (n k : ℕ) → image ≡ joined f n → k < n →
     nat_lt (suc k) (length xs) ≡ true → get_or xs k 0 - ram_base ≡ length (joined f k) →
     get_or xs (suc k) 0 - ram_base ≡ length (joined f (suc k)) →
     option_map_or (λ a. slice_range image (a - ram_base) (get_or xs (suc k) 0 - ram_base))
     (cond (nat_lt 0 (suc k) && nat_lt (suc k) (length xs)) (Some (get_or xs (suc k - 1) 0)) None) [] ≡ f k
-bytes_between image xs f n k i h t x y = search (rules, part_at)
+bytes_between image xs f n k i h t x y = search (rules, joined_before f (suc k) n, joined_more, append_assoc, part_is)
 
 -- ---- the listing
 
@@ -182,7 +153,7 @@ module _ (source : List ℕ) (a : Assembly) where
 
   module _ (ok : IsAccepted source a) where
     image_is : a.bytes ≡ joined image_of n
-    image_is = ok.is ∙ ap (joined image_of) same_length
+    image_is = search (rules, ok.is, same_length)
 
     -- the image reaches from the base to the last address
     reaches : (k : ℕ) → k ≤ n → ram_base + length (joined image_of k) ≡ address parsed k
@@ -195,15 +166,12 @@ module _ (source : List ℕ) (a : Assembly) where
     is_ok r h = search rules
 
     line_is : (k : ℕ) → k < n → bytes_of listing (suc k) ≡ image_of k
-    line_is k h =
-        let t : nat_lt (suc k) (length listing.addresses) ≡ true = grind (arith, nat_tests, count_is, h) in
-        let from = address_at k (omega (arith, h)) ∙ sym (reaches k (omega (arith, h))) in
-        let to = address_at (suc k) (omega (arith, h)) ∙ sym (reaches (suc k) (omega (arith, h))) in
-        bytes_between a.bytes listing.addresses image_of n k image_is h t (omega (arith, from)) (omega (arith, to))
+    line_is k h = bytes_between a.bytes listing.addresses image_of n k image_is h (search (rules, nat_tests, count_is))
+        (search (rules, address_at, reaches)) (search (rules, address_at, reaches))
 
     all_joined : flat_map (λ k. bytes_of listing (suc k)) (range_with_len 0 n) ≡ a.bytes
     unfolding joined
-    all_joined = joined_same (λ k. bytes_of listing (suc k)) image_of n line_is ∙ sym image_is
+    all_joined = search (rules, joined_same, line_is, image_is)
 
   pub are_lines : assembled source ≡ Ok a → AreLinesOf source listing
   are_lines h = let ok = accepted source a h in record {
@@ -213,6 +181,14 @@ module _ (source : List ℕ) (a : Assembly) where
     all = all_joined ok;
     end = reaches_end ok;
   }
+
+-- a fault of the assembly is one of the listing
+pub fails_listed : (source : List ℕ) (fault : AsmFault) → Gives (λ x. x) (Err fault) (assembled source) →
+    Gives (λ x. x) (Err fault) (listed source)
+unfolding listed
+fails_listed source fault h = search rules
+
+pub ruleset list_steps = (fails_listed, lie_in_order)
 
 -- ---- the notes of lines
 

@@ -1,10 +1,11 @@
 -- Reading the lines of a source, one by one, and the faults of those that can't be read.
 use Rattle.std.proofs.lemmas.Bool.Decides.{nat_tests}
 use Rattle.std.proofs.lemmas.Grind.{common_steps}
-use Rattle.std.proofs.Common.{◌≡◌, ℕ, suc, ◌+◌, ◌<◌, ◌≤◌, List, [], ◌∷◌, ◌++◌, length, drop, get_or, sym, refl, ap, ◌∙◌, arith, add-one, add-zero, length-drop, append-nil, rules}
-use Rattle.std.specs.Prelude.{Ok, Some, Result, Err, OnOk, ◌==◌, if◌then◌else◌}
+use Rattle.std.proofs.Common.{◌≡◌, ℕ, suc, ◌+◌, ◌<◌, ◌≤◌, List, [], ◌∷◌, ◌++◌, length, drop, get_or, sym, refl, ap, ◌∙◌, arith, add-one, length-drop, append-nil, rules}
+use Rattle.std.specs.Prelude.{Ok, Some, Result, Err}
 use Rattle.std.specs.Result.{result_err}
-use Rattle.std.proofs.lemmas.List.{get_or-map, get_or-drop, drop-drop, length-map}
+use Rattle.std.proofs.Math.Seq.{drop-cons}
+use Rattle.std.proofs.lemmas.List.{get_or-map, length-map}
 use Rattle.rv_source.specs.Reading.{Parsed, parsed}
 use Rattle.rv_program.specs.declared.fault.AsmFault.{AsmFault}
 use Rattle.rv_asm.specs.Layout.{line_at}
@@ -15,10 +16,7 @@ use Rattle.std.specs.Option.{option_map}
 use Rattle.rv_tokens.specs.Support.Partial.{Fails as LineFails}
 use Rattle.rv_tokens.specs.declared.fault.LineFault.{LineFault}
 use Rattle.rv_tokens.specs.declared.fault.LineFault.TheVariants as line
-use Rattle.rv_program.specs.Faults.{kind_of, title_of}
-use Rattle.rv_program.specs.declared.fault.FaultKind.{FaultKind}
-use Rattle.rv_program.proofs.FaultLines.{is_at}
-use Rattle.rv_program.specs.Support.Kept.{FailsBy, Fails, IsFaultAt}
+use Rattle.rv_program.specs.Faults.{Gives, kind_of}
 use Rattle.rv_asm.specs.Listing.{◌>>=◌}
 
 pub length-parsed : (texts : List (List ℕ)) → length (all_parsed texts) ≡ length texts
@@ -39,17 +37,13 @@ pub record IsAt {X : Type 0} (xs : List X) (n : ℕ) (x : X) (ys : List X) (d : 
 
 pub dropped : {X : Type 0} (xs : List X) (n : ℕ) (x : X) (ys : List X) (d : X) → drop n xs ≡ x ∷ ys →
     IsAt xs n x ys d
-dropped xs n x ys d e = record {
-  below = omega (arith, length-drop n xs, ap length e);
-  item = rw add-zero at (sym (get_or-drop n xs 0 d)) ∙ ap (λ zs. get_or zs 0 d) e;
-  after = rw add-one at (sym (drop-drop 1 n xs)) ∙ ap (drop 1) e;
-}
+dropped xs n x ys d e =
+    let below : n < length xs = omega (arith, length-drop n xs, ap length e) in
+    let c = drop-cons xs n d below in record { below = below; item = cc; after = cc }
 
 module _ (texts rest : List (List ℕ)) (n : ℕ) (so : LeftOf texts rest n) where
   pub none_left : rest ≡ [] → length texts ≡ n
-  none_left h =
-      let none : length rest ≡ 0 = rw h refl in
-      omega (arith, length-drop n texts, ap length so.left, none, so.within)
+  none_left h = omega (arith, length-drop n texts, ap length (sym so.left ∙ h), so.within)
 
   module _ (text : List ℕ) (after : List (List ℕ)) (cut : rest ≡ text ∷ after) where
     next : IsAt texts n text after []
@@ -78,9 +72,6 @@ not_read fault r h n = search rules
 pub never_empty : {X : Type 0} (xs ys : List X) (x : X) → ys ≡ xs ++ x ∷ [] → ys ≡ [] → ⊥
 never_empty xs ys x e h = grind (arith, nat_tests, common_steps)
 
-pub on_ok : {A E : Type 0} (r : Result A E) (P : Type 0) → P → OnOk r P
-on_ok r P p = search rules
-
 -- a line that can be read has no fault
 pub read_well : (k : ℕ) (text : List ℕ) (line : Parsed) (faults : List AsmFault) → parsed text ≡ Ok line →
     faults ≡ faults ++ faults_at k (unread_kind text)
@@ -88,15 +79,6 @@ read_well k text line faults is = rw is (sym (append-nil faults))
 
 -- ---- faults that are passed on
 
-pub fails_bind : {A B : Type 0} (kind : FaultKind) (fault : AsmFault) (r : Result A AsmFault) (f : A →
-    Result B AsmFault) → FailsBy kind fault r → FailsBy kind fault (r >>= f)
-fails_bind kind fault r f h = search rules
-
-pub fails_at : {B : Type 0} (line : ℕ) (kind : FaultKind) (fault : AsmFault) (meaning : Result B AsmFault) →
-    IsFaultAt line kind fault → meaning ≡ Err (record { line = line; kind = kind }) → Fails fault meaning
-fails_at line kind fault m e h = search rules
-
--- a fault at a line
-pub fault_at : (line : ℕ) (kind : FaultKind) (fault : AsmFault)
-    → fault ≡ record { line = (if (title_of kind).0 == 12 then 0 else line); kind = kind } → IsFaultAt line kind fault
-fault_at line kind fault e = is_at line kind fault e
+pub fails_bind : {A B : Type 0} (fault : AsmFault) (r : Result A AsmFault) (f : A → Result B AsmFault) →
+    Gives (λ x. x) (Err fault) r → Gives (λ x. x) (Err fault) (r >>= f)
+fails_bind fault r f h = search rules

@@ -2,25 +2,22 @@
 -- says; and the ranges of its values.
 use Rattle.std.proofs.lemmas.Grind.{common_steps}
 use Rattle.std.proofs.Common.{◌≡◌, List, [], ◌∷◌, ◌++◌, ℕ, suc, ◌*◌, ◌≤◌, ℤ, Bool, true, false, cond, length, ap, ◌∙◌, refl, arith, append-nil, append_assoc, length-append, get_or, ◌<◌, sym, ◌+◌, ◌^◌, ◌%◌, ◌==◌, replicate, pos, negsuc, rules}
-use Rattle.std.specs.Prelude.{◌||◌, map, Option, Some, None, is_none, option_and_then, Result, Ok, Err, min}
-use Rattle.std.specs.Option.{option_map, ok_or, unwrap_or}
+use Rattle.std.specs.Prelude.{◌||◌, map, Option, Some, None, is_none, option_and_then, Ok, Err, min}
+use Rattle.std.specs.Option.{unwrap_or}
 use Rattle.std.specs.List.{list_any, flat_map}
 use Rattle.std.proofs.lemmas.List.Folds.{flat_map-map}
 use Rattle.rv_isa.specs.Width.{bytes_of}
 use Rattle.rv_isa.specs.declared.op.Width.{Width}
 use Rattle.rv_source.specs.declared.operand.Operand.{Operand}
 use Rattle.rv_program.specs.declared.fault.FaultKind.{FaultKind}
-use Rattle.rv_program.specs.declared.fault.FaultKind.TheVariants.{Undefined, OutOfRange, TooLarge}
+use Rattle.rv_program.specs.declared.fault.FaultKind.TheVariants.{Undefined, TooLarge}
 use Rattle.rv_asm.specs.Listing.{placed, code, Emitted, bytes, padding, space, emitted}
 use Rattle.rv_asm.specs.Support.Statements.{Valuation, KindFails, has_unknown, placed_by, wanted, with_value, IsKnown, emitted_by, fault_by, image_end}
 use Rattle.rv_asm.specs.Support.Steps.{appended, IsSum, expression_of, kept_bytes, sums_bytes}
 use Rattle.rv_isa.specs.declared.kind.Kind.{Kind}
 use Rattle.rv_source.specs.Operands.{terms_of}
 use Rattle.rv_source.specs.Support.Partial.{part_of}
-use Rattle.rv_source.specs.declared.expression.Atom.TheVariants.{Number}
 use Rattle.rv_source.specs.declared.expression.Term.{Term}
-use Rattle.rv_source.specs.declared.operand.Form.{Form}
-use Rattle.rv_source.specs.declared.operand.Form.TheVariants as f
 use Rattle.rv_asm.specs.Symbols.{Definitions, operand_value, sum_value}
 use Rattle.rv_asm.specs.Values.{part_value, is_between}
 use Rattle.rv_asm.specs.declared.fixup.Waiting.{Waiting}
@@ -40,27 +37,15 @@ width_within width = search rules
 
 -- ---- one operand
 
-one_by : (o : Option (List ℕ)) → ◌≡◌ {A = Result (List ℕ) FaultKind}
-    (cond (is_none o || false) (Err OutOfRange) (Ok (unwrap_or o [] ++ []))) (ok_or o OutOfRange)
-one_by o = search (rules, append-nil)
-
 pub placed_one : {X : Type 0} (place : ℤ → Option (List ℕ)) (x : X) (value : X → Option ℤ) →
     placed_by place (x ∷ []) value ≡ wanted place (value x)
-placed_one {X} place x value = by (value x) refl
-  where
-    by : (v : Option ℤ) → value x ≡ v → placed_by place (x ∷ []) value ≡ wanted place v
-    by None e = rw e refl
-    by (Some v) e = rw e (one_by (place v))
+placed_one place x value = search (rules, append-nil)
 
 -- ---- values by other things that have them
 
 any_map : {X Y : Type 0} (p : Y → Bool) (h : X → Y) (xs : List X) → list_any p (map h xs) ≡ list_any (λ x. p (h x)) xs
 any_map p h [] = refl
 any_map p h (x ∷ xs) = ap (λ b. p (h x) || b) (any_map p h xs)
-
-pub placed_map : {X Y : Type 0} (place : ℤ → Option (List ℕ)) (h : X → Y) (value : Y → Option ℤ) (xs : List X) →
-    placed_by place (map h xs) value ≡ placed_by place xs (λ x. value (h x))
-placed_map place h value xs = search (rules, any_map, flat_map-map)
 
 -- ---- the first of some operands, before others
 
@@ -87,33 +72,17 @@ pub then_counted : {A B : Type 0} (f : A → Option (List ℕ)) (g : B → Optio
     Counts (λ b. option_and_then f (g b)) n
 then_counted f g n each b bs h = search rules
 
-pub mapped_counted : {A B : Type 0} (f : A → List ℕ) (g : B → Option A) (n : ℕ) → ((a : A) → length (f a) ≡ n) →
-    Counts (λ b. option_map f (g b)) n
-mapped_counted f g n each b bs h = search rules
-
 module _ (value : Valuation) (place : ℤ → Option (List ℕ)) (n : ℕ) (each : Counts place n) where
   abbrev placed_bytes : Operand → Option (List ℕ)
   placed_bytes x = option_and_then place (value x)
 
-  joined_by : (o : Option (List ℕ)) (xs : List Operand) (more : List ℕ) → ((bs : List ℕ) → o ≡ Some bs → length bs ≡ n)
-      → (list_any (λ x. is_none (placed_bytes x)) xs ≡ false → length more ≡ n * length xs)
-      → (is_none o || list_any (λ x. is_none (placed_bytes x)) xs) ≡ false → length (unwrap_or o [] ++ more) ≡ n * suc (length xs)
-  joined_by o xs more here later h = search (rules, length-append)
-
   joined : (xs : List Operand) → list_any (λ x. is_none (placed_bytes x)) xs ≡ false
       → length (flat_map (λ x. unwrap_or (placed_bytes x) []) xs) ≡ n * length xs
   joined [] h = omega arith
-  joined (x ∷ xs) h = joined_by (placed_bytes x) xs _ (then_counted place value n each x) (joined xs) h
+  joined (x ∷ xs) h = search (rules, length-append, then_counted place value n each x, joined xs)
 
   pub placed_counted : (xs : List Operand) (bs : List ℕ) → placed place xs value ≡ Ok bs → length bs ≡ n * length xs
-  placed_counted xs bs h = by (list_any (λ x. is_none (value x)) xs) (list_any (λ x. is_none (placed_bytes x)) xs) refl h
-    where
-      by : (a b : Bool) → list_any (λ x. is_none (placed_bytes x)) xs ≡ b
-          → cond a (Err Undefined) (cond b (Err OutOfRange) (Ok (flat_map (λ x. unwrap_or (placed_bytes x) []) xs))) ≡ Ok bs
-          → length bs ≡ n * length xs
-      by true b e h = absurd cc
-      by false true e h = absurd cc
-      by false false e h = let same : flat_map (λ x. unwrap_or (placed_bytes x) []) xs ≡ bs = cc in rw (← same) (joined xs e)
+  placed_counted xs bs h = grind (arith, nat_tests, common_steps, joined xs)
 
 -- these bytes are those of operands, each by its value in its place
 abbrev pub IsKept : Waiting → List Operand → Kept → Type 0
@@ -125,19 +94,10 @@ pub one_kept : (waiting : Waiting) (x : Operand) (xs : List Operand) (s : Single
 unfolding kept_bytes
 one_kept waiting x xs s sum is some short ds line here = grind (arith, nat_tests, common_steps, placed_one)
 
-same_value : (ds : Definitions) (line here : ℕ) (form : Form)
-    → sum_value ds line here (elim form as (λ _. List Term)
-    [ f.Value part e base ↦ e | f.Text bytes ↦ record { negative = false; atom = Number 0 } ∷ [] ])
-    ≡ sum_value ds line here (elim form as (λ _. List Term) [ f.Value part e base ↦ e | f.Text bytes ↦ [] ])
-unfolding sum_value
-same_value ds line here form = search rules
-
 pub many_kept : (waiting : Waiting) (xs : List Operand) (sums : List (List Term)) → sums ≡ map expression_of xs →
     IsKept waiting xs (kept.Many waiting sums)
-unfolding kept_bytes sums_bytes
-many_kept waiting xs sums is ds line here =
-    rw is (placed_map (with_value here waiting) expression_of (sum_value ds line here) xs
-    ∙ ap (placed (with_value here waiting) xs) (λ i x. same_value ds line here x.form i))
+unfolding kept_bytes sums_bytes sum_value
+many_kept waiting xs sums is ds line here = search (rules, any_map, flat_map-map)
 
 pub near_kept : (kind : Kind) (x : Operand) (k : Kept) → IsKept (w.Near kind (part_of x)) (x ∷ []) k →
     (ds : Definitions) → (line here : ℕ) → kept_bytes ds line here k
@@ -164,12 +124,9 @@ pub length_bytes : (kinds : List Kind) → length (bytes kinds) ≡ 4 * length k
 length_bytes [] = refl
 length_bytes (k ∷ ks) = let h = length_bytes ks in omega arith
 
-pub length_padding : (n : ℕ) → length (padding n) ≡ n
-unfolding padding
-length_padding n = length-append (replicate (n % 4) 0) _ ∙ (rw (length-replicate, length_bytes, length-replicate) (omega arith))
-
 pub padded : (n m : ℕ) → n ≡ m → n ≤ 0xffffffff → n ≡ min (length (padding m)) 0xffffffff
-padded n m e h = rw (length_padding, ← e) (omega arith)
+unfolding padding
+padded n m e h = search (rules, length-append, length-replicate, length_bytes)
 
 -- ---- the value that must be known is all that a row takes from the symbols of its line
 
@@ -184,7 +141,7 @@ pub statement_size : (early late : Valuation) (here : ℕ) (bs : List ℕ) (stat
     → (emitted early here statement).contents late ≡ Ok bs → length bs ≡ (emitted early here statement).size
 unfolding emitted
 statement_size early late here bs statement h =
-    search (rules, placed_counted, then_counted, mapped_counted, length_bytes, length-append, length-replicate)
+    search (rules, placed_counted, length_bytes, length-append, length-replicate)
 
 -- ---- the last test of a statement in phase two
 

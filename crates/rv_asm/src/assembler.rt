@@ -1,5 +1,5 @@
 //! The phases of assembly, from a source to its image, or to all of its faults.
-ghost use Rattle.std.specs.Prelude.{◌≡◌, ◌++◌, ◌<◌, [], IfOk, IfSome, OnOk, length};
+ghost use Rattle.std.specs.Prelude.{◌≡◌, ◌++◌, ◌<◌, [], IfOk, IfSome, OnOk, is_some, length, slice_get, if◌then◌else◌};
 ghost use Rattle.std.specs.List.{flat_map};
 ghost use Rattle.std.specs.Option.{option_map};
 ghost use Rattle.rv_base.specs.Lines.{lines};
@@ -74,7 +74,7 @@ impl<'a> Laid<'a> {
 
     /// Performs phases one and two on one more line, or phase one alone if a line before it has a fault in phase
     /// one. A line with a fault in phase two is left out.
-    #[tactic(auto, using(rv_source::proofs::Parsed::form_fails, rv_source::proofs::Parsed::statement_fails, rv_source::proofs::Parsed::as_parsed))]
+    #[tactic(auto, using(rv_source::proofs::Parsed::form_fails, rv_source::proofs::Parsed::statement_fails, rv_source::proofs::Parsed::as_parsed, crate::proofs::Reading::read_well))]
     fn take(&mut self, alloc: Global, number: usize, text: &'a [u8]) -> Result<(), AllocError>
         requires up_to { self.old.unread.items ≡ [] → All (λ d. d.line ≤ number) self.old.known.definitions.locals }
         requires counted { number < 0xffffffffffffffff }
@@ -142,18 +142,21 @@ fn write(
     }
 }
 
-/// Returns the bytes of all statements, and appends the faults of those that have none: phase three.
+/// Returns the bytes of all statements, and appends the faults of those that have none: phase three. If there are
+/// faults before it, nothing is done.
 fn image(
     alloc: Global,
     items: &[PlacedStatement],
     symbols: &Symbols,
     faults: &mut Vec<AsmFault>,
 ) -> Result<Vec<u8>, AllocError>
-    requires { faults.old.items ≡ [] }
-    ensures faults { OnOk result (faults.new.items ≡ flat_map (item_faults symbols.now) items.now) }
+    ensures faults { OnOk result (faults.new.items ≡ (if is_some (slice_get faults.old.items 0) then faults.old.items else flat_map (item_faults symbols.now) items.now)) }
     ensures bytes { IfOk result (λ v. faults.new.items ≡ [] → v.items ≡ flat_map (item_listed symbols.now) items.now) }
 {
     let mut out = Vec::new(alloc);
+    if faults.first().is_some() {
+        return Ok(out);
+    }
     for item in items {
         write(item, symbols, &mut out, faults)?;
     }
@@ -184,25 +187,11 @@ pub fn examine(alloc: Global, source: &[u8], notes: Option<Notes>) -> Result<Rev
         unread,
         misplaced,
     } = lay_out(alloc, source, notes)?;
-    let bytes = Vec::new(alloc);
-    if !unread.as_slice().is_empty() {
-        let faults = unread;
-        return Ok(Reviewed {
-            faults,
-            bytes,
-            known,
-            notes,
-        });
-    }
-    let mut faults = misplaced;
-    if !faults.as_slice().is_empty() {
-        return Ok(Reviewed {
-            faults,
-            bytes,
-            known,
-            notes,
-        });
-    }
+    let mut faults = if unread.first().is_some() {
+        unread
+    } else {
+        misplaced
+    };
     let bytes = image(alloc, &items, known.symbols(), &mut faults)?;
     Ok(Reviewed {
         faults,
@@ -213,6 +202,7 @@ pub fn examine(alloc: Global, source: &[u8], notes: Option<Notes>) -> Result<Rev
 }
 
 /// Assembles a source into its image and its names, with notes of its lines if they are wanted.
+#[tactic(auto, using(crate::proofs::Counting::none_first, crate::proofs::Examining::fails_first))]
 pub fn assemble_noting(
     alloc: Global,
     source: &[u8],

@@ -114,7 +114,7 @@ impl Known {
     /// Lays out one more line: defines its labels and places its statement. Returns its fault in phase two, if
     /// it has one: then its statement is left out, and so are labels that define a name a second time. `number`
     /// counts from 0.
-    #[tactic(auto, using(crate::proofs::Examining::not_some))]
+    #[tactic(auto, using(crate::proofs::Examining::added_steps), unfolding(crate::specs::Support::Steps::fault_on, crate::specs::Listing::emitted))]
     pub fn add<'a>(
         &mut self,
         alloc: Global,

@@ -1,5 +1,5 @@
 //! The lines of an accepted source with their addresses and their bytes, and its labels.
-ghost use Rattle.std.specs.Prelude.{◌≡◌, ◌≤◌, ◌<◌, ◌+◌, ◌++◌, ℕ, suc, List, true, false, nat_le, filter, get_or, None, Ok, IfOk, OnOk, length};
+ghost use Rattle.std.specs.Prelude.{◌≡◌, ◌≤◌, ◌<◌, ◌+◌, ◌-◌, ◌++◌, ℕ, suc, List, true, false, nat_le, filter, get_or, None, Ok, IfOk, OnOk, length};
 ghost use Rattle.std.specs.List.{All, flat_map, last_or, range_with_len, slice_range};
 ghost use Rattle.std.specs.List.Sorted.{IsNonDecreasing, IsPartitionPoint};
 ghost use Rattle.std.specs.Option.{option_map};
@@ -67,6 +67,7 @@ fn count_up_to(numbers: &[u32], most: u32) -> usize
     requires { IsNonDecreasing numbers.now }
     ensures within { result ≤ length numbers.now }
     ensures point { IsPartitionPoint (λ n. nat_le n most ≡ true) (λ n. nat_le n most ≡ false) numbers.now result }
+    ensures only { (m : ℕ) → 0 < m → get_or numbers.now (m - 1) 0 ≤ most → most < get_or numbers.now m 0 → m ≡ result }
 {
     numbers.partition_point(|number| *number <= most)
 }
@@ -166,6 +167,7 @@ impl<'a> Listing<'a> {
     }
 
     /// Returns the last label at an address or before it, with the distance from it.
+    #[tactic(auto, using(crate::proofs::Cuts::last_some))]
     pub fn label_before(&self, address: u32) -> Option<NearLabel<'a>>
         ensures { option_map {U = List ℕ × ℕ} (λ n. (n.name, n.distance)) result ≡ option_map (λ l. (l.0, address - l.1)) (last_or None (filter (λ l. nat_le l.1 address) (seen self.now).labels)) }
     {
@@ -198,6 +200,7 @@ fn part(bytes: &[u8], start: usize, end: usize) -> &[u8]
 /// # Errors
 ///
 /// The fault of `assemble`. `OutOfMemory`, at line 0, may come in place of any result.
+#[tactic(auto, using(crate::proofs::Lined::list_steps))]
 pub fn list(alloc: Global, source: &[u8]) -> Result<(Program, Places), AsmFault>
     ensures value { Gives (λ l. listing_of l.0 l.1) result (listed source.now) }
     ensures bytes { IfOk result (λ l. (k : ℕ) → k < length (lines source.now) → line_bytes (all_parsed (lines source.now)) k ≡ Ok (bytes_of (listing_of l.0 l.1) (suc k))) }

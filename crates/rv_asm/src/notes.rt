@@ -70,13 +70,13 @@ impl Model for Notes {
 }
 
 impl Notes {
-    ghost use Rattle.std.specs.Prelude.{◌≡◌, ◌∷◌, [], IfOk, OnOk};
-    ghost use Rattle.rv_base.specs.Limits.{ram_base};
-    ghost use Rattle.rv_asm.specs.Support.Steps.{noted_with};
+    ghost use Rattle.std.specs.Prelude.{◌≡◌, [], IfOk, OnOk};
+    ghost use Rattle.rv_asm.specs.Support.Steps.{located, noted_with};
 
     /// Makes the notes of no lines.
+    #[tactic(auto, unfolding(crate::specs::Support::Steps::joined, crate::specs::Support::Steps::known_before, crate::specs::Support::Steps::up_to))]
     pub fn new(alloc: Global) -> Result<Notes, AllocError>
-        ensures { IfOk result (λ n. n ≡ record { addresses = ram_base ∷ []; labels = [] }) }
+        ensures { IfOk result (λ n. n ≡ located [] 0) }
     {
         let mut addresses = Vec::new(alloc);
         addresses.push(RAM_BASE)?;

@@ -55,6 +55,7 @@ impl Reviewed {
 /// # Errors
 ///
 /// `NoMemory` may come in place of any result.
+#[tactic(auto, using(crate::proofs::Examining::first_said))]
 pub fn review(alloc: Global, source: &[u8]) -> Result<Reviewed, NoMemory>
     ensures faults { IfOk result (λ r. r.faults.items ≡ faults_of (lines source.now)) }
     ensures first { IfOk result (λ r. slice_get r.faults.items 0 ≡ result_err (assembled source.now)) }

@@ -1,5 +1,5 @@
 //! The symbols of a source, and the values of expressions.
-ghost use Rattle.std.specs.Prelude.{◌≡◌, ◌<◌, ◌+◌, ℕ, ◌*◌, ◌^◌, ◌++◌, ◌∷◌, true, false, [], length, IfSome, OnOk};
+ghost use Rattle.std.specs.Prelude.{◌≡◌, ◌<◌, ◌+◌, ℕ, ◌*◌, ◌^◌, ◌++◌, true, false, [], length, IfSome, OnOk};
 ghost use Rattle.rv_asm.specs.Symbols.{atom_value, sum_value};
 ghost use Rattle.rv_asm.specs.Layout.{redefines};
 ghost use Rattle.rv_asm.specs.Support.Statements.{emitted_by, IsNear, added, values_in};
@@ -37,15 +37,15 @@ impl Symbols {
     }
 
     /// Defines the name of `.equ` with its value; nothing for any other statement.
-    #[tactic(auto, using(crate::proofs::Rows::row_steps), unfolding(crate::specs::Listing::emitted))]
+    #[tactic(auto, using(crate::proofs::Rows::row_steps, crate::proofs::Examining::not_some), unfolding(crate::specs::Listing::emitted))]
     pub fn define_constant(
         &mut self,
         alloc: Global,
         constant: i64,
         statement: &Statement,
     ) -> Result<(), AllocError>
-        requires known { (here : ℕ) → (emitted_by constant here statement.now).is_known ≡ true }
-        requires new { (here : ℕ) → redefines self.old.names (emitted_by constant here statement.now).defines ≡ false }
+        requires known { (emitted_by constant 0 statement.now).is_known ≡ true }
+        requires new { redefines self.old.names (emitted_by constant 0 statement.now).defines ≡ false }
         ensures { OnOk result ((here : ℕ) → self.new ≡ record { names = self.old.names ++ (emitted_by constant here statement.now).defines; locals = self.old.locals }) }
     {
         if let Statement::Constant { name, .. } = statement {
@@ -83,28 +83,29 @@ impl<'a> Scope<'a> {
         }
     }
 
-    /// Returns the sum of a term and those after it, or None if one of their symbols isn't defined. Each term is
-    /// added to the sum of those after it, as in the definition.
-    #[tactic(auto, using(crate::proofs::Sums::near_one, crate::proofs::Sums::near_more, crate::proofs::Sums::near_enough), unfolding(crate::specs::Symbols::sum_value))]
-    fn terms(&self, first: &Term, more: &[Term]) -> Option<i64>
-        requires { length more.now < 1024 }
-        ensures value { result ≡ sum_value self.now.symbols.now self.now.line self.now.here (first.now ∷ more.now) }
-        ensures near { IfSome result (IsNear (4294967296 * (length more.now + 1))) }
+    /// Returns the sum of some terms, or None if one of their symbols isn't defined. Each term is added to the sum of
+    /// those after it, as in the definition.
+    #[tactic(auto, using(crate::proofs::Sums::near_more, crate::proofs::Sums::near_enough), unfolding(crate::specs::Symbols::sum_value))]
+    fn terms(&self, terms: &[Term]) -> Option<i64>
+        requires { length terms.now < 1024 }
+        ensures value { result ≡ sum_value self.now.symbols.now self.now.line self.now.here terms.now }
+        ensures near { IfSome result (IsNear (4294967296 * length terms.now)) }
     {
-        let value = self.atom(&first.atom)?;
-        let [second, rest @ ..] = more else {
-            return Some(added(0, first.negative, value));
+        let [first, rest @ ..] = terms else {
+            return Some(0);
         };
-        let sum = self.terms(second, rest)?;
-        Some(added(sum, first.negative, value))
+        let value = self.atom(&first.atom)?;
+        Some(added(self.terms(rest)?, first.negative, value))
     }
 
     /// Returns the value of an expression, or None if one of its symbols isn't defined.
+    #[tactic(auto, using(crate::proofs::Sums::near_enough), unfolding(crate::specs::Symbols::sum_value))]
     pub fn sum(&self, expression: &Expression) -> Option<i64>
         ensures { result ≡ sum_value self.now.symbols.now self.now.line self.now.here expression.now }
     {
         let (first, more) = expression.terms();
-        self.terms(first, more)
+        let value = self.atom(&first.atom)?;
+        Some(added(self.terms(more)?, first.negative, value))
     }
 
     /// Returns the value of an operand, in the same way.

@@ -78,12 +78,20 @@ labels parsed n = joined (λ k. labels_in (address parsed k) (line_at parsed k).
 abbrev pub relabels : Known → List Label → Bool
 relabels known ls = redefines known.definitions.names (names_in known.address ls)
 
+-- labels but those that define a name a second time
+abbrev pub new_among : Known → List Label → List Label
+new_among known ls = new_labels known.address known.definitions.names ls
+
+-- following these labels of line k
+abbrev pub relabelled : ℕ → Known → List Label → Known
+relabelled k known ls = labelled k known (new_among known ls)
+
 -- `phase_two_fault`, by what is known before the line
 unfoldable pub fault_on : ℕ → Known → Parsed → Option FaultKind
 fault_on k known line =
-    let on = labelled k known line.labels in
+    let on = relabelled k known line.labels in
     if relabels known line.labels then Some DuplicateSymbol
-    else fault_by on.definitions.names known.address (emitted_at k on line.statement)
+    else fault_by on.definitions.names on.address (emitted_at k on line.statement)
 
 -- the fault of line k, if it has one
 abbrev pub faults_at : ℕ → Option FaultKind → List AsmFault
@@ -191,10 +199,6 @@ start = record { address = ram_base; definitions = record { names = []; locals =
 abbrev pub values_of : ℕ → Known → Valuation
 values_of k known = operand_value known.definitions k known.address
 
--- following line k
-abbrev pub with_line : ℕ → Known → Parsed → Known
-with_line k known line = stated k (labelled k known line.labels) line.statement
-
 -- the bytes of the statement of line k, once all symbols are known
 abbrev pub stated_bytes : Definitions → ℕ → Known → Option Statement → Result (List ℕ) FaultKind
 stated_bytes ds k known statement = (emitted_at k known statement).contents (operand_value ds k known.address)
@@ -229,14 +233,10 @@ Writes lines n items = (ds : Definitions) → Written lines n items ds
 
 -- ---- the lines of a source, laid out one by one, and its faults
 
--- labels but those that define a name a second time
-abbrev pub new_among : Known → List Label → List Label
-new_among known ls = new_labels known.address known.definitions.names ls
-
 -- what is known after line k, which is cleared if it is faulty
 abbrev pub known_after : Bool → ℕ → Known → Parsed → Known
 known_after faulty k known line =
-    if faulty then labelled k known (new_among known line.labels) else with_line k known line
+    let on = relabelled k known line.labels in if faulty then on else stated k on line.statement
 
 -- the fault of line k in phase two, judged by the lines that are kept before it
 abbrev pub judged : List Parsed → ℕ → Option FaultKind
@@ -247,4 +247,4 @@ pub record LaysOut (k : ℕ) (known : Known) (line : Parsed) (fault : Option Fau
     (old new : List Item) : Type 0 where
   pub fault_is : fault ≡ fault_on k known line
   pub known_is : after ≡ known_after (is_some fault) k known line
-  pub adds : fault ≡ None → AddsLine k known line old new
+  pub adds : fault ≡ None → (ds : Definitions) → Adds k (relabelled k known line.labels) line.statement old new ds

@@ -1,21 +1,16 @@
-use Rattle.rv_asm.proofs.Examining.{in_one, in_two, in_three, filled_by, empty_by}
+use Rattle.std.proofs.Common.{rules, ◌≡◌, cond}
+use Rattle.std.specs.Prelude.{is_some, slice_get}
+use Rattle.rv_asm.proofs.Counting.{found_in}
+use Rattle.rv_asm.proofs.Examining.{examined}
+use Rattle.rv_asm.proofs.assembler.examine.Goals.{then-is_some, else-is_some}
 use Rattle.rv_asm.proofs.assembler.examine.Goals as goal
-
-pub returns-then-not-is_empty : goal.returns-then-not-is_empty
-returns-then-not-is_empty c =
-    in_one c.args.source.now c.args.notes _ c.in_ok-known.ensures _
-    (filled_by _ _ _ c.as_slice.ensures.value c.is_empty.ensures c.if-not-is_empty.true)
-
-pub returns-then-not-is_empty-2 : goal.returns-then-not-is_empty-2
-returns-then-not-is_empty-2 c =
-    in_two c.args.source.now c.args.notes _ c.in_ok-known.ensures _
-    (empty_by _ _ _ c.as_slice.ensures.value c.is_empty.ensures c.if-not-is_empty.false)
-    (filled_by _ _ _ c.as_slice-2.ensures.value c.is_empty-2.ensures c.if-not-is_empty-2.true)
 
 pub returns : goal.returns
 returns c =
-    in_three c.args.source.now c.args.notes _ c.in_ok-known.ensures _
-    (empty_by _ _ _ c.as_slice.ensures.value c.is_empty.ensures c.if-not-is_empty.false)
-    (empty_by _ _ _ c.as_slice-2.ensures.value c.is_empty-2.ensures c.if-not-is_empty-2.false) _
-    (rw (c.symbols.ensures, c.deref.ensures.value) at c.in_ok-bytes.ensures.faults)
-    (rw (c.symbols.ensures, c.deref.ensures.value) at c.in_ok-bytes.ensures.bytes)
+    let one = c.in_ok-known.field-0.unread.items in
+    let two = c.in_ok-known.field-0.misplaced.items in
+    let old : c.if-is_some.faults.items ≡ cond (is_some (slice_get one 0)) one two =
+    elim c.if-is_some.branch [ then-is_some w ↦ search rules | else-is_some w ↦ search rules ] in
+    examined c.args.source.now c.args.notes _ c.in_ok-known.ensures _ _
+    (found_in one two _ _ _ old (rw (c.symbols.ensures, c.deref-2.ensures.value) at c.in_ok-bytes.ensures.faults))
+    (rw (c.symbols.ensures, c.deref-2.ensures.value) at c.in_ok-bytes.ensures.bytes)

@@ -1,8 +1,9 @@
-use Rattle.std.proofs.Common.{rules, ◌≡◌, ◌∷◌, length, ap, arith}
+use Rattle.std.proofs.Common.{rules, length, ap, arith}
 use Rattle.rv_base.specs.Lines.{lines}
+use Rattle.rv_asm.specs.AllFaults.{kept}
 use Rattle.rv_asm.specs.Assembly.{all_parsed}
 use Rattle.rv_asm.proofs.Reading.{all_left, left_more, none_left}
-use Rattle.rv_asm.proofs.Examining.{kept_up_to, laid_begun, laid_more}
+use Rattle.rv_asm.proofs.Examining.{up_to_before, laid_begun, laid_more}
 use Rattle.rv_asm.proofs.assembler.lay_out.Goals as goal
 
 pub loop-text-init : goal.loop-text-init
@@ -17,27 +18,21 @@ loop-text-init c =
     }
 
 pub take-requires-clause-up_to : goal.take-requires-clause-up_to
-take-requires-clause-up_to c none =
-    rw (c.loop-text.invariant.so_far.laid none).known_is
-    (kept_up_to (all_parsed (lines c.args.source.now)) c.loop-text.number)
+take-requires-clause-up_to c none = rw (c.loop-text.invariant.so_far.laid none).known_is
+    (up_to_before (kept (all_parsed (lines c.args.source.now)) c.loop-text.number) c.loop-text.number)
 
 pub loop-text-preserved : goal.loop-text-preserved
 loop-text-preserved c =
-    let texts = lines c.args.source.now in
-    let rest = c.loop-text.text-iterator in
-    let after = c.next.new.self in
-    let cut : rest ≡ c.in-Some.text.now ∷ after = c.in-Some.ensures.steps in
+    let so = c.loop-text.invariant.left in
+    let cut = c.in-Some.ensures.steps in
     record {
       can_next = tt;
       is_finite = tt;
-      left = left_more texts rest c.loop-text.number c.loop-text.invariant.left c.in-Some.text.now after cut;
-      so_far = laid_more texts rest c.loop-text.number c.loop-text.invariant.left c.in-Some.text.now after cut
-          c.args.notes c.loop-text.laid _ c.loop-text.invariant.so_far c.in_ok-take.ensures.unread
+      left = left_more _ _ _ so _ _ cut;
+      so_far = laid_more _ _ _ so _ _ cut _ _ _ c.loop-text.invariant.so_far c.in_ok-take.ensures.unread
           c.in_ok-take.ensures.takes;
       counted = omega (arith, c.loop-text.invariant.counted, ap length cut);
     }
 
 pub returns : goal.returns
-returns c =
-    rw (none_left (lines c.args.source.now) c.loop-text.text-iterator c.loop-text.number
-    c.loop-text.invariant.left c.in-None.ensures.steps.0) c.loop-text.invariant.so_far
+returns c = rw (none_left _ _ _ c.loop-text.invariant.left c.in-None.ensures.steps.0) c.loop-text.invariant.so_far
