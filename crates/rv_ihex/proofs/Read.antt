@@ -1,6 +1,6 @@
 -- The image that is read back from the lines of its records.
-use Rattle.std.proofs.Common.{rules, ◌≡◌, ◌∙◌, ℕ, zero, suc, ◌+◌, ◌-◌, ◌/◌, ◌%◌, ◌^◌, ◌<◌, ◌≤◌, List, [], ◌∷◌, ◌++◌, take, drop, get_or, length, map, Some, refl, sym, ap, ap₂, subst, arith, append_assoc, eq-eqb, ne_eqb, length-append, length-drop, length-take, ⊎_elim}
-use Rattle.std.specs.Prelude.{Option, option_and_then, slice_index}
+use Rattle.std.proofs.Common.{rules, ◌≡◌, ◌∙◌, ℕ, zero, suc, ◌+◌, ◌-◌, ◌/◌, ◌%◌, ◌^◌, ◌<◌, ◌≤◌, List, [], ◌∷◌, ◌++◌, take, drop, get_or, length, Some, refl, sym, ap, ap₂, subst, arith, append_assoc, eq-eqb, ne_eqb, length-append, length-drop, length-take, ⊎_elim}
+use Rattle.std.specs.Prelude.{Option, option_and_then}
 use Rattle.std.specs.List.{All, sum}
 use Rattle.std.specs.Option.{option_map}
 use Rattle.std.specs.Str.Lines.{strip_carriage_return}
@@ -22,7 +22,7 @@ joined_bytes [] ys h k = k
 joined_bytes (x ∷ xs) ys h k = (h.0, joined_bytes xs ys h.1 k)
 
 summed_bytes : (xs : List ℕ) → AreBytes xs → AreBytes (with_sum xs)
-summed_bytes xs h = joined_bytes xs ((256 - sum xs % 256) % 256 ∷ []) h (omega arith, tt)
+summed_bytes xs h = search (rules, arith, joined_bytes)
 
 sum_is : (xs : List ℕ) → sum (with_sum xs) % 256 ≡ 0
 sum_is xs = let e = sum_by-append (λ (x : ℕ). x) xs ((256 - sum xs % 256) % 256 ∷ []) in omega (arith, e)
@@ -66,7 +66,7 @@ line_above kind offset content h = search (rules, digits_above, summed_bytes, fi
 
 placed_end : (upper next : ℕ) (ls : List (List ℕ)) → placed upper next (end_line ∷ ls) ≡ Some []
 unfolding placed
-placed_end upper next ls = rw (line_back 1 0 [] (record { kind = omega arith; offset = omega arith; short = omega arith; bytes = tt })) refl
+placed_end upper next ls = search (rules, arith, line_back)
 
 placed_upper : (upper next at : ℕ) (ls : List (List ℕ)) → at < 2 ^ 32 →
     placed upper next (upper_line at ∷ ls) ≡ placed (at / 65536) next ls
@@ -88,9 +88,7 @@ record At (u n at : ℕ) (bs : List ℕ) : Type 0 where
 
 after_upper : (upper at : ℕ) (ls : List (List ℕ)) → at < 2 ^ 32 → (0 < at % 65536 → upper ≡ at / 65536) →
     placed upper at (upper_lines at ++ ls) ≡ placed (at / 65536) at ls
-after_upper upper at ls low h = ⊎_elim (λ l. rw (eq-eqb (at % 65536) 0 (omega arith)) (placed_upper upper at at ls low))
-    (λ l. rw (ne_eqb (at % 65536) 0 (λ e. omega arith)) (ap (λ (u : ℕ). placed u at ls) (h (omega arith))))
-    (cases_lt (at % 65536) 1)
+after_upper upper at ls low h = search (rules, arith, placed_upper)
 
 taken_bytes : (n : ℕ) (bs : List ℕ) → AreBytes bs → AreBytes (take n bs)
 taken_bytes zero bs h = tt
@@ -133,9 +131,7 @@ placed_step most upper at bs short some bytes h others =
     ∙ ap (λ (x : List ℕ). Some x) (take-append-drop 16 bs)
 
 placed_back : (most : ℕ) → PlacedBack most
-placed_back zero upper next at bs short bytes h =
-    ap (λ (x : List (List ℕ)). placed upper next x) (last_lines zero at bs (omega arith)) ∙ placed_end upper next []
-    ∙ no_bytes bs (omega arith)
+placed_back zero upper next at bs short bytes h = search (rules, arith, last_lines, placed_end, no_bytes)
 placed_back (suc most) upper next at bs short bytes h =
     search (rules, last_lines, placed_end, no_bytes, placed_step, cases_lt, placed_back most)
 
@@ -148,7 +144,7 @@ AreAbove (l ∷ ls) = (Above l) × (0 < length l) × AreAbove ls
 split_line : (l rest : List ℕ) → Above l → split (l ++ 10 ∷ rest) ≡ l ∷ split rest
 unfolding split
 split_line [] rest h = refl
-split_line (b ∷ bs) rest h = rw (ne_eqb b 10 (λ e. omega (arith, h.0)), split_line bs rest h.1) refl
+split_line (b ∷ bs) rest h = search (rules, arith, (split_line bs rest))
 
 at_above : (l : List ℕ) (k : ℕ) → Above l → k < length l → 13 < get_or l k 0
 at_above [] k h below = absurd (omega arith)
@@ -156,23 +152,19 @@ at_above (b ∷ bs) zero h below = h.0
 at_above (b ∷ bs) (suc k) h below = at_above bs k h.1 (omega arith)
 
 no_return : (l : List ℕ) → Above l → 0 < length l → strip_carriage_return l ≡ l
-no_return l h some =
-    let last = at_above l (length l - 1) h (omega arith) in
-    rw (ne_eqb (slice_index l (length l - 1)) 13 (λ e. omega arith)) refl
+no_return l h some = search (rules, arith, at_above)
 
 lines_back : (ls : List (List ℕ)) → AreAbove ls → lines (text_of ls) ≡ ls
 unfolding split
 lines_back [] h = refl
-lines_back (l ∷ ls) h = ap (λ (x : List ℕ). lines x) (append_assoc l (10 ∷ []) (text_of ls))
-    ∙ ap (λ (x : List (List ℕ)). map strip_carriage_return x) (split_line l (text_of ls) h.0)
-    ∙ ap₂ (λ (x : List ℕ) (y : List (List ℕ)). x ∷ y) (no_return l h.0 h.1) (lines_back ls h.2)
+lines_back (l ∷ ls) h = search (rules, arith, append_assoc, split_line, no_return, (lines_back ls))
 
 line_some : (kind offset : ℕ) (content : List ℕ) → 0 < length (line_of kind offset content)
 unfolding line_of
 line_some kind offset content = omega arith
 
 end_above : AreAbove (end_line ∷ [])
-end_above = (line_above 1 0 [] (record { kind = omega arith; offset = omega arith; short = omega arith; bytes = tt }), line_some 1 0 [], tt)
+end_above = search (rules, arith, line_above, line_some)
 
 joined_above : (xs ys : List (List ℕ)) → AreAbove xs → AreAbove ys → AreAbove (xs ++ ys)
 joined_above [] ys h k = k
