@@ -19,7 +19,7 @@ fn append(out: &mut Vec<TimedInput>, step: u64, input: Input) -> Result<(), NoMe
 
 /// Reads the words following `rx`, one or more bytes, and appends an input for each. Returns whether they can be
 /// read, as do the functions below.
-#[tactic(auto, using(crate::proofs::Inputs::received_none, crate::proofs::Inputs::received_all, crate::proofs::Inputs::received_more, crate::proofs::Inputs::received_end))]
+#[tactic(auto, using(crate::proofs::Inputs::received_none, crate::proofs::Inputs::received_all, crate::proofs::Inputs::received_more, crate::proofs::Inputs::received_bad, crate::proofs::Inputs::received_end))]
 fn read_bytes(step: u64, text: &[u8], out: &mut Vec<TimedInput>) -> Result<bool, NoMemory>
     ensures { IfOk result (λ read. Leaves out.new.items read
         (with_inputs out.old.items step (received (words text.now)))) }

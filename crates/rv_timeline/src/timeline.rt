@@ -59,6 +59,7 @@ impl Timeline {
     ///
     /// - `BadLine` with the number of the first refused line, counted from 1.
     /// - `OutOfMemory` may come in place of any result.
+    #[tactic(auto, using(crate::proofs::Whole::rising, crate::proofs::Whole::read_all, crate::proofs::StepSizes::steps_small))]
     pub fn read(alloc: Global, text: &[u8]) -> Result<Timeline, TimelineFault>
         ensures list { IsRead text.now result }
         ensures steps { IfOk result (λ xs. list_all (λ x. nat_le x.step 9999999999) xs ≡ true) }

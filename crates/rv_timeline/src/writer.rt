@@ -81,6 +81,7 @@ fn append_line(timed: TimedInput, text: &mut Vec<u8>) -> Result<(), NoMemory>
 /// # Errors
 ///
 /// `NoMemory` if memory runs out.
+#[tactic(auto, using(crate::proofs::Texts::reads, std::proofs::lemmas::List::take_all))]
 pub fn list_text(alloc: Global, inputs: &[TimedInput]) -> Result<Vec<u8>, NoMemory>
     ensures text { IfOk result (λ text. text.items ≡ list_text inputs.now) }
     ensures read { IfOk result (λ text. never_falls inputs.now ≡ true

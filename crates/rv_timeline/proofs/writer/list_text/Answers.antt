@@ -1,17 +1,14 @@
-use Rattle.std.proofs.lemmas.Bool.Decides.{nat_tests}
-use Rattle.std.proofs.lemmas.Grind.{common_steps}
-use Rattle.std.proofs.Common.{arith, ◌∙◌, ◌<◌, length, refl, rules}
-use Rattle.std.proofs.lemmas.List.{take_all}
+use Rattle.std.proofs.Common.{◌∙◌, ◌<◌, length, rules}
 use Rattle.std.proofs.lemmas.Bool.{and_from}
 use Rattle.std.proofs.lemmas.List.Folds.{list_all_more}
 use Rattle.rv_timeline.specs.Support.Reading.{is_input}
 use Rattle.rv_timeline.specs.Text.{list_text}
-use Rattle.rv_timeline.proofs.Texts.{line_more, reads}
+use Rattle.rv_timeline.proofs.Texts.{line_more}
 use Rattle.rv_timeline.proofs.writer.list_text.Goals as goal
 
 pub loop-timed-init : goal.loop-timed-init
 unfolding list_text
-loop-timed-init c = record { text = c.new-text.ensures.items; ranges = refl }
+loop-timed-init c = search rules
 
 pub loop-timed-preserved : goal.loop-timed-preserved
 loop-timed-preserved c =
@@ -24,6 +21,3 @@ loop-timed-preserved c =
           c.timed-item.result within
           ∙ and_from _ _ c.loop-timed.invariant.ranges (rw (← c.timed-item.is) c.in_ok-append_line.ensures.range);
     }
-
-pub returns-clause-read : goal.returns-clause-read
-returns-clause-read c rising small = grind (arith, nat_tests, common_steps, take_all, reads)

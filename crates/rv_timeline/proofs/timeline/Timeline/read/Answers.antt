@@ -1,9 +1,6 @@
-use Rattle.std.proofs.lemmas.Bool.Decides.{nat_tests}
-use Rattle.std.proofs.lemmas.Grind.{common_steps}
 use Rattle.std.proofs.Common.{◌≡◌, ◌∙◌, ◌∷◌, length, ap, arith}
 use Rattle.rv_base.specs.Lines.{lines}
-use Rattle.rv_timeline.proofs.Whole.{begun, rising, read_more, refused, read_all}
-use Rattle.rv_timeline.proofs.StepSizes.{steps_small}
+use Rattle.rv_timeline.proofs.Whole.{begun, read_more, refused}
 use Rattle.rv_timeline.proofs.timeline.Timeline.read.Goals as goal
 
 pub loop-line-init : goal.loop-line-init
@@ -22,9 +19,6 @@ loop-line-init c =
           );
     }
 
-pub read_line-requires : goal.read_line-requires
-read_line-requires c = rising _ _ c.loop-line.invariant.so_far.inputs_are
-
 pub loop-line-preserved : goal.loop-line-preserved
 loop-line-preserved c =
     let cut : c.loop-line.line-iterator ≡ c.in-Some.line.now ∷ c.next.new.self = c.in-Some.ensures.steps in
@@ -41,12 +35,3 @@ pub returns-in-Ok-false-clause-list : goal.returns-in-Ok-false-clause-list
 returns-in-Ok-false-clause-list c =
     refused _ _ _ _ c.loop-line.invariant.so_far c.in-Some.line.now c.next.new.self c.in-Some.ensures.steps
     (rw c.in-Ok-false.field-0-test at c.in-Ok-false.ensures) _ (omega arith)
-
-pub invariant_of-result : goal.invariant_of-result
-invariant_of-result c = rising _ _ c.loop-line.invariant.so_far.inputs_are
-
-pub returns-clause-list : goal.returns-clause-list
-returns-clause-list c = read_all _ _ _ _ c.loop-line.invariant.so_far c.in-None.ensures.steps.0
-
-pub returns-clause-steps : goal.returns-clause-steps
-returns-clause-steps c = grind (arith, nat_tests, common_steps, steps_small, read_all)
