@@ -1,5 +1,5 @@
 -- The matches of the words, by the command alone.
-use Rattle.std.proofs.Common.{rules, ◌≡◌, ◌∙◌, ◌<◌, ◌≤◌, ◌^◌, ap, subst, sym, refl, arith, ℕ, true, List, Option, Some, Result}
+use Rattle.std.proofs.Common.{rules, arith, ◌≡◌, ◌∙◌, ◌<◌, ◌≤◌, ◌^◌, ap, subst, sym, refl, ℕ, true, List, Option, Some, Result}
 use Rattle.std.specs.Prelude.{codes, pos, option_map}
 use Rattle.std.specs.Option.{option_map_or}
 use Rattle.std.specs.Borrow.{Bor}
@@ -21,16 +21,13 @@ use Rattle.rv_options.specs.Support.Arguments.{IsParseBy, number_rule}
 use Rattle.rv_options.specs.Support.Parse.{HasNumber, IsBoardParse}
 use Rattle.rv_options.proofs.Defaults.{HasDefaultAt, IsParseOf, are_simple_free, has_value, reads}
 
-board_plain : board_app.top.is_plain ≡ true
-unfolding board_app
-board_plain = refl
-
 board_simple_free : are_simple_free board_app.top.rules ≡ true
 unfolding board_app
 board_simple_free = refl
 
 parse_of : (c : Command) (m : ArgMatches) → app_of c ≡ board_app → IsParsedFrom c m → IsParseOf board_app.top.rules c m
-parse_of c m is parsed = search (rules, plain_fields, board_plain, board_simple_free)
+unfolding board_app
+parse_of c m is parsed = search (rules, arith, plain_fields, board_simple_free)
 
 number : (c : Command) (m : ArgMatches) (k : ℕ) (name default : Text) (low high : ℕ) → IsParseOf board_app.top.rules c m
     → HasDefaultAt board_app.top.rules k (number_rule name default low high) → HasNumber m name low high
@@ -95,4 +92,4 @@ number_got bits low high words m id r gives fits p h =
 pub text_got : (words : List Text) (m : ArgMatches) (id : Text) (r : Option (Bor Text)) → IsBoardParse words m
     → option_map (λ s. s.now) r ≡ first_value (found_of m) id →
     first_of id (matches_of board_app words) ≡ option_map (λ s. s.now) r
-text_got words m id r p e = ap (first_of id) (sym p.rows) ∙ (sym (first_value-rows (found_of m) id) ∙ sym e)
+text_got words m id r p e = search (rules, arith, first_value-rows)

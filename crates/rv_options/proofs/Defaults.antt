@@ -1,6 +1,6 @@
 -- An argument with a default value has a value after each parse of a simple command, whatever the words are,
 -- and the value passed the argument's parser.
-use Rattle.std.proofs.Common.{rules, ◌≡◌, ◌∙◌, ◌<◌, ◌≤◌, ◌&&◌, ap, subst, sym, refl, ℕ, Bool, true, false, not, zero, suc, List, [], ◌∷◌, length, map, is_some, Option, Some, None, inl, inr, arith}
+use Rattle.std.proofs.Common.{rules, arith, ◌≡◌, ◌∙◌, ◌<◌, ◌≤◌, ◌&&◌, ap, subst, sym, refl, ℕ, Bool, true, false, not, zero, suc, List, [], ◌∷◌, length, map, is_some, Option, Some, None, inl, inr}
 use Rattle.std.proofs.lemmas.Bool.{false≢true}
 use Rattle.std.proofs.lemmas.Bool.Decides.{nat_tests}
 use Rattle.std.proofs.lemmas.Grind.{common_steps}
@@ -33,8 +33,7 @@ use Rattle.clap.proofs.WalkLemmas.{both}
 -- ---- an argument, by its rule
 
 no_option : {X : Type 0} (o : Option X) → not (is_some o) ≡ true → o ≡ None
-no_option None h = refl
-no_option (Some x) h = cc
+no_option o h = search (rules, arith)
 
 pub record IsSimpleFree (a : Arg) : Type 0 where
   pub plain : IsPlainArg a
@@ -43,19 +42,7 @@ pub record IsSimpleFree (a : Arg) : Type 0 where
 
 -- a simple argument without a rule about others excludes no other argument
 simple_free : (a : Arg) → ((rule_of a).is_simple && (rule_of a).is_free) ≡ true → IsSimpleFree a
-simple_free a h =
-    let p = both _ _ h in
-    let overrides = both _ _ p.0 in
-    let ifs = both _ _ overrides.1 in
-    let groups = both _ _ ifs.1 in
-    let delimiter = both _ _ groups.1 in
-    let exclusive = both _ _ p.1 in
-    let conflicts = both _ _ exclusive.1 in
-    record {
-      plain = (is_false _ exclusive.0, is_nil _ conflicts.0, is_nil _ overrides.0, is_nil _ groups.0);
-      ifs = is_nil _ ifs.0;
-      delimiter = no_option _ delimiter.0;
-    }
+simple_free a h = search (rules, arith, both, is_false, is_nil, no_option)
 
 abbrev pub are_simple_free : List Rule → Bool
 are_simple_free rules = list_all (λ r. r.is_simple && r.is_free) rules
@@ -76,18 +63,13 @@ only_at id (suc k) (r ∷ rs) = not (bytes_eq r.id id) && only_at id k rs
 
 none_there : (xs : List Arg) (id : Text) (j : ℕ) (e : Arg) → none_has id (map rule_of xs) ≡ true → j < length xs
     → bytes_eq (slice_index_or xs j e).id.now id ≡ true → ⊥
-none_there [] id j e h lt same = absurd (omega arith)
-none_there (x ∷ xs) id zero e h lt same = search rules
-none_there (x ∷ xs) id (suc j) e h lt same = none_there xs id j e
-    (both (not (bytes_eq x.id.now id)) (none_has id (map rule_of xs)) h).1 (omega arith) same
+none_there (x ∷ xs) id (suc j) e h lt same = search (rules, arith, both, none_there xs id j e)
+none_there xs id j e h lt same = search (rules, arith)
 
 only_there : (xs : List Arg) (id : Text) (k j : ℕ) (e : Arg) → only_at id k (map rule_of xs) ≡ true → j < length xs
     → bytes_eq (slice_index_or xs j e).id.now id ≡ true → j ≡ k
-only_there [] id k j e h lt same = absurd (omega arith)
-only_there (x ∷ xs) id zero zero e h lt same = refl
-only_there (x ∷ xs) id zero (suc j) e h lt same = absurd (none_there xs id j e h (omega arith) same)
-only_there (x ∷ xs) id (suc k) zero e h lt same = search rules
 only_there (x ∷ xs) id (suc k) (suc j) e h lt same = search (rules, both, only_there xs id k j e)
+only_there xs id k j e h lt same = search (rules, arith, none_there)
 
 -- ---- the entry of an argument with a default
 
@@ -221,7 +203,7 @@ kept_by c f id values None e some = absurd (false≢true some)
 kept_by c f id values (Some y) e some = kept_as c f id y e (entry_by_id (EntryPasses c) f.entries.items id y values e)
 
 kept_of : (c : Command) (f : Found) (id : Text) → ValuesPass c f → HasId f id → Kept c f id
-kept_of c f id values has = kept_by c f id values (matched_of f id) refl (has_entry f id has)
+kept_of c f id values has = search (rules, arith, kept_by, has_entry)
 
 module _ (old : Command) (m : ArgMatches) (p : IsParsedFrom old m) (k : ℕ) (d : Arg) (id : Text)
     (a : Argument old k d id) (plain : IsPlain old) (globals : (out-Command old).has_globals ≡ false) where
@@ -256,21 +238,18 @@ module _ (old : Command) (m : ArgMatches) (p : IsParsedFrom old m) (k : ℕ) (d 
 
 module _ (rules : List Rule) (old : Command) (m : ArgMatches) (p : IsParseOf rules old m) (k : ℕ) (r : Rule)
     (h : HasDefaultAt rules k r) where
-  length_is : length (args_of old) ≡ length rules
-  length_is = sym (length-map (args_of old) rule_of) ∙ ap length p.rules_are
-
   within_args : k < length (args_of old)
-  within_args = rw length_is h.within
+  within_args = search (rules, arith, length-map)
 
   -- the rule of the argument
   rule_is : (d : Arg) → rule_of (slice_index_or (args_of old) k d) ≡ r
   rule_is d = grind (arith, nat_tests, common_steps, get_or-map, get_or_default)
 
   argument_facts : (d : Arg) → Argument old k d r.id
-  argument_facts d = grind (arith, nat_tests, common_steps, rule_is, all_simple_free, within_args, nonempty_texts, only_there)
+  argument_facts d = search (rules, arith, rule_is, all_simple_free, within_args, nonempty_texts, only_there)
 
   plain : IsPlain old
-  plain = grind (arith, nat_tests, common_steps, all_simple_free)
+  plain = search (rules, arith, all_simple_free)
 
   -- the entry of the argument has a value
   has_value_with : (d : Arg) → is_some (first_value (found_of m) r.id) ≡ true

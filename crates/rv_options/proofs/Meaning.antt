@@ -1,7 +1,5 @@
 -- The command of each usage is one of those of which `clap`'s meaning says the matches and the errors.
-use Rattle.std.proofs.Common.{rules, ◌≡◌, ap, refl, sym, ℕ, Bool, true, false, not, ◌&&◌, List, [], ◌∷◌, ◌++◌, map, arith}
-use Rattle.std.proofs.lemmas.Bool.Decides.{nat_tests}
-use Rattle.std.proofs.lemmas.Grind.{common_steps}
+use Rattle.std.proofs.Common.{rules, arith, ◌≡◌, ap, refl, sym, ℕ, Bool, true, false, ◌&&◌, List, [], ◌∷◌, ◌++◌, map}
 use Rattle.std.proofs.lemmas.List.{append-nil, append_assoc}
 use Rattle.std.proofs.lemmas.List.Elements.{All-nil, All-cons, All-head, All-tail, All-append}
 use Rattle.std.specs.List.{All, list_all, list_any}
@@ -10,7 +8,6 @@ use Rattle.clap.specs.Walk.{is_early_multiple, is_multiple}
 use Rattle.clap.specs.Words.{App, Rule, Text, is_simple, is_simple_and_free, with_rule}
 use Rattle.rv_options.specs.Usage.{argument_rule, usage_app, with_arguments}
 use Rattle.rv_options.specs.declared.usage.Argument.{Argument}
-use Rattle.rv_options.specs.declared.usage.Argument.TheVariants as argument
 use Rattle.rv_options.specs.declared.usage.Usage.{Usage}
 
 -- ---- the rules
@@ -26,16 +23,13 @@ argument_plain a = search rules
 
 arguments_plain : (xs : List Argument) → All IsPlainRule (map argument_rule xs)
 arguments_plain [] = All-nil IsPlainRule
-arguments_plain (a ∷ xs) =
-    All-cons IsPlainRule (argument_rule a) (map argument_rule xs) (argument_plain a) (arguments_plain xs)
+arguments_plain (a ∷ xs) = search (rules, arith, All-cons, argument_plain, arguments_plain xs)
 
 with_help : (rs : List Rule) → All IsPlainRule rs → All IsPlainRule (rs ++ help_rule ∷ [])
-with_help rs all = All-append IsPlainRule rs (help_rule ∷ []) all
-    (All-cons IsPlainRule help_rule [] (record { simple = refl; free = refl; single = refl }) (All-nil IsPlainRule))
+with_help rs all = search (rules, arith, All-append, All-cons, All-nil)
 
 with_version : (rs : List Rule) → All IsPlainRule rs → All IsPlainRule (rs ++ version_rule ∷ [])
-with_version rs all = All-append IsPlainRule rs (version_rule ∷ []) all
-    (All-cons IsPlainRule version_rule [] (record { simple = refl; free = refl; single = refl }) (All-nil IsPlainRule))
+with_version rs all = search (rules, arith, All-append, All-cons, All-nil)
 
 -- ---- the rules that building gives
 
@@ -58,7 +52,7 @@ built_free i (r ∷ rs) all = both r.is_free (list_all (λ x. x.is_free) (filled
     (All-head IsPlainRule r rs all).free (built_free (index_after i r) rs (All-tail IsPlainRule r rs all))
 
 early : (n i : ℕ) (r : Rule) → is_multiple (filled r) ≡ false → is_early_multiple n (with_index i (filled r)) ≡ false
-early n i r single = grind (arith, nat_tests, common_steps)
+early n i r single = search (rules, arith)
 
 built_single : (n i : ℕ) (rs : List Rule) → All IsPlainRule rs
     → list_any (is_early_multiple n) (filled_from i rs) ≡ false
@@ -71,15 +65,11 @@ built_single n i (r ∷ rs) all = rw (early n i r (All-head IsPlainRule r rs all
 abbrev app_with : Text → Bool → List Rule → App
 app_with name version rules = record { top = record (new_shape name) { has_version = version; rules = rules }; subs = [] }
 
-tests : (a b c d : Bool) → a ≡ true → b ≡ true → c ≡ false → d ≡ true
-    → (((a && true) && ((b && not c) && true)) && (d && true)) ≡ true
-tests a b c d p q r s = rw (p, q, r, s) refl
-
 app_meaning : (name : Text) (version : Bool) (rs : List Rule) → All IsPlainRule rs
     → is_simple_and_free (app_with name version rs) ≡ true
 app_meaning name true rs all =
-    search (rules, with_version, with_help, tests, all_simple, built_simple, built_single, built_free)
-app_meaning name false rs all = search (rules, with_help, tests, all_simple, built_simple, built_single, built_free)
+    search (rules, arith, with_version, with_help, all_simple, built_simple, built_single, built_free)
+app_meaning name false rs all = search (rules, arith, with_help, all_simple, built_simple, built_single, built_free)
 
 added : (app : App) (xs : List Argument)
     → with_arguments app xs ≡ record app { top = record app.top { rules = app.top.rules ++ map argument_rule xs } }
@@ -91,9 +81,8 @@ unfolding usage_app
 usage_meaning usage = search (rules, added, app_meaning, arguments_plain)
 
 left : (a b : Bool) → (a && b) ≡ true → a ≡ true
-left true b e = refl
-left false b e = e
+left a b e = search (rules, arith)
 
 -- so it is one of those of which that says the matches
 pub usage_simple : (usage : Usage) → is_simple (usage_app usage) ≡ true
-usage_simple usage = left (is_simple (usage_app usage)) _ (usage_meaning usage)
+usage_simple usage = search (rules, arith, left, usage_meaning)
