@@ -1,5 +1,5 @@
 -- A program, a timed list and sizes open one session, or have one fault.
-use Rattle.std.proofs.Common.{◌≡◌, ◌∙◌, ℕ, ◌*◌, List, length, Option, Some, None, Result, Ok, Err, refl, sym, ap, ⊎_elim}
+use Rattle.std.proofs.Common.{rules, arith, ◌≡◌, ℕ, ◌*◌, List, length, Option, Some, None, Result, Ok, Err, refl, ⊎_elim}
 use Rattle.std.specs.Prelude.{◌≢◌}
 use Rattle.rv_base.specs.Lines.{lines}
 use Rattle.rv_board.specs.Boot.{boot_fault, board_at_reset}
@@ -26,39 +26,10 @@ module _ (program : Assembly) (inputs : List ℕ) (pages slots limit : ℕ) wher
   abbrev IsOpening : Opening → Type 0
   IsOpening = Opens program inputs pages slots limit
 
-  same_list : (xs ys : List TimedInput) → timed (lines inputs) ≡ Some xs → timed (lines inputs) ≡ Some ys
-      → xs ≡ ys
-  same_list xs ys one two = let e : Some xs ≡ Some ys = sym one ∙ two in cc
-
-  same_fault : (a b : BootFault) → fault ≡ Some a → fault ≡ Some b → a ≡ b
-  same_fault a b one two = let e : Some a ≡ Some b = sym one ∙ two in cc
-
-  boots : (a : BootFault) → fault ≡ None → fault ≡ Some a → ⊥
-  boots a none some = let e : None ≡ Some a = sym none ∙ some in cc
-
   -- at most one, if memory doesn't run out
   pub one_opening : (a b : Opening) → IsOpening a → IsOpening b → a ≢ Err OutOfMemory
       → b ≢ Err OutOfMemory → a ≡ b
-  one_opening (Err OutOfMemory) b one two kept there = absurd (kept refl)
-  one_opening (Ok s) (Ok t) one two kept there =
-      ap (λ s. Ok s) (one.2 ∙ (ap session (same_list s.timed.inputs t.timed.inputs one.0 two.0) ∙ sym two.2))
-  one_opening (Ok s) (Err (Input n)) one two kept there =
-      absurd (not_both (lines inputs) s.timed.inputs n one.0 two)
-  one_opening (Ok s) (Err (Board why)) one two kept there = absurd (boots why one.1 two.2)
-  one_opening (Ok s) (Err OutOfMemory) one two kept there = absurd (there refl)
-  one_opening (Err (Input n)) (Ok t) one two kept there =
-      absurd (not_both (lines inputs) t.timed.inputs n two.0 one)
-  one_opening (Err (Input n)) (Err (Input m)) one two kept there =
-      ap (λ k. Err (Input k)) (one_line (lines inputs) n m one two)
-  one_opening (Err (Input n)) (Err (Board why)) one two kept there =
-      absurd (not_both (lines inputs) two.0 n two.1 one)
-  one_opening (Err (Input n)) (Err OutOfMemory) one two kept there = absurd (there refl)
-  one_opening (Err (Board why)) (Ok t) one two kept there = absurd (boots why two.1 one.2)
-  one_opening (Err (Board why)) (Err (Input n)) one two kept there =
-      absurd (not_both (lines inputs) one.0 n one.1 two)
-  one_opening (Err (Board why)) (Err (Board other)) one two kept there =
-      ap (λ w. Err (Board w)) (same_fault why other one.2 two.2)
-  one_opening (Err (Board why)) (Err OutOfMemory) one two kept there = absurd (there refl)
+  one_opening a b one two kept there = search (rules, arith, not_both, one_line)
 
   -- and there is one
   pub record Opened : Type 0 where

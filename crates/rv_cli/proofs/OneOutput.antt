@@ -1,14 +1,10 @@
 -- Texts and options have one output.
-use Rattle.std.proofs.Common.{◌≡◌, ◌∙◌, Bool, true, false, List, [], ◌∷◌, ℕ, ◌++◌, length, Some, Result, Ok, Err, refl, sym, ap, subst}
-use Rattle.std.specs.Option.{option_map}
-use Rattle.std.specs.Prelude.{◌≢◌, ◌*◌, ◌&&◌, find, nat_le, nat_lt, not}
+use Rattle.std.proofs.Common.{rules, arith, ◌≡◌, ◌∙◌, List, ℕ, ◌++◌, Some, Result, Ok, Err, refl, ap}
+use Rattle.std.specs.Prelude.{◌≢◌}
 use Rattle.rv_asm.specs.Assembly.{assembled}
 use Rattle.rv_board.specs.Boot as boot
 use Rattle.rv_board.specs.Support.State.{halted_of}
-use Rattle.rv_board.specs.declared.event.BootFault.{BootFault}
 use Rattle.rv_board.specs.declared.event.BootFault.TheVariants as boot_fault
-use Rattle.rv_cache.specs.SlotCount.{is_slot_count}
-use Rattle.rv_monitor.specs.Opening.{Opens}
 use Rattle.rv_monitor.specs.State.{SessionState}
 use Rattle.rv_monitor.specs.declared.opening.OpenFault.TheVariants as opening
 use Rattle.rv_program.specs.Program.{Assembly}
@@ -31,30 +27,11 @@ abbrev end_of : SessionState → List ℕ → Output
 end_of last answers = Ok (answers ++ printed last.timed.board, ending_of (halted_of last.timed.board))
 
 same_end : (a b : SessionState) (t u : List ℕ) → (a ≡ b) × (t ≡ u) → end_of a t ≡ end_of b u
-same_end a b t u same = ap (λ s. end_of s t) same.0 ∙ ap (end_of b) same.1
-
-same_ok : (made : Result Assembly AsmFault) (a b : Assembly) → made ≡ Ok a → made ≡ Ok b → a ≡ b
-same_ok made a b one two = let e = sym one ∙ two in cc
-
-not_made : (made : Result Assembly AsmFault) (program : Assembly) (fault : AsmFault) → made ≡ Ok program
-    → made ≡ Err fault → ⊥
-not_made made program fault is why = let e = sym is ∙ why in cc
-
--- why a board doesn't boot is never memory
-never_by : (pages slots image : Bool)
-    → option_map (λ (row : Bool × BootFault). row.1) (find (λ row. row.0)
-    ((pages, boot_fault.BadPages) ∷ (slots, boot_fault.BadSlots) ∷ (image, boot_fault.ImageTooLarge) ∷ []))
-    ≡ Some boot_fault.OutOfMemory
-    → ⊥
-never_by true slots image e = cc
-never_by false true image e = cc
-never_by false false true e = cc
-never_by false false false e = cc
+same_end a b t u same = search (rules, arith)
 
 never_memory : (size pages slots : ℕ) → boot.boot_fault size pages slots ≡ Some boot_fault.OutOfMemory → ⊥
 unfolding boot.boot_fault
-never_memory size pages slots e =
-    never_by (not (nat_le 1 pages && nat_le pages 4096)) (not (is_slot_count slots)) (nat_lt (4096 * pages) size) e
+never_memory size pages slots e = search (rules, arith)
 
 module _ (texts : Texts) (options : Options) where
   -- the output of an opening
@@ -83,35 +60,15 @@ module _ (texts : Texts) (options : Options) where
       opened (Err (opening.Board boot_fault.ImageTooLarge)) is (λ e. cc) (Err ImageTooLarge) refl
   comes (Err other) is = absurd is
 
-  one_of : (a b : Output) → Comes a → Comes b → a ≡ b
-  one_of _ _ (refused fault is) (refused other why) =
-      ap (λ f. Err (Source f)) (let e : Err fault ≡ Err other = sym is ∙ why in cc)
-  one_of _ _ (refused fault is) (opened first opens kept b same) =
-      absurd (not_made (assembled texts.source) opens.0 fault opens.1 is)
-  one_of _ _ (opened first opens kept a same) (refused fault is) =
-      absurd (not_made (assembled texts.source) opens.0 fault opens.1 is)
-  one_of _ _ (opened first opens kept a same) (opened other begins there b alike) =
-      same ∙ (ap output_of (one_opening opens.0 texts.inputs options.pages options.slots options.steps first other
-      opens.2
-      (subst (λ p. Opens p texts.inputs options.pages options.slots options.steps other)
-      (same_ok (assembled texts.source) begins.0 opens.0 begins.1 opens.1) begins.2)
-      kept there) ∙ sym alike)
-
   -- texts and options have at most one output
   pub one_output : (a b : Output) → IsOutput texts options a → IsOutput texts options b → a ≡ b
-  one_output a b one two = one_of a b (comes a one) (comes b two)
+  one_output a b one two = search (rules, arith, comes, one_opening)
 
   is_output : (first : Opening) → OpensFor texts options first → first ≢ Err opening.OutOfMemory
       → IsOutput texts options (output_of first)
   is_output (Ok first) opens kept =
       let some = some_done texts.commands first in (first, some.0, some.1.0, opens, some.1.1, refl, refl)
-  is_output (Err (opening.Input n)) opens kept = opens
-  is_output (Err (opening.Board boot_fault.BadPages)) opens kept = opens
-  is_output (Err (opening.Board boot_fault.BadSlots)) opens kept = opens
-  is_output (Err (opening.Board boot_fault.ImageTooLarge)) opens kept = opens
-  is_output (Err (opening.Board boot_fault.OutOfMemory)) opens kept =
-      absurd (never_memory (length opens.0.bytes) options.pages options.slots opens.2.2)
-  is_output (Err opening.OutOfMemory) opens kept = absurd (kept refl)
+  is_output (Err fault) opens kept = search (rules, arith, never_memory)
 
   some_by : (made : Result Assembly AsmFault) → assembled texts.source ≡ made
       → (output : Output) × IsOutput texts options output

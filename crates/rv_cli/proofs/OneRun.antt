@@ -1,13 +1,13 @@
 -- A command leaves one session, and commands one text.
-use Rattle.std.proofs.Common.{rules, ◌≡◌, ◌∙◌, ℕ, zero, suc, ◌+◌, ◌<◌, ◌≤◌, ◌⊎◌, inl, inr, List, [], ◌∷◌, ◌++◌, Option, Some, None, refl, sym, ap, subst, arith, below_more, ⊎_elim}
+use Rattle.std.proofs.Common.{rules, ◌≡◌, ℕ, zero, suc, ◌+◌, ◌<◌, ◌≤◌, ◌⊎◌, inl, inr, List, [], ◌∷◌, ◌++◌, Option, Some, None, refl, sym, ap, subst, arith, below_more, ⊎_elim}
 use Rattle.std.specs.Prelude.{IsSome, is_some}
 use Rattle.std.specs.FinSet as set
-use Rattle.std.proofs.lemmas.Bool.{cases_lt, false≢true}
+use Rattle.std.proofs.lemmas.Bool.{cases_lt}
 use Rattle.rv_commands.specs.declared.command.Command.{Command}
 use Rattle.rv_commands.specs.declared.command.Command.TheVariants.{Step, Go, SetBreak, ClearBreak}
 use Rattle.rv_monitor.specs.Support.Answers.{next_of}
 use Rattle.rv_monitor.specs.Commands.{Leaves, Took, answer, command_in}
-use Rattle.rv_monitor.proofs.Silent.{more_of, not_quit, quit_is}
+use Rattle.rv_monitor.proofs.Silent.{not_quit, quit_is}
 use Rattle.rv_monitor.specs.State.{Addresses, SessionState, after, with_break, without_break}
 use Rattle.rv_monitor.specs.Stops.{stop_after}
 use Rattle.rv_monitor.specs.Support.TimedCalls.{going_for, most_of}
@@ -20,13 +20,9 @@ use Rattle.rv_cli.specs.Output.{Does, Obeys, goes_on, none, quits}
 -- ---- steps
 
 module _ (breakpoints : Addresses) (n : ℕ) (old : SessionState) where
-  no_less : (a b : SessionState) (one : Took breakpoints n old a) (two : Took breakpoints n old b)
-      → one.count < two.count → ⊥
-  no_less a b one two less = search (rules, arith, false≢true)
-
   -- a call takes one number of steps
   took_one : (a b : SessionState) → Took breakpoints n old a → Took breakpoints n old b → a ≡ b
-  took_one a b one two = search (rules, arith, no_less, cases_lt)
+  took_one a b one two = search (rules, arith, cases_lt)
 
   abbrev stop_at : ℕ → Option Stop
   stop_at i = stop_after breakpoints (after old.timed i).board i
@@ -64,65 +60,26 @@ module _ (breakpoints : Addresses) (n : ℕ) (old : SessionState) where
 
 -- ---- commands
 
-leaves_one : (c : Option Command) (old a b : SessionState) → Leaves c old a → Leaves c old b → a ≡ b
-leaves_one None old a b one two = one ∙ sym two
-leaves_one (Some (Step n)) old a b one two = took_one set.empty n old a b one two
-leaves_one (Some (Go n)) old a b one two = took_one old.breakpoints.addresses (going_for old n) old a b one two
-leaves_one (Some (SetBreak addr)) old a b one two = one ∙ sym two
-leaves_one (Some (ClearBreak addr)) old a b one two = one ∙ sym two
-leaves_one (Some other) old a b one two = one ∙ sym two
-
 leaves_some : (c : Option Command) (old : SessionState) → (new : SessionState) × Leaves c old new
-leaves_some None old = (old, refl)
 leaves_some (Some (Step n)) old = took_some set.empty n old
 leaves_some (Some (Go n)) old = took_some old.breakpoints.addresses (going_for old n) old
 leaves_some (Some (SetBreak addr)) old = (with_break old addr, refl)
 leaves_some (Some (ClearBreak addr)) old = (without_break old addr, refl)
-leaves_some (Some other) old = (old, refl)
+leaves_some other old = (old, refl)
 
 -- ---- commands, one after another
-
--- what obeys a line and those that follow it: no command follows a line that quits
-record IsDone (line : List ℕ) (more : List (List ℕ)) (old new : SessionState) (text : List ℕ) : Type 0 where
-  next : SessionState
-  following : List ℕ
-  left : Leaves (command_in line old) old next
-  rest : Obeys more next new following
-  is : text ≡ answer (command_in line old) old next ++ following
-
-abbrev IsBegun : Next → List ℕ → List (List ℕ) → SessionState → SessionState → List ℕ → Type 0
-IsBegun More line more old new text = IsDone line more old new text
-IsBegun Quit line more old new text = (new ≡ old) × (text ≡ [])
-
-abbrev Begins : List (List ℕ) → SessionState → SessionState → List ℕ → Type 0
-Begins [] old new text = (new ≡ old) × (text ≡ [])
-Begins (line ∷ more) old new text = IsBegun (next_of (command_in line old)) line more old new text
-
-begun : (ls : List (List ℕ)) (old new : SessionState) (text : List ℕ) → Obeys ls old new text
-    → Begins ls old new text
-begun _ _ _ _ (none s) = (refl, refl)
-begun _ _ _ _ (quits line more s quit) = rw quit (refl, refl)
-begun _ _ _ _ (goes_on line following more old next new more_follow leaves rest) = search (rules, arith, more_of)
 
 abbrev AreSame : SessionState → SessionState → List ℕ → List ℕ → Type 0
 AreSame a b t u = (a ≡ b) × (t ≡ u)
 
-begun_one : (word : Next) (line : List ℕ) (more : List (List ℕ)) (old a b : SessionState) (t u : List ℕ)
-    → ((next : SessionState) (f g : List ℕ) → Obeys more next a f → Obeys more next b g → AreSame a b f g)
-    → IsBegun word line more old a t → IsBegun word line more old b u → AreSame a b t u
-begun_one More line more old a b t u rest one two = search (rules, arith, leaves_one)
-begun_one Quit line more old a b t u rest one two = (one.0 ∙ sym two.0, one.1 ∙ sym two.1)
-
 obeys_one : (ls : List (List ℕ)) (old a b : SessionState) (t u : List ℕ) → Obeys ls old a t
     → Obeys ls old b u → AreSame a b t u
-obeys_one [] old a b t u one two =
-    let first = begun [] old a t one in
-    let second = begun [] old b u two in
-    (first.0 ∙ sym second.0, first.1 ∙ sym second.1)
-obeys_one (line ∷ more) old a b t u one two =
-    begun_one (next_of (command_in line old)) line more old a b t u
-    (λ next f g first second. obeys_one more next a b f g first second)
-    (begun (line ∷ more) old a t one) (begun (line ∷ more) old b u two)
+obeys_one _ _ _ _ _ _ (none s) (none _) = (refl, refl)
+obeys_one _ _ _ _ _ _ (quits line more s quit) (quits _ _ _ _) = (refl, refl)
+obeys_one _ _ _ _ _ _ (quits line more s quit) (goes_on _ _ _ _ _ _ other _ _) = absurd (other quit)
+obeys_one _ _ _ _ _ _ (goes_on line f more old next a other leaves rest) (quits _ _ _ quit) = absurd (other quit)
+obeys_one _ _ _ _ _ _ (goes_on line f more old next a other leaves rest) (goes_on _ g _ _ second b _ left left_rest) =
+    search (rules, arith, took_one, obeys_one more next a b f g rest)
 
 -- a session and a text that a list of commands leads to
 record Obeyed (ls : List (List ℕ)) (old : SessionState) : Type 0 where
@@ -153,8 +110,7 @@ obeys_some (line ∷ more) old = search (rules, arith, some_begun, obeys_some mo
 
 pub one_done : (commands : Option (List ℕ)) (old a b : SessionState) (t u : List ℕ) → Does commands old a t
     → Does commands old b u → AreSame a b t u
-one_done None old a b t u one two = search (rules, arith, took_one)
-one_done (Some commands) old a b t u one two = obeys_one (lines commands) old a b t u one two
+one_done commands old a b t u one two = search (rules, arith, took_one, obeys_one)
 
 pub some_done : (commands : Option (List ℕ)) (old : SessionState)
     → (new : SessionState) × ((text : List ℕ) × Does commands old new text)
