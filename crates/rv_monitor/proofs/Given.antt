@@ -1,6 +1,6 @@
 -- Inputs that are given by hand, and states that a board comes to by its inputs and its steps.
 use Rattle.std.proofs.Common.{rules, ◌≡◌, ◌∙◌, ℕ, zero, suc, ◌+◌, ◌<◌, ◌≤◌, Bool, true, false, List, [], ◌∷◌, ◌++◌, length, drop, refl, sym, ap, subst, arith}
-use Rattle.std.specs.Prelude.{◌⊎◌, nat_le, nat_lt, filter, None, Result, Ok, Err, OnOk, OnErr}
+use Rattle.std.specs.Prelude.{◌⊎◌, nat_le, nat_lt, filter, None, Result, OnOk, OnErr}
 use Rattle.rv_base.specs.declared.memory.NoMemory.{NoMemory}
 use Rattle.rv_hart.specs.declared.trap.Outcome.{Outcome}
 use Rattle.std.proofs.lemmas.Bool.{and_from, and_parts, eq-eqb, le-leb, le-ltb, lt-ltb, ltb-false, ltb-true, ne_eqb}
@@ -54,14 +54,14 @@ inserted_in_time b xs place t x at h = record {
 -- ---- the inputs of a step, with one more
 
 module _ (t : ℕ) (input : Input) where
-  abbrev new : TimedInput
-  new = record { step = t; input = input }
+  abbrev by_hand : TimedInput
+  by_hand = record { step = t; input = input }
 
   -- it stands after the others of its step, and before all later ones
   here_by : (y : TimedInput) (ys : List TimedInput) (b : Bool) → nat_lt t y.step ≡ b → never_falls (y ∷ ys) ≡ true
-      → drop (count_before (t + 1) ys) (inserted ys new) ≡ new ∷ drop (count_before (t + 1) ys) ys
-      → drop (count_before (t + 1) (y ∷ ys)) (inserted (y ∷ ys) new)
-      ≡ new ∷ drop (count_before (t + 1) (y ∷ ys)) (y ∷ ys)
+      → drop (count_before (t + 1) ys) (inserted ys by_hand) ≡ by_hand ∷ drop (count_before (t + 1) ys) ys
+      → drop (count_before (t + 1) (y ∷ ys)) (inserted (y ∷ ys) by_hand)
+      ≡ by_hand ∷ drop (count_before (t + 1) (y ∷ ys)) (y ∷ ys)
   unfolding inserted
   here_by y ys true e h more =
       let l : t < y.step = ltb-true t y.step e in
@@ -71,23 +71,23 @@ module _ (t : ℕ) (input : Input) where
   here_by y ys false e h more = search (rules, arith, ltb-false, lt-ltb)
 
   here : (xs : List TimedInput) → never_falls xs ≡ true
-      → drop (count_before (t + 1) xs) (inserted xs new) ≡ new ∷ drop (count_before (t + 1) xs) xs
+      → drop (count_before (t + 1) xs) (inserted xs by_hand) ≡ by_hand ∷ drop (count_before (t + 1) xs) xs
   unfolding inserted
   here [] h = refl
   here (y ∷ ys) h = here_by y ys (nat_lt t y.step) refl h (here ys (tail_rises y ys h))
 
-  last : (xs : List TimedInput) → never_falls xs ≡ true → of t (inserted xs new) ≡ of t xs ++ new ∷ []
+  last : (xs : List TimedInput) → never_falls xs ≡ true → of t (inserted xs by_hand) ≡ of t xs ++ by_hand ∷ []
   unfolding inserted
   last [] h = rw (eq-eqb t t refl) refl
   last (y ∷ ys) h = search (rules, arith, ltb-true, none_of, all_from, eq-eqb, tail_rises, last ys (tail_rises y ys h))
 
-  count_more : (xs : List TimedInput) → count_before (t + 1) (inserted xs new) ≡ count_before (t + 1) xs + 1
+  count_more : (xs : List TimedInput) → count_before (t + 1) (inserted xs by_hand) ≡ count_before (t + 1) xs + 1
   unfolding inserted
   count_more [] = rw (lt-ltb t (t + 1) (omega arith)) refl
   count_more (y ∷ ys) = search (rules, arith, lt-ltb, ltb-false, count_more ys)
 
   module _ (xs : List TimedInput) (rising : never_falls xs ≡ true) where
-    pub events_before : (k : ℕ) → k ≤ t → events_of (inserted xs new) 0 k ≡ events_of xs 0 k
+    pub events_before : (k : ℕ) → k ≤ t → events_of (inserted xs by_hand) 0 k ≡ events_of xs 0 k
     unfolding events_of inputs_at
     events_before zero h = refl
     events_before (suc k) h = search (rules, arith, left_out, ne_eqb, same, events_before k)
@@ -125,7 +125,7 @@ module _ (board : BoardState) (xs : List TimedInput) where
 
 module _ (board : BoardState) (xs : List TimedInput) (rising : never_falls xs ≡ true) (t : ℕ) (input : Input) where
   abbrev longer : List TimedInput
-  longer = inserted xs (new t input)
+  longer = inserted xs (by_hand t input)
 
   with_longer : TimedState → TimedState
   with_longer s = record s { inputs = longer }
@@ -155,14 +155,14 @@ reached_due board xs k s h e goes = search (rules, arith)
 
 pub given_listed : (board : BoardState) (s : TimedState) (input : Input) → never_falls s.inputs ≡ true
     → (s ≡ after (begun board s.inputs) s.taken) ⊎ (s ≡ with_due (after (begun board s.inputs) s.taken))
-    → given s input ≡ with_due (after (begun board (inserted s.inputs (new s.taken input))) s.taken)
+    → given s input ≡ with_due (after (begun board (inserted s.inputs (by_hand s.taken input))) s.taken)
 unfolding with_longer with_due inputs_at
 given_listed board s input h is = search (rules, arith, after_begun, steps_before, due_begun, same, here, eq-eqb, none_of, late_from, run_append, last, map-append, events_before, none_before, lt-ltb, count_more, rises)
 
 pub given_stands : (board : BoardState) (s : TimedState) (input : Input) → IsReached board s
     → IsReached board (given s input)
-given_stands board s input r = reached_due board (inserted s.inputs (new s.taken input)) s.taken (given s input)
-    (rises s.inputs (new s.taken input) r.rising) (given_listed board s input r.rising r.state)
+given_stands board s input r = reached_due board (inserted s.inputs (by_hand s.taken input)) s.taken (given s input)
+    (rises s.inputs (by_hand s.taken input) r.rising) (given_listed board s input r.rising r.state)
     (λ i l. running_before board s.inputs r.rising s.taken input i (omega arith) ∙ r.running i l)
 
 -- ---- the calls that give an input, take a step and resume, by their fields
@@ -210,5 +210,4 @@ give_within r old new input limit ok err h = search (rules, arith)
 pub step_within : (r : Result Outcome NoMemory) (old new : TimedState) (limit : ℕ)
     → OnOk r (new ≡ after old 1) → OnErr r (new ≡ with_due old) → old.taken < limit → new.taken ≤ limit
 unfolding with_due after
-step_within (Ok u) old new limit ok err h = search (rules, arith)
-step_within (Err e) old new limit ok err h = search (rules, arith)
+step_within r old new limit ok err h = search (rules, arith)

@@ -1,5 +1,5 @@
 -- Each control register that has a name can be read.
-use Rattle.std.proofs.Common.{rules, arith, ◌≡◌, ℕ, Bool, true, List, [], ◌∷◌, refl, ◌∙◌}
+use Rattle.std.proofs.Common.{rules, arith, ◌≡◌, ℕ, Bool, true, List, [], ◌∷◌, refl}
 use Rattle.std.proofs.lemmas.Bool.{and_parts}
 use Rattle.std.specs.Fmt.{digits}
 use Rattle.std.specs.List.{list_all}
@@ -33,7 +33,7 @@ as_cases state lines [] = refl
 as_cases state lines (e ∷ es) = search (rules, arith, read_by_cases, as_cases state lines es)
 
 all_are_read : (state : CsrState) (lines : Lines) → list_all (λ e. is_read state lines e.1) csr_names ≡ true
-all_are_read state lines = as_cases state lines csr_names ∙ all_by_cases state lines
+all_are_read state lines = search (rules, arith, as_cases, all_by_cases)
 
 found : (p : ℕ → Bool) (name : List ℕ) (csr : ℕ) (es : List (List ℕ × ℕ)) → list_all (λ e. p e.1) es ≡ true →
     lookup name es ≡ Some csr → p csr ≡ true

@@ -5,7 +5,7 @@ use Rattle.rv_monitor.specs.Views.{pieces}
 
 pub no_piece_after : (head : List ℕ) (piece : ℕ → List ℕ) → head ++ pieces piece 0 ≡ head
 unfolding pieces
-no_piece_after head piece = append-nil head
+no_piece_after head piece = search (rules, arith, append-nil)
 
 more_from : (piece : ℕ → List ℕ) (a n : ℕ)
     → flat_map piece (range_with_len a (suc n)) ≡ flat_map piece (range_with_len a n) ++ piece (a + n)

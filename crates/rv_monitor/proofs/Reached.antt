@@ -16,7 +16,7 @@ use Rattle.rv_monitor.proofs.Given.{reached_steps, reached_due, due_twice}
 -- ---- more steps
 
 begun_in_time : (board : BoardState) (xs : List TimedInput) → never_falls xs ≡ true → IsInTime (begun board xs)
-begun_in_time board xs h = record { within = omega arith; rising = h; ahead = from_first xs }
+begun_in_time board xs h = search (rules, arith, h, from_first)
 
 -- the board before its first step
 pub begun_stands : (board : BoardState) (xs : List TimedInput) → never_falls xs ≡ true
@@ -28,13 +28,13 @@ in_time board s r = search (rules, arith, in_time_after, begun_in_time, in_time_
 
 module _ (board : BoardState) (s : TimedState) (r : IsReached board s) where
   h : IsInTime s
-  h = in_time board s r
+  h = search (rules, arith, in_time)
 
   abbrev first : TimedState
   first = begun board s.inputs
 
   more : s ≡ after first s.taken → (n : ℕ) → after s n ≡ after first (s.taken + n)
-  more e n = ap (λ u. after u n) e ∙ after_more first s.taken n h.rising
+  more e n = search (rules, arith, after_more, h)
 
   more_due : s ≡ with_due (after first s.taken) → (j : ℕ) → after s (1 + j) ≡ after first (s.taken + (1 + j))
   more_due e j = search (rules, arith, after_due, after_rises, after_more)
@@ -67,14 +67,14 @@ module _ (board : BoardState) (s : TimedState) (r : IsReached board s) where
       (ap (after s) one ∙ (more_due e j ∙ ap (λ n. after first (s.taken + n)) (sym one))) (goes_on (suc j) goes)
 
   pub after_stands : (n : ℕ) → ((j : ℕ) → j < n → halted_of (after s j).board ≡ None) → IsReached board (after s n)
-  after_stands n goes = after_stands_by r.state n goes
+  after_stands n goes = search (rules, arith, after_stands_by)
 
   due_stands_by : (s ≡ after first s.taken) ⊎ (s ≡ with_due (after first s.taken)) → IsReached board (with_due s)
   due_stands_by (inl e) = reached_due board s.inputs s.taken (with_due s) r.rising (ap with_due e) r.running
   due_stands_by (inr e) = search (rules, arith, reached_due, due_twice)
 
   pub due_stands : IsReached board (with_due s)
-  due_stands = due_stands_by r.state
+  due_stands = search (rules, arith, due_stands_by)
 
 -- ---- what calls leave
 
@@ -84,7 +84,7 @@ module _ (board : BoardState) (old new : TimedState) (r : IsReached board old) w
     gone_on = after_stands board old r n (λ j l. running a (after old j).board j (going j l))
 
     pub stopped_stands : new ≡ after old n → IsReached board new
-    stopped_stands is = subst (IsReached board) (sym is) gone_on
+    stopped_stands is = search (rules, arith, gone_on)
 
     pub refused_stands : new ≡ with_due (after old n) → IsReached board new
     refused_stands is = subst (IsReached board) (sym is) (due_stands board (after old n) gone_on)

@@ -55,12 +55,4 @@ none_listed (x ∷ xs) e = absurd (omega arith)
 
 -- the empty set has no member
 pub no_member : (q : ℕ) → false ≡ contains (set.empty {R = nat_cmp}) q
-no_member q = sym (contains-empty nat_cmp q)
-
--- where no element of the list lies between two addresses, no member of the set does
-pub none_between : (xs : List ℕ) (low high q : ℕ) → list_any (λ a. nat_le low a && nat_le a high) xs ≡ false →
-    low ≤ q → q ≤ high → contains (from_list {R = nat_cmp} xs) q ≡ false
-none_between xs low high q none from to = has xs q ∙ outside xs none where
-  outside : (ys : List ℕ) → list_any (λ a. nat_le low a && nat_le a high) ys ≡ false → is_in ys q ≡ false
-  outside [] e = refl
-  outside (y ∷ ys) e = grind (arith, rules, outside ys)
+no_member q = search (rules, arith, contains-empty)

@@ -1,5 +1,5 @@
 -- Commands that answer nothing lack no room; and the command after which no other follows.
-use Rattle.std.proofs.Common.{rules, ◌≡◌, ◌∙◌, ℕ, Option, Some, ap, arith}
+use Rattle.std.proofs.Common.{rules, ◌≡◌, ℕ, Option, Some, arith}
 use Rattle.std.specs.Prelude.{◌≢◌}
 use Rattle.rv_ram.specs.Room.{RoomRule}
 use Rattle.rv_commands.specs.declared.command.Command.{Command}
@@ -27,13 +27,13 @@ pub quit_is : (c : Option Command) → next.Quit ≡ next_of c → c ≡ Some Qu
 quit_is c is = search (rules, arith)
 
 pub not_quit : (c : Option Command) → next.More ≡ next_of c → c ≢ Some Quit
-not_quit c is e = let bad : next.More ≡ next.Quit = is ∙ ap next_of e in cc
+not_quit c is e = search (rules, arith)
 
 pub quit_next : (n : Next) (c : Option Command) → c ≡ Some Quit → n ≡ next_of c → n ≡ next.Quit
-quit_next n c e is = is ∙ ap next_of e
+quit_next n c e is = search (rules, arith)
 
 pub more_next : (n : Next) (c : Option Command) → c ≢ Some Quit → n ≡ next_of c → n ≡ next.More
-more_next n c other is = is ∙ more_of c other
+more_next n c other is = search (rules, arith, more_of)
 
 pub next_is : (n : Next) (c : Option Command) → (c ≡ Some Quit → n ≡ next.Quit)
     → (c ≢ Some Quit → n ≡ next.More) → n ≡ next_of c

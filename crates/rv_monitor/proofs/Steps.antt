@@ -17,7 +17,7 @@ use Rattle.rv_timeline.specs.declared.input.TimedInput.{TimedInput}
 use Rattle.rv_timeline.specs.Timed.{never_falls}
 use Rattle.rv_monitor.specs.Events.{event_of, inputs_at, events_of}
 use Rattle.rv_monitor.specs.State.{TimedState, IsInTime, rest, count_before, after, with_due}
-use Rattle.rv_monitor.proofs.Times.{from, of, from_earlier, late_from, late_of, late_count, drop_rises, drop_from, none_before, due_step, later_of, later_count, none_of, count_most}
+use Rattle.rv_monitor.proofs.Times.{from, from_earlier, late_from, late_of, late_count, drop_rises, drop_from, none_before, due_step, later_of, later_count, none_of, count_most}
 
 -- ---- no input runs out of memory
 
@@ -31,7 +31,7 @@ input_writes_not b i = search (rules, arith)
 pub inputs_late : (xs : List TimedInput) (t u : ℕ) → t ≤ u → never_falls xs ≡ true →
     inputs_at (drop (count_before t xs) xs) u ≡ inputs_at xs u
 unfolding inputs_at
-inputs_late xs t u k h = ap (map (λ x. event_of x.input)) (late_of t u k xs h)
+inputs_late xs t u k h = search (rules, arith, late_of)
 
 pub events_late : (xs : List TimedInput) (t u count : ℕ) → t ≤ u → never_falls xs ≡ true →
     events_of (drop (count_before t xs) xs) u count ≡ events_of xs u count
@@ -68,12 +68,12 @@ none_due xs t h = search (rules, arith, none_of, late_from)
 pub same : (b c : BoardState) (xs : List TimedInput) (p q t u : ℕ) → b ≡ c → p ≡ q → t ≡ u
     → ◌≡◌ {A = TimedState} (record { board = b; inputs = xs; place = p; taken = t })
     (record { board = c; inputs = xs; place = q; taken = u })
-same b c xs p q t u e f g = cc
+same b c xs p q t u e f g = search (rules, arith)
 
 -- the inputs that are left of those that were left
 rest_late : (s : TimedState) (t : ℕ) → drop (s.place + count_before t (rest s)) s.inputs
     ≡ drop (count_before t (rest s)) (rest s)
-rest_late s t = sym (drop-drop (count_before t (rest s)) s.place s.inputs)
+rest_late s t = search (rules, arith, drop-drop)
 
 place_late : (s : TimedState) (t u : ℕ) → t ≤ u → never_falls s.inputs ≡ true
     → (s.place + count_before t (rest s)) + count_before u (drop (s.place + count_before t (rest s)) s.inputs)
@@ -98,7 +98,7 @@ after_due s j h = search (rules, arith, same, rest_late, events_join, run_append
 
 pub after_rises : (s : TimedState) (k : ℕ) → never_falls s.inputs ≡ true → never_falls (after s k).inputs ≡ true
 unfolding after
-after_rises s k h = h
+after_rises s k h = search (rules, arith)
 
 -- the next step is its inputs and then the step
 pub after_step : (s : TimedState) → after s 1 ≡ record (with_due s) {
@@ -130,7 +130,7 @@ halted_run b (x ∷ xs) = search (rules, arith, halted_run (moved b (event_of x.
 
 pub halted_due : (s : TimedState) → halted_of (with_due s).board ≡ halted_of s.board
 unfolding with_due inputs_at
-halted_due s = halted_run s.board (of s.taken (rest s))
+halted_due s = search (rules, arith, halted_run)
 
 -- ---- a state that is in time stays so
 
@@ -167,7 +167,7 @@ module _ (b : BoardState) (xs more : List TimedInput) (place t n : ℕ) (is : mo
   old = record { board = b; inputs = xs; place = place; taken = t }
 
   number : n ≡ count_before (t + 1) (rest old)
-  number = count ∙ ap (count_before (t + 1)) is
+  number = search (rules, arith)
 
   pub given_in_time : (c : BoardState) (p : ℕ) → IsInTime old → p ≡ place + n →
       IsInTime (record { board = c; inputs = xs; place = p; taken = t })
@@ -225,4 +225,4 @@ pub runs_join : (b : BoardState) (timed : List TimedInput) (k j : ℕ) → never
 runs_join b timed k j h = search (rules, arith, events_late, run_append, events_join)
 
 pub again : (s : TimedState) → IsInTime s → (k j : ℕ) → after (with_due (after s k)) (1 + j) ≡ after s (k + (1 + j))
-again s h k j = after_due (after s k) j (after_rises s k h.rising) ∙ after_more s k (1 + j) h.rising
+again s h k j = search (rules, arith, after_due, after_rises, after_more)

@@ -67,16 +67,7 @@ module _ (a : Addresses) (s : TimedState) where
 
   pub stopped_at_limit : (most n : ℕ) (new : TimedState) → GoesOn a s (n + 1) → n ≡ most → new ≡ after s n
       → HasStopped a most s new Limit
-  stopped_at_limit most n new before all is =
-      let none : stop_after a new.board n ≡ None = ap (λ u. stop_after a u.board n) is ∙ before n (omega arith) in
-      record {
-        count = n;
-        within = omega arith;
-        going = λ i less. before i (omega arith);
-        least = λ less. absurd (omega arith);
-        state = is;
-        word = ended_for a s new n Limit None is none refl;
-      }
+  stopped_at_limit most n new before all is = search (rules, arith, took_steps)
 
 -- the inputs that are left after steps before which none comes, by the fields of the state
 pub ahead_fields : (most : ℕ) (b : BoardState) (xs : List TimedInput) (place t : ℕ) (s : TimedState) (n : ℕ)
@@ -108,7 +99,7 @@ module _ (a : Addresses) (s : TimedState) (h : IsInTime s) (n : ℕ) (mid given 
 
     alone : (j : ℕ) → j ≤ k → after given j ≡ with_board (after_steps given.board j) (given.taken + j)
     unfolding with_board
-    alone j le = after_quiet given j (from_earlier (given.taken + j) later (rest given) quiet (omega arith))
+    alone j le = search (rules, arith, after_quiet, from_earlier)
 
     board_at : (j : ℕ) → 0 < j → j ≤ k → (after s (n + j)).board ≡ after_steps given.board j
     unfolding with_board

@@ -15,10 +15,10 @@ abbrev pub from : ℕ → List TimedInput → Bool
 from t xs = list_all (λ x. nat_le t x.step) xs
 
 pub head_from : (t : ℕ) (x : TimedInput) (xs : List TimedInput) → from t (x ∷ xs) ≡ true → t ≤ x.step
-head_from t x xs h = leb-true t x.step (and_parts (nat_le t x.step) (from t xs) h).0
+head_from t x xs h = search (rules, arith, leb-true, and_parts)
 
 pub tail_from : (t : ℕ) (x : TimedInput) (xs : List TimedInput) → from t (x ∷ xs) ≡ true → from t xs ≡ true
-tail_from t x xs h = (and_parts (nat_le t x.step) (from t xs) h).1
+tail_from t x xs h = search (rules, arith, and_parts)
 
 -- the inputs of time t
 abbrev pub of : ℕ → List TimedInput → List TimedInput
@@ -41,9 +41,8 @@ drop_rises n xs h = h
 -- the time of the input at an index is the least from there on, and after the last there is none
 pub from_place : (xs : List TimedInput) (n : ℕ) (d : TimedInput) → never_falls xs ≡ true → n < length xs →
     from (get_or xs n d).step (drop n xs) ≡ true
-from_place [] n d h k = absurd (omega arith)
-from_place (x ∷ xs) zero d h k = all_from x.step x xs h (omega arith)
 from_place (x ∷ xs) (suc n) d h k = from_place xs n d (tail_rises x xs h) (omega arith)
+from_place xs n d h k = search (rules, arith, all_from)
 
 pub from_end : (t n : ℕ) (xs : List TimedInput) → length xs ≤ n → from t (drop n xs) ≡ true
 from_end t zero (x ∷ xs) h = absurd (omega arith)
@@ -53,9 +52,8 @@ from_end t n xs h = refl
 -- a time that all inputs have reached is at most the time of the first
 pub place_from : (xs : List TimedInput) (n : ℕ) (d : TimedInput) (t : ℕ) → n < length xs →
     from t (drop n xs) ≡ true → t ≤ (get_or xs n d).step
-place_from [] n d t k h = absurd (omega arith)
-place_from (x ∷ xs) zero d t k h = head_from t x xs h
 place_from (x ∷ xs) (suc n) d t k h = place_from xs n d t (omega arith) h
+place_from xs n d t k h = search (rules, arith, head_from)
 
 -- and all of them have reached each earlier time
 pub from_earlier : (t u : ℕ) (xs : List TimedInput) → from u xs ≡ true → t ≤ u → from t xs ≡ true
@@ -86,7 +84,7 @@ module _ (t : ℕ) where
   -- an input that is not before t, as those after it are not
   late_all : (x : TimedInput) (xs : List TimedInput) → never_falls (x ∷ xs) ≡ true → nat_lt x.step t ≡ false →
       count_before t (x ∷ xs) ≡ 0
-  late_all x xs h e = none_before t (x ∷ xs) (all_from t x xs h (ltb-false x.step t e))
+  late_all x xs h e = search (rules, arith, none_before, all_from, ltb-false)
 
   pub late_from : (xs : List TimedInput) → never_falls xs ≡ true → from t (late xs) ≡ true
   late_from [] h = refl
@@ -107,9 +105,8 @@ module _ (t : ℕ) where
 -- each input has reached that time
 pub due_step : (t : ℕ) (xs : List TimedInput) (i : ℕ) (d : TimedInput) → from t xs ≡ true → i < length xs →
     t ≤ (get_or xs i d).step
-due_step t [] i d h k = absurd (omega arith)
-due_step t (x ∷ xs) zero d h k = head_from t x xs h
 due_step t (x ∷ xs) (suc i) d h k = search (rules, arith, tail_from, due_step t xs i d)
+due_step t xs i d h k = search (rules, arith, head_from)
 
 -- no input after one of a later time is of time t
 module _ (t : ℕ) where
