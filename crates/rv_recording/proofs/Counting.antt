@@ -1,5 +1,5 @@
 -- How many steps a run takes.
-use Rattle.std.proofs.Common.{rules, ◌≡◌, ◌∙◌, ℕ, zero, suc, ◌+◌, ◌<◌, ◌≤◌, Bool, true, false, refl, sym, arith}
+use Rattle.std.proofs.Common.{rules, ◌≡◌, ℕ, zero, suc, ◌+◌, ◌<◌, ◌≤◌, Bool, true, false, refl, arith}
 use native.Mathlib.Numerals.{unary_clauses}
 use Rattle.std.specs.Prelude.{if◌then◌else◌, is_some, Option}
 use Rattle.std.proofs.lemmas.Bool.{cases_lt, false≢true}
@@ -38,11 +38,7 @@ module _ (ends : ℕ → Option End) where
   pub over_or_all : (m : ℕ) → steps_of ends m < m → is_some (ends (steps_of ends m)) ≡ true
   unfolding steps_of
   over_or_all zero h = absurd (omega (arith, h))
-  over_or_all (suc m) h = by_last (is_some (ends (steps_of ends m))) m (steps_of ends m) refl (over_or_all m) h where
-    by_last : (b : Bool) (m k : ℕ) → is_some (ends k) ≡ b → (k < m → is_some (ends k) ≡ true)
-        → (if b then k else suc k) < suc m → is_some (ends (if b then k else suc k)) ≡ true
-    by_last true m k is before h = is
-    by_last false m k is before h = absurd (false≢true (sym is ∙ before (omega (arith, h))))
+  over_or_all (suc m) h = search (rules, arith, over_or_all m, false≢true)
 
   -- a run of more steps goes on where one of fewer ends
   pub joins_over : (n k : ℕ) → is_some (ends (steps_of ends n)) ≡ true → steps_of ends (n + k) ≡ steps_of ends n

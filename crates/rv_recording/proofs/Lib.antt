@@ -1,9 +1,7 @@
 pub mod Stands
 pub mod Running
-pub mod Outward
 pub mod Replays
 pub mod Keeping
 pub mod Counting
 pub mod Taken
 pub mod NextBreak
-pub mod Nearest

@@ -12,11 +12,11 @@ use Rattle.rv_monitor.specs.Resumed.{resumed, resumed_at}
 use Rattle.rv_monitor.proofs.Resumed.{resumed_back}
 use Rattle.rv_recording.specs.Recording.{RecordingState, first_board, gone_back}
 
-pub replayed : (r : RecordingState) (old new : SessionState) (board : BoardState) (k n : ℕ)
+pub replayed : (r : RecordingState) (old new : SessionState) (board : BoardState) (k n m : ℕ) → m ≡ n - k
     → IsReached (first_board r) r.session.timed → old.timed.inputs ≡ r.session.timed.inputs
     → board ≡ run (first_board r) (events_of r.session.timed.inputs 0 k) → k ≤ n → n ≤ r.session.timed.taken
-    → n ≤ old.limit → Took set.empty (n - k) (resumed_at old board k) new → new.timed ≡ (gone_back r n).session.timed
-replayed r old new board k n reached same run_is before below within t =
+    → n ≤ old.limit → Took set.empty m (resumed_at old board k) new → new.timed ≡ (gone_back r n).session.timed
+replayed r old new board k n m is reached same run_is before below within t =
     resumed_back (first_board r) r.session.timed reached board k n new.timed run_is before below t.count
-    (omega (arith, t.within)) (λ l. t.least (omega (arith, l)))
+    (omega (arith, t.within, is)) (λ l. t.least (omega (arith, l, is)))
     (ap (λ u. u.timed) t.state ∙ ap (λ (xs : List TimedInput). after (resumed board xs k) t.count) same)

@@ -1,22 +1,26 @@
--- Runs, step by step.
-use Rattle.std.proofs.Common.{rules, ◌≡◌, ◌∙◌, ℕ, suc, ◌+◌, ◌<◌, Bool, true, refl, sym, ap, subst, arith, inl, inr}
-use Rattle.std.specs.Prelude.{◌&&◌, nat_lt, if◌then◌else◌, is_none, is_some, unwrap_or, Option, Some, None, Ok, Err}
+-- Runs until a condition holds and runs out of calls, step by step.
+use Rattle.std.proofs.Common.{rules, ◌≡◌, ◌∙◌, ℕ, suc, ◌+◌, ◌<◌, ◌≤◌, Bool, true, refl, sym, ap, subst, arith, inl, inr}
+use Rattle.std.specs.Prelude.{◌&&◌, nat_lt, if◌then◌else◌, is_none, is_some, Option, Some, None, Ok}
 use Rattle.std.proofs.Math.Numerals.{add-one}
 use Rattle.std.proofs.lemmas.Bool.{cases_lt, false≢true}
 use Rattle.std.proofs.lemmas.Bool.Decides.{nat_tests}
-use Rattle.rv_base.specs.declared.memory.NoMemory.{NoMemory}
+use Rattle.rv_board.specs.Move.{writes}
 use Rattle.rv_board.specs.Support.State.{halted_of}
-use Rattle.rv_monitor.specs.State.{Addresses, IsInTime, SessionState, TimedState, after, with_due}
+use Rattle.rv_board.specs.declared.event.Event.TheVariants.{Step}
+use Rattle.rv_monitor.specs.State.{IsInTime, SessionState, TimedState, after, with_due}
 use Rattle.rv_monitor.specs.Stops.{may_step, steps_between}
 use Rattle.rv_monitor.proofs.Steps.{after_none, after_more}
 use Rattle.rv_recording.specs.Recording.{RecordingState, with_timed}
-use Rattle.rv_recording.specs.Until.{HasRun, comes, end_at, steps_of, until_ends}
+use Rattle.rv_recording.specs.Until.{HasRun, comes, until_ends}
 use Rattle.rv_recording.specs.Refused.{IsRefusedIn, NoneEnds}
-use Rattle.rv_recording.specs.Support.Steps.{TakesOne, end_after, end_before, end_of_step, next_of}
+use Rattle.rv_recording.specs.Out.{is_out, open_at, out_ends}
+use Rattle.rv_recording.specs.Support.Steps.{CountsOne, TakesOne, end_after, end_before, end_of_step, next_of}
+use Rattle.rv_recording.specs.declared.out.Span.{Span}
 use Rattle.rv_recording.specs.declared.until.Condition.{Condition}
 use Rattle.rv_recording.specs.declared.until.End.{End}
 use Rattle.rv_recording.specs.declared.until.End.TheVariants.{Halted, Reached, Breakpoint, Limit, Stuck}
 use Rattle.rv_recording.proofs.Counting.{all_steps, over_at, takes_more}
+use Rattle.rv_recording.proofs.Taken.{refused_at}
 
 -- the recording after n steps
 abbrev pub stands : RecordingState → ℕ → RecordingState
@@ -34,92 +38,73 @@ pub taken_is : (old now : RecordingState) (n : ℕ) → now ≡ stands old n
 unfolding after
 taken_is old now n e = omega (arith, ap (λ (r : RecordingState). r.session.timed.taken) e)
 
-pub due_is : (old now : RecordingState) (n : ℕ) → now ≡ with_timed old (with_due (after old.session.timed n))
-    → n ≡ steps_between old.session.timed now.session.timed
-unfolding after with_due
-due_is old now n e = omega (arith, ap (λ (r : RecordingState). r.session.timed.taken) e)
-
--- ---- before the first step
-
-pub before_is : (reached : ℕ → Bool) (breaks : Addresses) (s : SessionState) → IsInTime s.timed
-    → end_before s ≡ end_at reached breaks s 0
-before_is reached breaks s h = search (rules, arith, after_none)
+-- before the first step
+pub before_is : (s : SessionState) → IsInTime s.timed
+    → end_before s ≡ end_before (record s { timed = after s.timed 0 })
+before_is s h = ap (λ (t : TimedState). end_before (record s { timed = t })) (sym (after_none s.timed h))
 
 may_after : (h : Option ℕ) (r b l : Bool) → (if is_some h then Some Halted
     else (if r then Some Reached else (if b then Some Breakpoint else (if l then None else Some Stuck)))) ≡ None
     → (is_none h && l) ≡ true
 may_after h r b l e = search (rules, arith)
 
-pub begins : (ends : ℕ → Option End) (old : RecordingState) (before : Option End) → IsInTime old.session.timed
-    → before ≡ end_before old.session → before ≡ ends 0 → before ≡ None → Going ends old old 0
-begins ends old before in_time at is e = search (rules, arith, after_none)
+more_goes : (ends : ℕ → Option End) (n : ℕ) → NoneEnds ends n → ends n ≡ None → NoneEnds ends (suc n)
+more_goes ends n going now i l = search (rules, arith, cases_lt)
+
+module _ {ends : ℕ → Option End} {old : RecordingState} where
+  pub begins : IsInTime old.session.timed → end_before old.session ≡ ends 0 → end_before old.session ≡ None
+      → Going ends old old 0
+  begins in_time is e = search (rules, arith, after_none)
+
+  -- a run that is over after n steps
+  over : {new : RecordingState} {most n : ℕ} {end : End} → new ≡ stands old n → n ≤ most → NoneEnds ends n
+      → ends n ≡ Some end → HasRun ends most old.session new.session end
+  over {new} {most} {n} {end} state less going is =
+      let steps = over_at ends n most less going (ap is_some is) in search (rules, arith)
+
+  pub limit : {now : RecordingState} {most n : ℕ} → n ≡ most → Going ends old now n
+      → HasRun ends most old.session now.session Limit
+  limit all g = search (rules, arith, all_steps)
+
+  module _ {now new : RecordingState} {n : ℕ} (g : Going ends old now n) where
+    -- one step more of a recording
+    pub one_more : new ≡ with_timed now (after now.session.timed 1) → new ≡ stands old (suc n)
+    one_more f = search (rules, arith, after_more, add-one)
+
+    pub took : {end told : Option End} → TakesOne end now new (Ok told)
+        → (new ≡ with_timed now (after now.session.timed 1)) × (told ≡ end)
+    took (inl t) = t
+    took (inr t) = absurd (false≢true (sym t.0 ∙ g.may))
+
+    pub goes_on : (reached : Bool) → end_after reached (next_of now.session) ≡ ends (suc n)
+        → TakesOne (end_after reached (next_of now.session)) now new (Ok None) → Going ends old new (n + 1)
+    goes_on reached is t =
+        let went = took t in
+        subst (Going ends old new) (sym (add-one n)) (record {
+          in_time = g.in_time;
+          state = one_more went.0;
+          going = more_goes ends (suc n) g.going (sym (went.1 ∙ is));
+          may = ap (λ (r : RecordingState). may_step r.session) went.0
+              ∙ may_after (halted_of (next_of now.session).timed.board) reached _ _ (sym went.1);
+        })
+
+    -- a run whose last step ends it
+    pub ended : {most : ℕ} {end : Option End} {told : End} → end ≡ ends (suc n) → n < most
+        → TakesOne end now new (Ok (Some told)) → HasRun ends most old.session new.session told
+    ended is k t = let went = took t in over (one_more went.0) (omega (arith, k)) g.going (sym (went.1 ∙ is))
+
+    pub refused : {most : ℕ} → n < most → new ≡ with_timed now (with_due now.session.timed)
+        → writes new.session.timed.board Step ≡ true → IsRefusedIn ends most old.session new.session
+    refused {most} k e next =
+        refused_at n (ap (λ (r : RecordingState). r.session) due_at) (takes_more ends n most k g.going) next where
+          due_at : new ≡ with_timed old (with_due (after old.session.timed n))
+          due_at = search (rules, arith)
 
 -- a run that is over before its first step
-pub over_before : (ends : ℕ → Option End) (old : RecordingState) (most : ℕ) (before : Option End) (end : End)
+pub over_before : {ends : ℕ → Option End} {most : ℕ} {before : Option End} {end : End} (old : RecordingState)
     → IsInTime old.session.timed → before ≡ ends 0 → before ≡ Some end → HasRun ends most old.session old.session end
-over_before ends old most before end in_time is e =
-    let none : steps_of ends most ≡ 0 =
-    over_at ends 0 most (omega arith) (λ i l. absurd (omega (arith, l))) (ap is_some (sym is ∙ e)) in
-    record {
-      state = ap (λ (t : TimedState). record old.session { timed = t }) (sym (after_none old.session.timed in_time))
-          ∙ ap (λ (n : ℕ). record old.session { timed = after old.session.timed n }) (sym none);
-      ended = sym (ap (λ (n : ℕ). unwrap_or (ends n) Limit) none ∙ ap (λ (o : Option End). unwrap_or o Limit) (sym is ∙ e));
-    }
-
-module _ (ends : ℕ → Option End) (old : RecordingState) where
-  -- one step more of a recording
-  pub one_more : (now new : RecordingState) (n : ℕ) → Going ends old now n
-      → new ≡ with_timed now (after now.session.timed 1) → new ≡ stands old (suc n)
-  one_more now new n g f = search (rules, arith, after_more, add-one)
-
-  more_goes : (n : ℕ) → NoneEnds ends n → ends n ≡ None → NoneEnds ends (suc n)
-  more_goes n going now i l = search (rules, arith, cases_lt)
-
-  pub goes_on : (reached : Bool) (now new : RecordingState) (n : ℕ) → end_after reached (next_of now.session) ≡ ends (suc n)
-      → Going ends old now n → TakesOne (end_after reached (next_of now.session)) now new (Ok None)
-      → Going ends old new (n + 1)
-  goes_on reached now new n is g (inl t) = record {
-    in_time = g.in_time;
-    state = one_more now new n g t.0 ∙ ap (stands old) (sym (add-one n));
-    going = subst (λ (k : ℕ). NoneEnds ends (suc k)) (sym (add-one n)) (more_goes (suc n) g.going (sym (t.1 ∙ is)));
-    may = ap (λ (r : RecordingState). may_step r.session) t.0
-        ∙ may_after (halted_of (next_of now.session).timed.board) reached _ _ (sym t.1);
-  }
-  goes_on reached now new n is g (inr t) = search (rules, arith)
-
-  pub due_at : (now new : RecordingState) (n : ℕ) → Going ends old now n
-      → new ≡ with_timed now (with_due now.session.timed) → new ≡ with_timed old (with_due (after old.session.timed n))
-  due_at now new n g e = search (rules, arith)
-
-  has_run : (new : RecordingState) (most n : ℕ) (end : End) → new ≡ stands old n → steps_of ends most ≡ n
-      → end ≡ unwrap_or (ends n) Limit → HasRun ends most old.session new.session end
-  has_run new most n end state is told = search (rules, arith)
-
-  -- a run whose last step ends it
-  pub ended : (now new : RecordingState) (most n : ℕ) (end : Option End) (told : End) → end ≡ ends (suc n) → n < most
-      → Going ends old now n → TakesOne end now new (Ok (Some told)) → HasRun ends most old.session new.session told
-  ended now new most n end told is k g (inl t) =
-      let last : ends (suc n) ≡ Some told = sym (t.1 ∙ is) in
-      has_run new most (suc n) told (one_more now new n g t.0)
-      (over_at ends (suc n) most (omega (arith, k)) g.going (ap is_some last))
-      (sym (ap (λ (o : Option End). unwrap_or o Limit) last))
-  ended now new most n end told is k g (inr t) = absurd (false≢true (sym t.0 ∙ g.may))
-
-  pub limit : (now : RecordingState) (most : ℕ) → Going ends old now most
-      → HasRun ends most old.session now.session Limit
-  limit now most g = search (rules, arith, has_run, all_steps)
-
-  pub refused : (now new : RecordingState) (most n : ℕ) (end : Option End) (why : NoMemory) → n < most
-      → Going ends old now n → TakesOne end now new (Err why) → IsRefusedIn ends most old.session new.session
-  refused now new most n end why k g t =
-      let is = due_at now new n g t.1 in
-      let same = due_is old new n is in
-      record {
-        within = subst (λ (m : ℕ). m < steps_of ends most) same (takes_more ends n most k g.going);
-        state = ap (λ (r : RecordingState). r.session)
-            (subst (λ m. new ≡ with_timed old (with_due (after old.session.timed m))) same is);
-        next_writes = t.2;
-      }
+over_before old in_time is e = over (ap (with_timed old) (sym (after_none old.session.timed in_time))) (omega arith)
+    (λ i l. absurd (omega (arith, l))) (sym is ∙ e)
 
 -- after a step
 pub late : (z r b l : Bool) (h : Option ℕ) → z ≡ true → (if is_some h then Some Halted
@@ -138,28 +123,59 @@ after_suc s n h = after_more s n 1 h.rising ∙ ap (after s) (add-one n)
 -- ---- until a condition holds
 
 -- why the run ends with the next step
-pub end_is : (condition : Condition) (old now : RecordingState) (n : ℕ)
+pub end_is : (condition : Condition) {old now : RecordingState} {n : ℕ}
     → Going (until_ends condition old.session) old now n
     → end_of_step condition now.session ≡ until_ends condition old.session (suc n)
 unfolding comes
-end_is condition old now n g = search (rules, arith, after_suc, late, above_none)
+end_is condition g = search (rules, arith, after_suc, late, above_none)
 
--- ---- what the call leaves as it was
+-- ---- out of calls
 
--- the steps of a run change nothing but the session
-others_stay : (old new : RecordingState) (t : TimedState) → new ≡ with_timed old t
-    → new ≡ record old { session = new.session }
-others_stay old new t e = search (rules, arith)
+-- n steps were taken, none of which ends the run, and `calls` is the number of open calls after them
+pub record GoingOut (first : ℕ) (line : Option Span) (old now : RecordingState) (calls n : ℕ) : Type 0 where
+  pub going : Going (out_ends first line old.session) old now n
+  pub number : calls ≡ open_at first old.session.timed n
 
-pub others_at : (ends : ℕ → Option End) (old now : RecordingState) (n : ℕ) → Going ends old now n
-    → now ≡ record old { session = now.session }
-others_at ends old now n g = others_stay old now (after old.session.timed n) g.state
+module _ {first : ℕ} {line : Option Span} {old now : RecordingState} {calls n : ℕ}
+    (g : GoingOut first line old now calls n) where
+  -- the number of open calls after one step more
+  pub open_suc : {left : ℕ} → CountsOne calls left now → left ≡ open_at first old.session.timed (suc n)
+  unfolding open_at
+  open_suc (inl e) = search (rules, arith)
+  open_suc (inr e) = absurd (false≢true (sym e ∙ g.going.may))
 
-pub others_next : (ends : ℕ → Option End) (old now new : RecordingState) (n : ℕ) (end told : Option End)
-    → Going ends old now n → TakesOne end now new (Ok told) → new ≡ record old { session = new.session }
-others_next ends old now new n end told g t = search (rules, arith, others_stay, one_more)
+  -- why the run ends with that step
+  pub out_is : {left : ℕ} → CountsOne calls left now
+      → end_after (is_out line left (after now.session.timed 1).board) (next_of now.session)
+      ≡ out_ends first line old.session (suc n)
+  unfolding after is_out open_at
+  out_is count = search (rules, arith, open_suc, after_suc, late, above_none)
 
-pub others_due : (ends : ℕ → Option End) (old now new : RecordingState) (n : ℕ) (end : Option End)
-    (why : NoMemory) → Going ends old now n → TakesOne end now new (Err why)
-    → new ≡ record old { session = new.session }
-others_due ends old now new n end why g t = search (rules, arith, others_stay, due_at)
+  pub goes_out : {new : RecordingState} {left : ℕ} → CountsOne calls left now
+      → TakesOne (end_after (is_out line left (after now.session.timed 1).board) (next_of now.session)) now new
+      (Ok None)
+      → GoingOut first line old new left (n + 1)
+  goes_out count t = record {
+    going = goes_on g.going _ (out_is count) t;
+    number = open_suc count ∙ ap (open_at first old.session.timed) (sym (add-one n));
+  }
+
+  pub open_ended : {new : RecordingState} {left : ℕ} {end told : Option End} → CountsOne calls left now
+      → TakesOne end now new (Ok told)
+      → left ≡ open_at first old.session.timed (steps_between old.session.timed new.session.timed)
+  open_ended {new} count t = open_suc count ∙ ap (open_at first old.session.timed)
+      (taken_is old new (suc n) (one_more g.going (took g.going t).0))
+
+  pub open_refused : {new : RecordingState} → new ≡ with_timed now (with_due now.session.timed)
+      → calls ≡ open_at first old.session.timed (steps_between old.session.timed new.session.timed)
+  unfolding after with_due
+  open_refused {new} e = g.number ∙ ap (open_at first old.session.timed) same where
+    same : n ≡ steps_between old.session.timed new.session.timed
+    same = omega (
+      arith,
+      ap (λ (r : RecordingState). r.session.timed.taken) e,
+      ap (λ (r : RecordingState). r.session.timed.taken) g.going.state,
+    )
+
+  pub open_limit : calls ≡ open_at first old.session.timed (steps_between old.session.timed now.session.timed)
+  open_limit = search (rules, arith, taken_is)

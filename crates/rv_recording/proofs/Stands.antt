@@ -1,12 +1,12 @@
 -- What the calls of a session leave is a recording as well.
-use Rattle.std.proofs.Common.{rules, ◌≡◌, ◌∙◌, ℕ, ◌-◌, ◌*◌, ◌<◌, ◌≤◌, Bool, true, List, [], ◌∷◌, sym, ap, arith}
+use Rattle.std.proofs.Common.{rules, ◌≡◌, ℕ, ◌-◌, ◌*◌, ◌≤◌, Bool, true, List, [], ◌∷◌, refl, sym, ap, subst, arith}
 use Rattle.std.specs.FinSet as set
 use Rattle.std.specs.Prelude.{◌&&◌, nat_le, is_none, Option, Some, None, Result, Ok, Err, OnOk, OnErr, OnOk}
 use Rattle.rv_base.specs.declared.memory.NoMemory.{NoMemory}
 use Rattle.rv_hart.specs.declared.trap.Outcome.{Outcome}
 use Rattle.rv_board.specs.Boot.{board_at_reset}
 use Rattle.rv_board.specs.Move.{run}
-use Rattle.rv_board.specs.Support.State.{BoardState, halted_of}
+use Rattle.rv_board.specs.Support.State.{BoardState}
 use Rattle.rv_timeline.specs.Support.Reading.{HasSteps}
 use Rattle.rv_timeline.specs.Timed.{IsRead, inserted, never_falls, timed}
 use Rattle.rv_timeline.specs.declared.input.Input.{Input}
@@ -16,7 +16,7 @@ use Rattle.rv_commands.specs.declared.command.Command.{Command}
 use Rattle.rv_monitor.specs.Commands.{Leaves, LeavesRefused}
 use Rattle.rv_monitor.specs.Events.{events_of}
 use Rattle.rv_monitor.specs.Laws.{IsReached}
-use Rattle.rv_monitor.specs.Resumed.{resumed, resumed_at}
+use Rattle.rv_monitor.specs.Resumed.{resumed_at}
 use Rattle.rv_monitor.specs.State.{Addresses, SessionState, TimedState, begun, after, with_due, given, with_break, without_break}
 use Rattle.rv_monitor.specs.Stops.{Took, WasRefused, TakesStep}
 use Rattle.rv_monitor.specs.declared.stop.Stop.{Stop}
@@ -53,14 +53,6 @@ opened_is program text pages slots s opens small ks none = search (rules, arith,
 
 -- ---- what calls leave
 
-inputs_kept : (old new : TimedState) (n : ℕ) → new ≡ after old n → new.inputs ≡ old.inputs
-unfolding after
-inputs_kept old new n e = ap (λ u. u.inputs) e
-
-refused_kept : (old new : TimedState) (n : ℕ) → new ≡ with_due (after old n) → new.inputs ≡ old.inputs
-unfolding after with_due
-refused_kept old new n e = ap (λ u. u.inputs) e
-
 steps_inserted : (xs : List TimedInput) (x : TimedInput) → HasSteps xs → nat_le x.step 9999999999 ≡ true
     → HasSteps (inserted xs x)
 unfolding inserted
@@ -78,47 +70,36 @@ module _ (s new : SessionState) (p q : ℕ) (ks : List KeptBoard) (h : Stands s 
       → HasSteps new.timed.inputs → AreKept first new.timed.inputs ks → Stands new p q ks
   stands same limit r small kept = search (rules, arith)
 
-  timed_stands : new ≡ record s { timed = new.timed } → IsReached first new.timed
-      → new.timed.inputs ≡ s.timed.inputs → Stands new p q ks
-  timed_stands e r same = search (rules, arith, stands)
+  -- nothing but the board with its inputs changed
+  moved : (t : TimedState) → new ≡ record s { timed = t } → IsReached first t → t.inputs ≡ s.timed.inputs
+      → Stands new p q ks
+  moved t e r same = search (rules, arith, stands)
 
   same_timed : new.program ≡ s.program → new.limit ≡ s.limit → new.timed ≡ s.timed → Stands new p q ks
   same_timed same limit e = search (rules, arith, stands)
 
   unchanged : new ≡ s → Stands new p q ks
-  unchanged e = same_timed (ap (λ u. u.program) e) (ap (λ u. u.limit) e) (ap (λ u. u.timed) e)
-
-  -- nothing but the board with its inputs changed
-  timed_alone : (t : TimedState) → new ≡ record s { timed = t } → new ≡ record s { timed = new.timed }
-  timed_alone t e = e ∙ ap (λ u. record s { timed = u }) (sym (ap (λ u. u.timed) e))
+  unchanged e = subst (λ (u : SessionState). Stands u p q ks) (sym e) h
 
   took : (a : Addresses) (n : ℕ) → Took a n s new → Stands new p q ks
-  took a n t =
-      let timed = ap (λ u. u.timed) t.state in
-      timed_stands (timed_alone (after s.timed t.count) t.state)
-      (stopped_stands first s.timed new.timed h.0.reached a t.count t.going timed)
-      (inputs_kept s.timed new.timed t.count timed)
+  unfolding after
+  took a n t = moved _ t.state (stopped_stands first s.timed _ h.0.reached a t.count t.going refl) refl
 
   was_refused : (a : Addresses) (n : ℕ) → WasRefused a n s new → Stands new p q ks
-  was_refused a n w =
-      let timed = ap (λ u. u.timed) w.state in
-      timed_stands (timed_alone (with_due (after s.timed w.count)) w.state)
-      (refused_stands first s.timed new.timed h.0.reached a w.count (λ i l. w.going i (omega arith)) timed)
-      (refused_kept s.timed new.timed w.count timed)
+  unfolding after with_due
+  was_refused a n w = moved _ w.state
+      (refused_stands first s.timed _ h.0.reached a w.count (λ i l. w.going i (omega arith)) refl) refl
 
   pub called : (a : Addresses) (n : ℕ) (r : Result Stop NoMemory) → OnOk r (Took a n s new)
       → OnErr r (WasRefused a n s new) → Stands new p q ks
   called a n r ok err = search (rules, arith, took, was_refused)
 
   pub one_step : (r : Result (Option Outcome) NoMemory) → TakesStep s new r → Stands new p q ks
-  unfolding with_due
+  unfolding after with_due
   one_step (Ok (Some outcome)) t =
-      let timed = ap (λ u. u.timed) t.1 in
-      let running = none_is (halted_of s.timed.board) (and_left _ _ t.0) in
-      timed_stands (timed_alone _ t.1)
-      (step_stands first s.timed new.timed h.0.reached running timed) (inputs_kept s.timed new.timed 1 timed)
+      moved _ t.1 (step_stands first s.timed _ h.0.reached (none_is _ (and_left _ _ t.0)) refl) refl
   one_step (Ok None) t = unchanged t.1
-  one_step (Err refusal) t = search (rules, arith, timed_stands, timed_alone, due_is_reached)
+  one_step (Err refusal) t = moved _ t.1 (due_is_reached first s.timed _ h.0.reached refl) refl
 
   -- ---- commands
 
@@ -136,7 +117,7 @@ module _ (s new : SessionState) (p q : ℕ) (ks : List KeptBoard) (h : Stands s 
   broken r addr e err = search (rules, arith, same_timed, unchanged)
 
   pub cleared : (addr : ℕ) → new ≡ without_break s addr → Stands new p q ks
-  cleared addr e = same_timed (ap (λ u. u.program) e) (ap (λ u. u.limit) e) (ap (λ u. u.timed) e)
+  cleared addr e = search (rules, arith, same_timed)
 
   -- ---- inputs
 
@@ -154,18 +135,16 @@ module _ (s new : SessionState) (p q : ℕ) (ks : List KeptBoard) (h : Stands s 
       back_is = resumed_back first s.timed h.0.reached board k n new.timed run_is before below t.count
           (omega (arith, t.within)) (λ l. t.least (omega (arith, l))) (ap (λ u. u.timed) t.state)
 
-      goes : (j : ℕ) → j < n → halted_of (after (begun first s.timed.inputs) j).board ≡ None
-      goes j l = h.0.reached.running j (omega arith)
-
-      alone : new ≡ record s { timed = new.timed }
-      alone = timed_alone (after (resumed board s.timed.inputs k) t.count) t.state
+      went : new ≡ record s { timed = after (begun first s.timed.inputs) n }
+      went = cc (back_is, t.state)
 
       pub back_stands : Stands new p q ks
-      back_stands = timed_stands alone (reached_steps first s.timed.inputs n new.timed h.0.reached.rising back_is goes)
-          (inputs_kept (begun first s.timed.inputs) new.timed n back_is)
+      unfolding after
+      back_stands = moved _ went (reached_steps first s.timed.inputs n _ h.0.reached.rising refl
+          (λ j l. h.0.reached.running j (omega arith))) refl
 
       pub went_back : after_call ≡ gone_back (record { session = s; pages = p; slots = q }) n
-      went_back = search (rules, arith, alone, back_is)
+      went_back = search (rules, arith, went)
 
     pub back_any : (r : Result Stop NoMemory) → OnOk r (Took set.empty (n - k) (resumed_at s board k) new)
         → OnErr r (new ≡ s) → Stands new p q ks

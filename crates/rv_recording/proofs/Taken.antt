@@ -3,7 +3,9 @@ use Rattle.std.proofs.Common.{rules, ◌≡◌, ℕ, ◌+◌, ◌<◌, true, fal
 use Rattle.std.specs.Prelude.{nat_lt, is_some, Option, None, Result, OnErr}
 use Rattle.rv_base.specs.declared.memory.NoMemory.{NoMemory}
 use Rattle.std.proofs.lemmas.Bool.{cases_lt, false≢true}
-use Rattle.rv_monitor.specs.State.{Addresses, SessionState, TimedState, after, with_due}
+use Rattle.rv_board.specs.Move.{writes}
+use Rattle.rv_board.specs.declared.event.Event.TheVariants.{Step}
+use Rattle.rv_monitor.specs.State.{Addresses, SessionState, after, with_due}
 use Rattle.rv_monitor.specs.Stops.{Took, WasRefused, steps_between, stop_after, stop_of}
 use Rattle.rv_monitor.specs.declared.stop.Stop.{Stop}
 use Rattle.rv_recording.specs.Until.{HasRun, end_at, steps_of}
@@ -11,6 +13,19 @@ use Rattle.rv_recording.specs.Refused.{IsRefusedIn, NoneEnds}
 use Rattle.rv_recording.specs.Support.Steps.{end_by}
 use Rattle.rv_recording.specs.declared.until.End.{End}
 use Rattle.rv_recording.proofs.Counting.{all_steps, over_at, takes_more}
+
+-- memory ran out after n steps, fewer than the run takes
+pub refused_at : {ends : ℕ → Option End} {most : ℕ} {old new : SessionState} (n : ℕ)
+    → new ≡ record old { timed = with_due (after old.timed n) } → n < steps_of ends most
+    → writes new.timed.board Step ≡ true → IsRefusedIn ends most old new
+unfolding after with_due
+refused_at {ends} {most} {old} {new} n state less next =
+    let same : n ≡ steps_between old.timed new.timed = omega (arith, ap (λ (s : SessionState). s.timed.taken) state) in
+    record {
+      within = subst (λ (m : ℕ). m < steps_of ends most) same less;
+      state = subst (λ (m : ℕ). new ≡ record old { timed = with_due (after old.timed m) }) same state;
+      next_writes = next;
+    }
 
 module _ (a : Addresses) (n : ℕ) (s t : SessionState) where
   abbrev ends : ℕ → Option End
@@ -23,10 +38,6 @@ module _ (a : Addresses) (n : ℕ) (s t : SessionState) where
   none_at : (i : ℕ) → s.timed.taken + i < s.limit → stop_after a (after s.timed i).board i ≡ None → ends i ≡ None
   unfolding stop_after
   none_at i room e = search (rules, arith, taken)
-
-  due_between : (k : ℕ) → t.timed ≡ with_due (after s.timed k) → k ≡ steps_between s.timed t.timed
-  unfolding after with_due
-  due_between k e = omega (arith, ap (λ (u : TimedState). u.taken) e)
 
   module _ (r : Took a n s t) where
     going : NoneEnds ends r.count
@@ -48,15 +59,8 @@ module _ (a : Addresses) (n : ℕ) (s t : SessionState) where
     took_ran stop end e is = search (rules, arith, steps_are, taken)
 
   refused_ran : WasRefused a n s t → IsRefusedIn ends n s t
-  refused_ran w =
-      let now = ap (λ (u : SessionState). u.timed) w.state in
-      let same : w.count ≡ steps_between s.timed t.timed = due_between w.count now in
-      record {
-        within = subst (λ (m : ℕ). m < steps_of ends n) same (takes_more ends w.count n (omega (arith, w.within))
-            (λ i l. none_at i (omega (arith, l, w.within)) (w.going i (omega (arith, l)))));
-        state = subst (λ (m : ℕ). t ≡ record s { timed = with_due (after s.timed m) }) same w.state;
-        next_writes = w.next_writes;
-      }
+  refused_ran w = refused_at w.count w.state (takes_more ends w.count n (omega (arith, w.within))
+      (λ i l. none_at i (omega (arith, l, w.within)) (w.going i (omega (arith, l))))) w.next_writes
 
   pub not_run : {A : Type 0} (r : Result A NoMemory) → WasRefused a n s t → OnErr r (IsRefusedIn ends n s t)
   not_run r w = search (rules, arith, refused_ran)

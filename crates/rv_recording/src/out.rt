@@ -4,12 +4,13 @@ ghost use Rattle.std.specs.Option.{option_and_then};
 ghost use Rattle.rv_isa.specs.Support.Meaning.{means};
 ghost use Rattle.rv_board.specs.Support.State.{pc_of};
 ghost use Rattle.rv_hart.specs.declared.trap.Outcome.TheVariants.{Retired};
+ghost use Rattle.rv_monitor.specs.State.{after};
 ghost use Rattle.rv_monitor.specs.Stops.{steps_between};
 ghost use Rattle.rv_monitor.specs.Views.{word_at};
 ghost use Rattle.rv_recording.specs.Out.{is_inside, is_out, open_after, open_at, out_ends};
 ghost use Rattle.rv_recording.specs.Until.{HasRun};
 ghost use Rattle.rv_recording.specs.Refused.{IsRefusedIn};
-ghost use Rattle.rv_recording.specs.Support.Steps.{StepsOut, after_call, end_after};
+ghost use Rattle.rv_recording.specs.Support.Steps.{CountsOne, TakesOne, after_call, end_after, next_of};
 
 use crate::Recording;
 use crate::until::{End, end_after, end_before};
@@ -105,7 +106,11 @@ fn is_out(line: Option<Span>, calls: u64, board: &BootedBoard) -> bool
 impl Recording {
     /// Takes a step of a run out of calls, and returns why the run ends with it, if it does.
     fn step_out(&mut self, calls: &mut u64, line: Option<Span>) -> Result<Option<End>, NoMemory>
-        ensures { StepsOut line calls.old calls.new self.old self.new result }
+        ensures took { TakesOne (end_after (is_out line calls.new (after self.old.session.timed 1).board)
+            (next_of self.old.session)) self.old self.new result }
+        ensures count { IfOk result (λ end. CountsOne calls.old calls.new self.old) }
+        ensures refused { OnErr result (calls.new ≡ calls.old) }
+        ensures others { self.new ≡ record self.old { session = self.new.session } }
     {
         let instr = next_instr(self.session().board());
         match self.take_step() {
@@ -140,8 +145,6 @@ impl Recording {
             (steps_between self.old.session.timed self.new.session.timed) }
         ensures others { self.new ≡ record self.old { session = self.new.session } }
     {
-        // It tells that the inputs of all steps so far were given.
-        let _board = self.session().board();
         if let Some(end) = end_before(self.session()) {
             return Ok(end);
         }

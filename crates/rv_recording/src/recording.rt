@@ -68,6 +68,7 @@ impl Recording {
     /// # Errors
     ///
     /// As those of [`open_session`].
+    #[tactic(auto, using(crate::proofs::Stands::opened_is))]
     pub fn open(
         alloc: Global,
         program: Program,
@@ -233,6 +234,7 @@ impl Recording {
 
     /// Returns a board that has taken some of the first `count` steps, and their number: a copy of the newest
     /// state that is kept of them, or the board at reset.
+    #[tactic(auto, using(crate::proofs::Keeping::none_taken, crate::proofs::Keeping::has_slots))]
     pub(crate) fn board_before(&self, count: u64) -> Result<(BootedBoard, u64), NoMemory>
         ensures within { IfOk result (λ start. start.1 ≤ count) }
         ensures run { IfOk result (λ start. start.0
@@ -299,6 +301,7 @@ impl Recording {
     /// # Errors
     ///
     /// As those of [`Session::set_break`].
+    #[tactic(auto, using(crate::proofs::Stands::broken))]
     pub fn set_break(&mut self, address: u32) -> Result<(), NoMemory>
         ensures ok { OnOk result
             (self.new ≡ record self.old { session = with_break self.old.session address }) }
@@ -310,6 +313,7 @@ impl Recording {
     }
 
     /// Removes a breakpoint, and returns whether it was there.
+    #[tactic(auto, using(crate::proofs::Stands::cleared))]
     pub fn clear_break(&mut self, address: u32) -> bool
         ensures was { result ≡ set.contains self.old.session.breakpoints.addresses address }
         ensures gone { self.new ≡ record self.old { session = without_break self.old.session address } }

@@ -209,7 +209,8 @@ impl Recording {
 
     /// Takes a step, and returns why a run until a condition ends with it, if it does.
     fn step_until(&mut self, condition: Condition) -> Result<Option<End>, NoMemory>
-        ensures { TakesOne (end_of_step condition self.old.session) self.old self.new result }
+        ensures took { TakesOne (end_of_step condition self.old.session) self.old self.new result }
+        ensures others { self.new ≡ record self.old { session = self.new.session } }
     {
         match self.take_step() {
             Ok(Some(outcome)) => {
@@ -234,8 +235,6 @@ impl Recording {
             (IsRefusedIn (until_ends condition self.old.session) most self.old.session self.new.session) }
         ensures others { self.new ≡ record self.old { session = self.new.session } }
     {
-        // It tells that the inputs of all steps so far were given.
-        let _board = self.session().board();
         if let Some(end) = end_before(self.session()) {
             return Ok(end);
         }

@@ -16,8 +16,7 @@ use Rattle.rv_monitor.specs.declared.stop.Stop.{Stop}
 use Rattle.rv_monitor.specs.declared.stop.Stop.TheVariants as stop
 use Rattle.rv_recording.specs.Recording.{RecordingState, with_timed}
 use Rattle.rv_recording.specs.Until.{holds}
-use Rattle.rv_recording.specs.Out.{is_out, open_after}
-use Rattle.rv_recording.specs.declared.out.Span.{Span}
+use Rattle.rv_recording.specs.Out.{open_after}
 use Rattle.rv_recording.specs.declared.until.End.{End}
 use Rattle.rv_recording.specs.declared.until.End.TheVariants.{Halted, Reached, Breakpoint, Limit, Stuck}
 use Rattle.rv_recording.specs.declared.until.Condition.{Condition}
@@ -61,19 +60,11 @@ TakesOne end old new (Ok told) =
     ((new ≡ with_timed old (after old.session.timed 1)) × (told ≡ end))
     ⊎ ((may_step old.session ≡ false) × (new ≡ old) × (told ≡ Some Stuck))
 TakesOne end old new (Err refused) =
-    (may_step old.session ≡ true) × (new ≡ with_timed old (with_due old.session.timed))
-    × (writes new.session.timed.board Step ≡ true)
+    (new ≡ with_timed old (with_due old.session.timed)) × (writes new.session.timed.board Step ≡ true)
 
--- a call took a step, with the number of open calls before and after it, and tells why the run ends with it;
--- or there was none to be taken; or memory ran out at it
-abbrev pub StepsOut : Option Span → (calls left : ℕ) → RecordingState → RecordingState → Result (Option End) NoMemory → Type 0
-StepsOut line calls left old new (Ok end) =
-    ((new ≡ with_timed old (after old.session.timed 1)) × (left ≡ open_of_step calls old.session.timed)
-    × (end ≡ end_after (is_out line left (after old.session.timed 1).board) (next_of old.session)))
-    ⊎ ((may_step old.session ≡ false) × (new ≡ old) × (left ≡ calls) × (end ≡ Some Stuck))
-StepsOut line calls left old new (Err refused) =
-    (may_step old.session ≡ true) × (new ≡ with_timed old (with_due old.session.timed))
-    × (writes new.session.timed.board Step ≡ true) × (left ≡ calls)
+-- the number of open calls after a call for one step that took one, by the number before it
+abbrev pub CountsOne : (calls left : ℕ) → RecordingState → Type 0
+CountsOne calls left old = (left ≡ open_of_step calls old.session.timed) ⊎ (may_step old.session ≡ false)
 
 -- why a run is over that a call of a session took, by why the call ended and whether more steps may be taken
 abbrev pub end_by : Stop → Bool → End

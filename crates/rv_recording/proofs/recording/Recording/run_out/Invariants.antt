@@ -1,4 +1,4 @@
-use Rattle.rv_recording.proofs.Outward.{GoingOut}
+use Rattle.rv_recording.proofs.Running.{GoingOut}
 use Rattle.rv_recording.proofs.recording.Recording.run_out.Given as goal
 
 abbrev pub invariant-loop-done : goal.invariant-loop-done
