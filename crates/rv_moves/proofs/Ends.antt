@@ -1,8 +1,7 @@
 -- The ends of a run, by its steps.
 use Rattle.std.proofs.Common.{rules, ◌≡◌, ◌∙◌, ℕ, zero, suc, Bool, true, false, refl, ap, arith}
-use Rattle.std.specs.Prelude.{◌||◌, if◌then◌else◌, is_none, is_some, nat_lt, Option, Some, None}
+use Rattle.std.specs.Prelude.{◌||◌, if◌then◌else◌, is_none, is_some, Option, Some, None}
 use Rattle.std.proofs.lemmas.Bool.{cases_lt}
-use Rattle.std.proofs.lemmas.Bool.Decides.{nat_tests}
 use Rattle.rv_recording.specs.Refused.{NoneEnds}
 use Rattle.rv_recording.specs.Until.{steps_of}
 use Rattle.rv_recording.specs.declared.until.End.{End}
@@ -28,9 +27,6 @@ goes h m b l e f g k = rw (e, f, g, k) refl
 
 pub left_of : (m r : Bool) → (m || r) ≡ false → m ≡ false
 left_of m r e = search (rules, arith)
-
-pub above : (n : ℕ) → nat_lt 0 (suc n) ≡ true
-above n = grind (arith, nat_tests)
 
 module _ (ends : ℕ → Option End) where
   pub first_none : ends 0 ≡ None → NoneEnds ends 1

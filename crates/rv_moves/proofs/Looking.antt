@@ -14,7 +14,8 @@ use Rattle.rv_recording.specs.Recording.{RecordingState, first_board, gone_back,
 use Rattle.rv_recording.specs.Until.{HasRun, steps_of}
 use Rattle.rv_recording.specs.declared.until.End.{End}
 use Rattle.rv_recording.proofs.Counting.{steps_within, takes_more}
-use Rattle.rv_moves.proofs.Ends.{above, first_none, goes, going, left_of, none_before}
+use Rattle.rv_recording.proofs.Running.{above_none}
+use Rattle.rv_moves.proofs.Ends.{first_none, goes, going, left_of, none_before}
 use Rattle.rv_moves.specs.Back.{first_state, last_stop, left_by, taken}
 use Rattle.rv_moves.specs.Runs.{run_ends}
 use Rattle.rv_moves.specs.Support.Looking.{Looked, or_else}
@@ -37,18 +38,18 @@ pub record Same (old now : RecordingState) : Type 0 where
 pub same_self : (r : RecordingState) → Same r r
 same_self r = record { state = refl; inputs = refl }
 
-pub same_back : (r now : RecordingState) (n : ℕ) → now ≡ gone_back r n → Same r now
+same_back : {r now : RecordingState} (n : ℕ) → now ≡ gone_back r n → Same r now
 unfolding after
-same_back r now n e = subst (λ (q : RecordingState). Same r q) (sym e) (record { state = refl; inputs = refl })
+same_back {r} n e = subst (λ (q : RecordingState). Same r q) (sym e) (record { state = refl; inputs = refl })
 
-module _ (old now : RecordingState) (s : Same old now) where
-  pub back_same : (n : ℕ) → gone_back now n ≡ gone_back old n
+module _ {old now : RecordingState} (s : Same old now) where
+  back_same : (n : ℕ) → gone_back now n ≡ gone_back old n
   back_same n = search (rules, arith)
 
-  pub first_same : first_state now ≡ first_state old
+  first_same : first_state now ≡ first_state old
   first_same = search (rules, arith)
 
-  pub breaks_same : now.session.breakpoints.addresses ≡ old.session.breakpoints.addresses
+  breaks_same : now.session.breakpoints.addresses ≡ old.session.breakpoints.addresses
   breaks_same = ap (λ (r : RecordingState). r.session.breakpoints.addresses) s.state
 
   pub limit_same : now.session.limit ≡ old.session.limit
@@ -83,19 +84,16 @@ module _ (ws : List Watch) (br : Addresses) (s : TimedState) where
   quiet : (n k : ℕ) → meets n ≡ false → ((i : ℕ) → i < k → (meets (n + suc i) ≡ false) × (breaks (n + suc i) ≡ false))
       → last_stop ws br s (n + suc k) ≡ by_step false (breaks n) n (last_stop ws br s n)
   quiet n zero unmet none =
-      let one : n + suc zero ≡ suc n = omega arith in
-      ap (last_stop ws br s) one ∙ (last_suc n ∙ ap (λ (m : Bool). by_step m (breaks n) n (last_stop ws br s n)) unmet)
+      let one : n + suc zero ≡ suc n = omega arith in cc (ap (last_stop ws br s) one, last_suc n, unmet)
   quiet n (suc k) unmet none =
       let one : n + suc (suc k) ≡ suc (n + suc k) = omega arith in
       let last = none k (omega arith) in
       ap (last_stop ws br s) one ∙ (last_suc (n + suc k)
-      ∙ (ap (λ (m : Bool). by_step m (breaks (n + suc k)) (n + suc k) (last_stop ws br s (n + suc k))) last.0
-      ∙ (ap (λ (b : Bool). by_step false b (n + suc k) (last_stop ws br s (n + suc k))) last.1
-      ∙ quiet n k unmet (λ i l. none i (omega (arith, l))))))
+      ∙ rw (last.0, last.1) (quiet n k unmet (λ i l. none i (omega (arith, l)))))
 
 -- ---- a look
 
-module _ (ws : List Watch) (to : ℕ) (old : RecordingState) (reached : IsReached (first_board old) old.session.timed)
+module _ (ws : List Watch) (to : ℕ) {old : RecordingState} (reached : IsReached (first_board old) old.session.timed)
     (at : old ≡ gone_back old (taken old)) (below : taken old < to)
     (running : (i : ℕ) → i < to → halted_of (after (first_state old) i).board ≡ None)
     (room : to ≤ old.session.limit) where
@@ -128,25 +126,25 @@ module _ (ws : List Watch) (to : ℕ) (old : RecordingState) (reached : IsReache
   looked new k found e within last earlier = search (rules, arith, taken_then)
 
   -- a step
-  pub stepped_one : (new : RecordingState) (o : Option Outcome) → TakesStep old.session new.session (Ok o)
+  stepped_one : (new : RecordingState) (o : Option Outcome) → TakesStep old.session new.session (Ok o)
       → new ≡ record old { session = new.session } → new ≡ with_timed old (after old.session.timed 1)
   stepped_one new o t others = search (rules, arith, false≢true, here)
 
-  pub moved_one : (new : RecordingState) → new ≡ with_timed old (after old.session.timed 1) → taken old < taken new
-  moved_one new e = omega (arith, taken_then new 1 (moved new 1 e))
-
   -- one that meets a watch
-  pub met_one : (new : RecordingState) (w : Watch) → Some w ≡ met ws old.session.timed.board
-      → new ≡ with_timed old (after old.session.timed 1) → (m : ℕ) → m ≡ taken old
-      → Looked ws to old new (Some (record { steps = m + 1; watch = Some w }))
-  met_one new w is e m same =
-      looked new 1 (Some (record { steps = m + 1; watch = Some w })) (moved new 1 e) (omega (arith, below))
-      (ap (last_stop ws br first) (add-one n)
-      ∙ (met_step ws br first n w (ap (λ (t : TimedState). met ws t.board) (sym here) ∙ sym is)
-      ∙ ap (λ (k : ℕ). Some (record { steps = k; watch = Some w })) (omega (arith, same)))) (omega (arith, same))
+  pub met_one : {new : RecordingState} {w : Watch} (o : Option Outcome) → TakesStep old.session new.session (Ok o)
+      → new ≡ record old { session = new.session } → Some w ≡ met ws old.session.timed.board → (m : ℕ) → m ≡ taken old
+      → Looked ws to old new (Some (record { steps = m + 1; watch = Some w })) × (taken old < taken new)
+  met_one {new} {w} o t others is m same =
+      let e = stepped_one new o t others in (
+        looked new 1 (Some (record { steps = m + 1; watch = Some w })) (moved new 1 e) (omega (arith, below))
+            (ap (last_stop ws br first) (add-one n)
+            ∙ (met_step ws br first n w (ap (λ (t : TimedState). met ws t.board) (sym here) ∙ sym is)
+            ∙ ap (λ (k : ℕ). Some (record { steps = k; watch = Some w })) (omega (arith, same)))) (omega (arith, same)),
+        omega (arith, taken_then new 1 (moved new 1 e)),
+      )
 
   -- a run up to the next stop
-  module _ (new : RecordingState) (most : ℕ) (end : End) (is : most ≡ to - n)
+  module _ {new : RecordingState} {most : ℕ} {end : End} (is : most ≡ to - n)
       (ran : HasRun (run_ends ws Stop 0 old.session) most old.session new.session end)
       (others : new ≡ record old { session = new.session }) (unmet : met ws old.session.timed.board ≡ None) where
     abbrev ends : ℕ → Option End
@@ -175,7 +173,7 @@ module _ (ws : List Watch) (to : ℕ) (old : RecordingState) (reached : IsReache
         let goes_on = going _ _ _ _ (none_before ends most (suc i) l) in (
           ap (λ (t : TimedState). is_some (met ws t.board)) (sym (later (suc i))) ∙ left_of _ _ goes_on.unmet,
           ap (λ (t : TimedState). set.contains br t.board.machine.pc) (sym (later (suc i)))
-              ∙ later_unbroken _ _ (above i) goes_on.unbroken,
+              ∙ later_unbroken _ _ (above_none i) goes_on.unbroken,
         )
 
     quiet_run : last_stop ws br first (n + count) ≡ by_step ws br first false (breaks ws br first n) n (last_stop ws br first n)
@@ -191,49 +189,50 @@ module _ (ws : List Watch) (to : ℕ) (old : RecordingState) (reached : IsReache
         → last_stop ws br first (n + count) ≡ by_step ws br first false b n (last_stop ws br first n)
     by_break b e = search (rules, arith, quiet_run, here)
 
-    pub broke : true ≡ set.contains br old.session.timed.board.machine.pc → (m : ℕ) → m ≡ taken old
-        → Looked ws to old new (Some (record { steps = m; watch = None }))
-    broke e m same = looked new count (Some (record { steps = m; watch = None })) after_run few_steps
-        (by_break true e ∙ ap (λ (k : ℕ). Some (record { steps = k; watch = None })) (sym same)) (omega (arith, same))
+    further : taken old < taken new
+    further = omega (arith, taken_then new count after_run, some_steps)
 
-    pub passed : false ≡ set.contains br old.session.timed.board.machine.pc → Looked ws to old new None
-    passed e = looked new count None after_run few_steps (by_break false e) tt
-
-    pub went_on : taken old < taken new
-    went_on = omega (arith, taken_then new count after_run, some_steps)
+    pub ran_on : (b : Bool) → b ≡ set.contains br old.session.timed.board.machine.pc → (m : ℕ) → m ≡ taken old
+        → Looked ws to old new (if b then Some (record { steps = m; watch = None }) else None) × (taken old < taken new)
+    ran_on true e m same = (
+      looked new count (Some (record { steps = m; watch = None })) after_run few_steps
+          (by_break true e ∙ ap (λ (k : ℕ). Some (record { steps = k; watch = None })) (sym same))
+          (omega (arith, same)),
+      further,
+    )
+    ran_on false e m same = (looked new count None after_run few_steps (by_break false e) tt, further)
 
 -- ---- looks, one after another
 
-module _ (ws : List Watch) (to : ℕ) (old : RecordingState) where
-  module _ (mid new : RecordingState) (found : Option Back) (l : Looked ws to old mid found) where
-    pub same_mid : Same old mid
-    same_mid = same_back old mid (taken mid) l.state
+module _ {ws : List Watch} {to : ℕ} {old mid : RecordingState} {found : Option Back}
+    (l : Looked ws to old mid found) where
+  pub same_mid : Same old mid
+  same_mid = same_back (taken mid) l.state
 
-    pub stands_mid : mid ≡ gone_back mid (taken mid)
-    stands_mid = l.state ∙ sym (back_same old mid same_mid (taken mid))
+  pub stands_mid : mid ≡ gone_back mid (taken mid)
+  stands_mid = l.state ∙ sym (back_same same_mid (taken mid))
 
-    state_on : (o : Option Back) → Looked ws to mid new o → new ≡ gone_back old (taken new)
-    state_on o h = h.state ∙ back_same old mid same_mid (taken new)
+  module _ {new : RecordingState} {o : Option Back} (h : Looked ws to mid new o) where
+    state_on : new ≡ gone_back old (taken new)
+    state_on = h.state ∙ back_same same_mid (taken new)
 
-    last_on : (o : Option Back) → Looked ws to mid new o
-        → last_stop ws old.session.breakpoints.addresses (first_state old) (taken new)
+    last_on : last_stop ws old.session.breakpoints.addresses (first_state old) (taken new)
         ≡ or_else o (last_stop ws old.session.breakpoints.addresses (first_state old) (taken mid))
-    last_on o h = search (rules, arith, breaks_same, same_mid, first_same)
+    last_on = search (rules, arith, breaks_same, same_mid, first_same)
 
-    pub looks_some : (b : Back) → Looked ws to mid new (Some b) → Looked ws to old new (Some b)
-    looks_some b h = search (rules, arith, state_on, last_on)
+  pub looks_some : {new : RecordingState} {b : Back} → Looked ws to mid new (Some b) → Looked ws to old new (Some b)
+  looks_some h = search (rules, arith, state_on, last_on)
 
-    earlier_on : taken mid < taken new → (o : Option Back) → IfSome o (λ b. b.steps ≤ taken mid)
-        → IfSome o (λ b. b.steps ≤ taken new)
-    earlier_on less o h = search (rules, arith)
-
-    pub looks_on : taken mid < taken new → Looked ws to mid new None → Looked ws to old new found
-    looks_on less h = record {
-      state = state_on None h;
-      within = h.within;
-      last = last_on None h ∙ l.last;
-      earlier = earlier_on less found l.earlier;
-    }
+  pub looks_on : {new : RecordingState} → taken mid < taken new → Looked ws to mid new None → Looked ws to old new found
+  looks_on {new} less h = record {
+    state = state_on h;
+    within = h.within;
+    last = last_on h ∙ l.last;
+    earlier = by found l.earlier;
+  }
+    where
+      by : (o : Option Back) → IfSome o (λ b. b.steps ≤ taken mid) → IfSome o (λ b. b.steps ≤ taken new)
+      by o e = search (rules, arith)
 
 -- ---- a run back
 
@@ -245,51 +244,50 @@ pub record Backed (ws : List Watch) (old now : RecordingState) (high : ℕ) : Ty
   pub last : last_stop ws old.session.breakpoints.addresses (first_state old) (taken old)
       ≡ last_stop ws old.session.breakpoints.addresses (first_state old) high
 
-module _ (ws : List Watch) (old : RecordingState) where
-  module _ (now low_at new : RecordingState) (high low : ℕ) (found : Option Back) (b : Backed ws old now high)
-      (less : low ≤ high) (went : low_at ≡ gone_back now (min low (taken now))) where
+module _ {ws : List Watch} {old now : RecordingState} {high : ℕ} (b : Backed ws old now high) where
+  module _ {low_at : RecordingState} (low : ℕ) (less : low ≤ high)
+      (went : low_at ≡ gone_back now (min low (taken now))) where
     least : min low (taken now) ≡ low
     least = omega (arith, less, b.within)
 
     at_low : low_at ≡ gone_back old low
-    at_low = went ∙ (ap (gone_back now) least ∙ back_same old now b.same low)
+    at_low = went ∙ (ap (gone_back now) least ∙ back_same b.same low)
 
     taken_low : taken low_at ≡ low
     taken_low = ap taken at_low ∙ taken_at old low
 
     pub same_low : Same old low_at
-    same_low = same_back old low_at low at_low
+    same_low = same_back low at_low
 
     pub stands_low : low_at ≡ gone_back low_at (taken low_at)
-    stands_low = search (rules, arith, at_low, taken_low, same_low)
+    stands_low = search (rules, arith, at_low, taken_low, back_same, same_low)
 
     pub below_high : taken low_at ≤ high
     below_high = omega (arith, taken_low, less)
 
-    module _ (l : Looked ws high low_at new found) (all : taken new ≡ high) where
+    module _ {new : RecordingState} {found : Option Back} (l : Looked ws high low_at new found)
+        (all : taken new ≡ high) where
       same_new : Same old new
-      same_new = same_back old new (taken new) (l.state ∙ back_same old low_at same_low (taken new))
+      same_new = same_back (taken new) (l.state ∙ back_same same_low (taken new))
 
       last_high : last_stop ws old.session.breakpoints.addresses (first_state old) high
           ≡ or_else found (last_stop ws old.session.breakpoints.addresses (first_state old) low)
-      last_high = search (rules, arith, here, breaks_same, same_low, first_same, taken_low)
+      last_high = search (rules, arith, breaks_same, same_low, first_same, taken_low)
 
       pub backs_on : found ≡ None → Backed ws old new low
       backs_on none = search (rules, arith, same_new, last_high)
 
-      pub found_is : (stop : Back) → found ≡ Some stop
+      pub found_is : {stop : Back} → found ≡ Some stop
           → Some stop ≡ last_stop ws old.session.breakpoints.addresses (first_state old) (taken old)
-      found_is stop e = search (rules, arith, last_high)
+      found_is e = search (rules, arith, last_high)
 
-      pub goes_to : (stop : Back) (last : RecordingState) → found ≡ Some stop
+      pub goes_to : {last : RecordingState} (stop : Back) → found ≡ Some stop
           → last ≡ gone_back new (min stop.steps (taken new)) → last ≡ gone_back old (left_by (Some stop))
-      goes_to stop last e went = search (rules, arith, back_same, same_new)
+      goes_to stop e back = search (rules, arith, back_same, same_new)
 
-  pub backs_none : (now : RecordingState) (high : ℕ) → Backed ws old now high → high ≡ 0
-      → None ≡ last_stop ws old.session.breakpoints.addresses (first_state old) (taken old)
+  pub backs_none : high ≡ 0 → None ≡ last_stop ws old.session.breakpoints.addresses (first_state old) (taken old)
   unfolding last_stop
-  backs_none now high b e = search (rules, arith)
+  backs_none e = search (rules, arith)
 
-  pub goes_first : (now new : RecordingState) (high : ℕ) → Backed ws old now high
-      → new ≡ gone_back now (min 0 (taken now)) → new ≡ gone_back old 0
-  goes_first now new high b e = search (rules, arith, least, back_same)
+  pub goes_first : {new : RecordingState} → new ≡ gone_back now (min 0 (taken now)) → new ≡ gone_back old 0
+  goes_first e = search (rules, arith, least, back_same)

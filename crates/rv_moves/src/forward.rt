@@ -79,6 +79,7 @@ fn end_here(
 }
 
 /// Takes a step, outside of handlers, and counts the handler that it opens.
+#[tactic(auto, unfolding(crate::specs::Runs::step_open))]
 fn step_outside(recording: &mut Recording, calls: &mut u64) -> Result<(), NoMemory>
     requires may { may_step recording.old.session ≡ true }
     requires none { calls.old ≡ 0 }
@@ -128,8 +129,6 @@ pub fn run(
         (steps_between recording.old.session.timed recording.new.session.timed)) }
     ensures others { recording.new ≡ record recording.old { session = recording.new.session } }
 {
-    // It tells that the inputs of all steps so far were given.
-    let _board = recording.session().board();
     if let Some(end) = end_here(watches, aim, *calls, false, recording.session()) {
         return Ok(end);
     }

@@ -2,22 +2,15 @@ use Rattle.rv_moves.proofs.Looking.{looks_on, looks_some, running_same, same_mid
 use Rattle.rv_moves.proofs.back.look_on.Goals as goal
 
 pub look-requires-clause-at : goal.look-requires-clause-at
-look-requires-clause-at c =
-    stands_mid c.args.watches.now c.args.to c.args.recording.now c.loop-recording.recording c.loop-recording.recording c.loop-recording.found
-    c.loop-recording.invariant
+look-requires-clause-at c = stands_mid c.loop-recording.invariant
 
 pub look-requires-clause-running : goal.look-requires-clause-running
-look-requires-clause-running c = running_same c.args.recording.now c.loop-recording.recording
-    (same_mid c.args.watches.now c.args.to c.args.recording.now c.loop-recording.recording c.loop-recording.recording c.loop-recording.found
-    c.loop-recording.invariant) c.args.to c.requires.running
+look-requires-clause-running c = running_same (same_mid c.loop-recording.invariant) c.args.to c.requires.running
 
 pub loop-recording-preserved-in-Some : goal.loop-recording-preserved-in-Some
 loop-recording-preserved-in-Some c =
-    looks_some c.args.watches.now c.args.to c.args.recording.now c.loop-recording.recording c.look.new.recording
-    c.loop-recording.found c.loop-recording.invariant c.in-Some.stop (rw c.in-Some.is at c.in_ok-stop.ensures.looked)
+    looks_some c.loop-recording.invariant (rw c.in-Some.is at c.in_ok-stop.ensures.looked)
 
 pub loop-recording-preserved : goal.loop-recording-preserved
 loop-recording-preserved c =
-    looks_on c.args.watches.now c.args.to c.args.recording.now c.loop-recording.recording c.look.new.recording
-    c.loop-recording.found c.loop-recording.invariant c.in_ok-stop.ensures.more
-    (rw c.in_default.is at c.in_ok-stop.ensures.looked)
+    looks_on c.loop-recording.invariant c.in_ok-stop.ensures.more (rw c.in_default.is at c.in_ok-stop.ensures.looked)
