@@ -2,7 +2,7 @@
 ghost use Rattle.std.specs.Prelude.{◌≡◌, ◌+◌, ◌<◌, ◌≤◌, length, IfOk};
 ghost use Rattle.rv_asm.specs.Seen.{seen};
 ghost use Rattle.rv_convention.specs.Profile as spec;
-ghost use Rattle.rv_convention.specs.Support.Tallies.{begun, counted, none_counted, steps_of, tally_after};
+ghost use Rattle.rv_convention.specs.Support.Tallies.{changed, entered, none_counted, stepped, steps_of, tally_after};
 
 use crate::follow::Follower;
 use crate::turn::Turn;
@@ -44,11 +44,11 @@ impl<'a> Model for Tally<'a> {
 }
 
 /// Counts a step in the line of the address at which it began.
-#[tactic(auto, using(crate::proofs::Tallies::counted_none, crate::proofs::Tallies::sum_raised, crate::proofs::Tallies::below_sum))]
+#[tactic(auto, using(crate::proofs::Tallies::changed_none, crate::proofs::Tallies::sum_raised, crate::proofs::Tallies::below_sum))]
 fn count(listing: Listing<'_>, lines: &mut Vec<Tallied>, address: u32)
     requires each { length lines.old.items + 1 ≡ length (seen listing).addresses }
     requires room { steps_of lines.old.items + 1 < 18446744073709551616 }
-    ensures counted { lines.new.items ≡ counted (seen listing.entry) address lines.old.items }
+    ensures counted { lines.new.items ≡ changed (seen listing.entry) address stepped lines.old.items }
     ensures sum { steps_of lines.new.items ≤ steps_of lines.old.items + 1 }
     ensures length { length lines.new.items ≡ length lines.old.items }
 {
@@ -63,10 +63,10 @@ fn count(listing: Listing<'_>, lines: &mut Vec<Tallied>, address: u32)
 }
 
 /// Notes that a function begins in the line of an address.
-#[tactic(auto, using(crate::proofs::Tallies::begun_none, crate::proofs::Tallies::sum_kept))]
+#[tactic(auto, using(crate::proofs::Tallies::changed_none, crate::proofs::Tallies::sum_kept))]
 fn begin(listing: Listing<'_>, lines: &mut Vec<Tallied>, address: u32)
     requires each { length lines.old.items + 1 ≡ length (seen listing).addresses }
-    ensures begun { lines.new.items ≡ begun (seen listing.entry) address lines.old.items }
+    ensures begun { lines.new.items ≡ changed (seen listing.entry) address entered lines.old.items }
     ensures sum { steps_of lines.new.items ≡ steps_of lines.old.items }
     ensures length { length lines.new.items ≡ length lines.old.items }
 {

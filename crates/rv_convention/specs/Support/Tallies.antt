@@ -1,7 +1,6 @@
 -- Not to audit: private contracts alone cite this.
 -- What is counted of a run, step by step.
-use Rattle.std.specs.Prelude.{ℕ, ◌+◌, ◌-◌, ◌||◌, Bool, false, List, get_or, if◌then◌else◌, is_some, length, map, not, replicate, sum_by, take_while, Option, Some, None}
-use Rattle.std.specs.List.{range_with_len}
+use Rattle.std.specs.Prelude.{ℕ, suc, ◌+◌, ◌-◌, ◌||◌, Bool, true, false, List, [], ◌∷◌, if◌then◌else◌, is_some, length, not, replicate, sum_by, take_while, Option, Some, None}
 use Rattle.rv_asm.specs.Lines.{Listed}
 use Rattle.rv_board.specs.BoardState.{BoardState}
 use Rattle.rv_answers.specs.declared.profile.Spent.{Spent}
@@ -18,23 +17,24 @@ pub record TallyState : Type 0 where
 abbrev pub nothing : Tallied
 nothing = record { steps = 0; begins = false }
 
--- line n with a step that began at an address
-abbrev pub counted_in : Listed → (a n : ℕ) → Tallied → Tallied
-counted_in l a n t = record t { steps = t.steps + (if is_in l n a then 1 else 0) }
+-- a line in which one step more began, and one in which a function begins
+abbrev pub stepped : Tallied → Tallied
+stepped t = record t { steps = t.steps + 1 }
 
--- line n where a function begins at an address
-abbrev pub begun_in : Listed → (a n : ℕ) → Tallied → Tallied
-begun_in l a n t = record t { begins = t.begins || is_in l n a }
+abbrev pub entered : Tallied → Tallied
+entered t = record t { begins = true }
 
--- all lines, each changed by its number
-abbrev pub each : (ℕ → Tallied → Tallied) → List Tallied → List Tallied
-each change ts = map (λ k. change (k + 1) (get_or ts k nothing)) (range_with_len 0 (length ts))
+-- lines from the nth on, each changed by its number
+abbrev pub each : (ℕ → Tallied → Tallied) → (n : ℕ) → List Tallied → List Tallied
+each change n [] = []
+each change n (t ∷ ts) = change n t ∷ each change (suc n) ts
 
-unfoldable pub counted : Listed → (a : ℕ) → List Tallied → List Tallied
-counted l a ts = each (counted_in l a) ts
+-- line n, changed if it has the byte at an address
+abbrev pub changed_in : Listed → (a : ℕ) → (Tallied → Tallied) → (n : ℕ) → Tallied → Tallied
+changed_in l a change n t = if is_in l n a then change t else t
 
-unfoldable pub begun : Listed → (a : ℕ) → List Tallied → List Tallied
-begun l a ts = each (begun_in l a) ts
+unfoldable pub changed : Listed → (a : ℕ) → (Tallied → Tallied) → List Tallied → List Tallied
+changed l a change ts = each (changed_in l a change) 1 ts
 
 abbrev pub steps_of : List Tallied → ℕ
 steps_of ts = sum_by (λ (t : Tallied). t.steps) ts
@@ -47,7 +47,7 @@ before_next ts = steps_of (take_while (λ (t : Tallied). not t.begins) ts)
 abbrev pub none_counted : Listed → (a : ℕ) → TallyState
 none_counted l a = record {
   listing = l;
-  lines = begun l a (replicate (length l.addresses - 1) nothing);
+  lines = changed l a entered (replicate (length l.addresses - 1) nothing);
   steps = 0;
   has_halted = false;
 }
@@ -56,8 +56,8 @@ unfoldable pub tally_after : TallyState → (address : ℕ) → Turn → (now : 
 tally_after t address turn now = record {
   listing = t.listing;
   lines =
-      let lines = counted t.listing address t.lines in
-      if is_entry turn then begun t.listing now.machine.pc lines else lines;
+      let lines = changed t.listing address stepped t.lines in
+      if is_entry turn then changed t.listing now.machine.pc entered lines else lines;
   steps = t.steps + 1;
   has_halted = t.has_halted || is_some now.machine.bus.halt;
 }
