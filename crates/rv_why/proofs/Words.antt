@@ -49,20 +49,11 @@ module _ (s : Mstatus) where
     mprv_by : (b : Bool) → flag w 17 ≡ b → s.mprv ≡ b
     mprv_by b e = sym mprv_bit ∙ (ap (λ (n : ℕ). flag n 17) (sym is) ∙ e)
 
-    mpp_by : (b : Bool) → flag w 11 ≡ b → is_machine s.mpp ≡ b
-    mpp_by b e = sym mpp_bit ∙ (ap (λ (n : ℕ). flag n 11) (sym is) ∙ e)
-
-    machine_by : (m : Mode) → is_machine m ≡ true → Machine ≡ m
-    machine_by m e = search (rules, arith, nat_tests)
-
-    user_by : (m : Mode) → is_machine m ≡ false → User ≡ m
-    user_by m e = search (rules, arith, nat_tests)
-
     pub own_mode : flag w 17 ≡ false → mode ≡ mode_of s.mprv s.mpp
     own_mode e = sym (ap (λ (b : Bool). mode_of b s.mpp) (mprv_by false e))
 
     pub machine_mode : flag w 17 ≡ true → flag w 11 ≡ true → Machine ≡ mode_of s.mprv s.mpp
-    machine_mode e f = search (rules, arith, nat_tests, machine_by, mpp_by, mprv_by)
+    machine_mode e f = search (rules, arith, nat_tests, mprv_bit, mpp_bit)
 
     pub user_mode : flag w 17 ≡ true → flag w 11 ≡ false → User ≡ mode_of s.mprv s.mpp
-    user_mode e f = search (rules, arith, nat_tests, user_by, mpp_by, mprv_by)
+    user_mode e f = grind (arith, mprv_bit, mpp_bit)
