@@ -1,11 +1,12 @@
--- The words of the interrupt controller's registers, by their offsets.
-use Rattle.std.proofs.Common.{◌≡◌, ◌∙◌, ℕ, zero, suc, ◌+◌, ◌-◌, ◌*◌, ◌/◌, ◌<◌, ◌≤◌, List, [], ◌∷◌, ◌++◌, map, refl, sym, ap, arith}
+-- The words of the interrupt controller's registers, by their offsets, and what a function gives of some numbers.
+use Rattle.std.proofs.Common.{rules, ◌≡◌, ℕ, ◌+◌, ◌-◌, ◌*◌, ◌<◌, ◌≤◌, List, [], ◌∷◌, ◌++◌, map, refl, arith}
 use Rattle.std.specs.List.{range_with_len}
-use Rattle.std.proofs.lemmas.Bool.{le-leb, lt-ltb}
+use Rattle.std.proofs.lemmas.Bool.Decides.{nat_tests}
+use Rattle.std.proofs.lemmas.List.FromFn.{map-range_with_len_more}
 use Rattle.rv_plic.specs.Gateways.{PlicState}
 use Rattle.rv_plic.specs.Plic.{plic_register, priority_of}
 use Rattle.rv_plic.specs.Support.Registers.{reg_at}
-use Rattle.rv_plic.specs.Sources.{sources, word_of}
+use Rattle.rv_plic.specs.Sources.{word_of}
 use Rattle.rv_plic.proofs.Rows.{loads}
 
 pub pending_word : (p : PlicState) → (plic_register 0x1000).word p ≡ word_of p.pending
@@ -22,35 +23,22 @@ threshold_word p = loads p 0x200000 refl
 
 pub priority_word : (p : PlicState) (s : ℕ) → 0 < s → s < 32 → (plic_register (4 * s)).word p ≡ priority_of p s
 unfolding reg_at
-priority_word p s low high =
-    let same : 4 * s / 4 ≡ s = omega arith in
-    loads p (4 * s) (omega arith)
-    ∙ rw (le-leb 4 (4 * s) (omega (arith, low)), lt-ltb (4 * s) 128 (omega (arith, high)), same) refl
+priority_word p s low high = search (rules, arith, nat_tests, loads)
 
--- what a function gives of some numbers and one more
-pub map_last : {A : Type 0} (f : ℕ → A) (a n : ℕ)
-    → map f (range_with_len a (suc n)) ≡ map f (range_with_len a n) ++ f (a + n) ∷ []
-map_last f a zero = let same : a ≡ a + 0 = omega arith in ap (λ k. f k ∷ []) same
-map_last f a (suc n) =
-    let same : a + 1 + n ≡ a + suc n = omega arith in
-    ap (λ xs. f a ∷ xs) (map_last f (a + 1) n ∙ ap (λ k. map f (range_with_len (a + 1) n) ++ f k ∷ []) same)
+-- ---- what a function gives of some numbers
 
--- ---- all sources
+module _ {A : Type 0} (f : ℕ → A) (a : ℕ) where
+  pub no_items : [] ≡ map f (range_with_len a 0)
+  no_items = refl
 
-pub no_sources : {A : Type 0} (f : ℕ → A) → [] ≡ map f (range_with_len 1 0)
-no_sources f = refl
+  pub next_item : (n m k : ℕ) (v : A) (xs ys : List A) → m ≡ n + 1 → k ≡ a + n → v ≡ f k
+      → xs ≡ map f (range_with_len a n) → ys ≡ xs ++ v ∷ [] → ys ≡ map f (range_with_len a m)
+  next_item n m k v xs ys more is e h g = search (rules, arith, map-range_with_len_more)
+
+  pub all_items : (n count : ℕ) (xs : List A) → count ≤ n → n ≤ count → xs ≡ map f (range_with_len a n)
+      → xs ≡ map f (range_with_len a count)
+  all_items n count xs low high e = search (rules, arith)
 
 pub next_source : {A : Type 0} (f : ℕ → A) (n s : ℕ) (xs ys : List A) → s ≡ n → 0 < n
-    → xs ≡ map f (range_with_len 1 (n - 1)) → ys ≡ xs ++ f s ∷ []
-    → ys ≡ map f (range_with_len 1 (n + 1 - 1))
-next_source f n s xs ys is low e h =
-    let same : 1 + (n - 1) ≡ s = omega (arith, is, low) in
-    let more : suc (n - 1) ≡ n + 1 - 1 = omega (arith, low) in
-    h ∙ (ap (λ zs. zs ++ f s ∷ []) e ∙ (ap (λ k. map f (range_with_len 1 (n - 1)) ++ f k ∷ []) (sym same)
-    ∙ (sym (map_last f 1 (n - 1)) ∙ ap (λ k. map f (range_with_len 1 k)) more)))
-
-pub all_sources : {A : Type 0} (f : ℕ → A) (n : ℕ) (xs : List A) → 32 ≤ n → n ≤ 32
-    → xs ≡ map f (range_with_len 1 (n - 1)) → xs ≡ map f sources
-unfolding sources
-all_sources f n xs low high e =
-    let all : n - 1 ≡ 31 = omega (arith, low, high) in e ∙ ap (λ k. map f (range_with_len 1 k)) all
+    → xs ≡ map f (range_with_len 1 (n - 1)) → ys ≡ xs ++ f s ∷ [] → ys ≡ map f (range_with_len 1 (n + 1 - 1))
+next_source f n s xs ys is low e h = next_item f 1 (n - 1) _ s _ xs ys (omega arith) (omega arith) refl e h

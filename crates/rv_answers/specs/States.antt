@@ -81,8 +81,6 @@ region_of pmp n = record {
 }
 
 -- the entries that are on, of all 16
-unfoldable pub entries_on : PmpState → List ℕ
-entries_on pmp = filter (λ n. not (matching_code (entry_at pmp n).matching == 0)) (range_with_len 0 16)
-
 unfoldable pub regions : PmpState → List Region
-regions pmp = map (region_of pmp) (entries_on pmp)
+regions pmp =
+    map (region_of pmp) (filter (λ n. not (matching_code (entry_at pmp n).matching == 0)) (range_with_len 0 16))

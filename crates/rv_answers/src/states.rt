@@ -90,7 +90,7 @@ fn source_of(source: Source, plic: &Plic) -> SourceState
 }
 
 /// Returns all sources of the interrupt controller.
-#[tactic(auto, using(crate::proofs::Sources::no_sources, crate::proofs::Sources::next_source))]
+#[tactic(auto, using(crate::proofs::Sources::no_items, crate::proofs::Sources::next_source))]
 pub fn sources_of(alloc: Global, plic: &Plic) -> Result<Many<SourceState>, NoMemory>
     ensures { IfOk result (λ s. s ≡ map (spec.source_of plic.now) sources) }
 {
@@ -155,7 +155,7 @@ fn is_on(entry: Entry) -> bool
 }
 
 /// Returns the entries that are on.
-#[tactic(auto, using(crate::proofs::Regions::no_region_yet, crate::proofs::Regions::next_region, crate::proofs::Regions::off_region))]
+#[tactic(auto, using(crate::proofs::Regions::none_yet, crate::proofs::Regions::next_found, crate::proofs::Regions::none_found))]
 pub fn regions_of(alloc: Global, pmp: &Pmp) -> Result<Many<Region>, NoMemory>
     ensures { IfOk result (λ r. r ≡ regions pmp.now) }
 {

@@ -1,52 +1,42 @@
 -- The faults of a source, which are those of its listing, and of an opening are those of the lab.
-use Rattle.std.proofs.Common.{rules, arith, ◌≡◌, ℕ, List, Result, Ok, Err, refl}
+use Rattle.std.proofs.Common.{rules, arith, ◌≡◌, ◌==◌, ℕ, List, Result, Ok, Err}
+use Rattle.std.specs.Prelude.{MatchBool}
 use Rattle.rv_asm.specs.Assembly.{assembled}
 use Rattle.rv_asm.specs.Lines.{Listed, listed}
-use Rattle.rv_asm.specs.Listing.{◌>>=◌}
-use Rattle.rv_monitor.specs.Opening.{Opens}
-use Rattle.rv_monitor.specs.State.{SessionState}
-use Rattle.rv_monitor.specs.declared.opening.OpenFault.{OpenFault}
-use Rattle.rv_program.specs.Support.Kept.{Fails, FailsBy}
+use Rattle.rv_program.specs.Faults.{title_of, Gives}
 use Rattle.rv_program.specs.Program.{Assembly}
 use Rattle.rv_program.specs.declared.fault.AsmFault.{AsmFault}
 use Rattle.rv_program.specs.declared.fault.FaultKind.{FaultKind}
+use Rattle.rv_monitor.specs.Opening.{Opens}
+use Rattle.rv_monitor.specs.State.{SessionState}
+use Rattle.rv_monitor.specs.declared.opening.OpenFault.{OpenFault}
 use Rattle.rv_lab.specs.Faults.{source_fault, unopened_fault}
 use Rattle.rv_lab.specs.Opening.{OpensBy, OpensLab}
 
 -- ---- the program of a listing, or its fault, is that of its source
 
-bound_fault : (made : Result Assembly AsmFault) (more : Assembly → Listed) (fault : AsmFault)
-    → (made >>= λ a. Ok (more a)) ≡ Err fault → made ≡ Err fault
-bound_fault made more fault is = search (rules, arith)
-
 is_assembled : (source : List ℕ) (fault : AsmFault) → listed source ≡ Err fault → assembled source ≡ Err fault
 unfolding listed
-is_assembled source fault is = bound_fault (assembled source) _ fault is
-
-bound_made : (made : Result Assembly AsmFault) (more : Assembly → Listed) (l : Listed)
-    → ((a : Assembly) → (more a).assembly ≡ a) → (made >>= λ a. Ok (more a)) ≡ Ok l → made ≡ Ok l.assembly
-bound_made made more l same is = search (rules, arith)
+is_assembled source fault is = search (rules, arith)
 
 pub made_of : (source : List ℕ) (l : Listed) → listed source ≡ Ok l → assembled source ≡ Ok l.assembly
 unfolding listed
-made_of source l is = bound_made (assembled source) _ l (λ a. refl) is
+made_of source l is = search (rules, arith)
 
-fails_by : (kind : FaultKind) (source : List ℕ) (fault : AsmFault) → FailsBy kind fault (listed source)
-    → FailsBy kind fault (assembled source)
-fails_by kind source fault h = search (rules, arith, is_assembled)
-
-pub fails : (source : List ℕ) (fault : AsmFault) → Fails fault (listed source) → Fails fault (assembled source)
-fails source fault h = fails_by fault.kind source fault h
+pub fails : (source : List ℕ) (fault : AsmFault) → Gives (λ l. l) (Err fault) (listed source)
+    → Gives (λ p. p) (Err fault) (assembled source)
+fails source fault h = search (rules, arith, is_assembled)
 
 -- ---- the lab
 
 module _ (source inputs : List ℕ) (pages slots : ℕ) where
-  refused_by : (kind : FaultKind) (why : AsmFault) → FailsBy kind why (assembled source)
+  refused_by : (kind : FaultKind) (why : AsmFault)
+      → MatchBool ((title_of kind).0 == 12) (why.line ≡ 0) (assembled source ≡ Err why)
       → OpensLab source inputs pages slots (Err (source_fault kind why))
   refused_by kind why h = search (rules, arith)
 
   -- a source that is not assembled
-  pub source_refused : (why : AsmFault) → Fails why (assembled source)
+  pub source_refused : (why : AsmFault) → Gives (λ p. p) (Err why) (assembled source)
       → OpensLab source inputs pages slots (Err (source_fault why.kind why))
   source_refused why h = refused_by why.kind why h
 

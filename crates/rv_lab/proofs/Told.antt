@@ -1,13 +1,14 @@
 -- What commands answered.
-use Rattle.std.proofs.Common.{rules, ◌≡◌, ◌∙◌, ℕ, zero, suc, ◌-◌, ◌<◌, Bool, true, false, List, [], ◌∷◌, ◌++◌, refl, sym, ap, append-nil, append_assoc, arith}
-use Rattle.std.specs.Prelude.{Option, Some, None, ◌&&◌, is_some, IfOk, OnOk, OnErr, Result, Ok, Err, if◌then◌else◌}
-use Rattle.std.specs.Option.{option_map_or}
+use Rattle.std.proofs.Common.{rules, ◌≡◌, ◌∙◌, ℕ, zero, suc, ◌-◌, ◌<◌, Bool, false, List, [], ◌∷◌, ◌++◌, refl, sym, ap, append_assoc, arith}
+use Rattle.std.specs.Prelude.{Option, Some, None, ◌&&◌, is_some, IfOk, OnOk, OnErr, Result, Ok, if◌then◌else◌}
 use Rattle.rv_base.specs.declared.memory.NoMemory.{NoMemory}
 use Rattle.rv_hart.specs.declared.trap.Outcome.{Outcome}
 use Rattle.rv_hart.specs.Step.{step}
-use Rattle.rv_monitor.specs.State.{SessionState, after}
-use Rattle.rv_monitor.specs.Stops.{TakesStep, may_step, steps_between}
-use Rattle.rv_recording.specs.Recording.{RecordingState, with_timed}
+use Rattle.rv_monitor.specs.State.{after}
+use Rattle.rv_monitor.specs.Stops.{TakesStep, steps_between}
+use Rattle.rv_monitor.specs.Commands.{command_in}
+use Rattle.rv_monitor.specs.Commands as monitor
+use Rattle.rv_recording.specs.Recording.{RecordingState}
 use Rattle.rv_recording.specs.declared.until.End.{End}
 use Rattle.rv_answers.specs.declared.answer.Answer.{Answer}
 use Rattle.rv_answers.specs.declared.answer.Answer.TheVariants as answers
@@ -19,23 +20,20 @@ use Rattle.rv_answers.specs.declared.values.Place.{Place}
 use Rattle.rv_answers.specs.declared.values.RegisterValue.{RegisterValue}
 use Rattle.rv_answers.specs.declared.values.Standing.{Standing}
 use Rattle.rv_answers.specs.declared.values.Trap.{Trap}
-use Rattle.rv_monitor.specs.Commands as monitor
-use Rattle.rv_monitor.specs.Commands.{command_in}
+use Rattle.rv_runs.specs.Plans.{tells_last}
+use Rattle.rv_runs.specs.declared.goal.Goal.{Goal}
+use Rattle.rv_runs.specs.declared.goal.Goal.TheVariants as goal
+use Rattle.rv_runs.specs.declared.plan.Plan.{Plan}
+use Rattle.rv_runs.proofs.Later.{taken_after}
+use Rattle.rv_runs.proofs.Parts.{on_err}
 use Rattle.rv_lab.specs.Answers.{place_of, standing}
 use Rattle.rv_lab.specs.Commands.{begun, gone_on, guards_by, monitored_run, piece_most, piece_steps, planned, stepped, with_piece, with_steps}
-use Rattle.rv_runs.specs.Plans.{tells_last}
 use Rattle.rv_lab.specs.Refusals.{StopsShort, nowhere}
 use Rattle.rv_lab.specs.Runs.{aim_of, changes, end_of, ending_of, monitor_answer, next_step, next_steps, over_answer, run_answer, step_answer, step_value, trap_in, watch_changes}
 use Rattle.rv_lab.specs.State.{LabState, board, registers_of, sent, timed}
 use Rattle.rv_lab.specs.Support.Short.{GoesOnWith, IsOnWay, Traced, call_answer, told_steps}
 use Rattle.rv_lab.specs.declared.lab.Done.{Done}
-use Rattle.rv_runs.specs.declared.goal.Goal.{Goal}
-use Rattle.rv_runs.specs.declared.goal.Goal.TheVariants as goal
-use Rattle.rv_runs.specs.declared.plan.Plan.{Plan}
-use Rattle.rv_lab.proofs.Runs.{told_call, traced_last}
-use Rattle.rv_lab.proofs.Short.{to_steps}
-use Rattle.rv_runs.proofs.Later.{taken_after}
-use Rattle.rv_runs.proofs.Parts.{on_err}
+use Rattle.rv_lab.proofs.Runs.{told_call, traced_last, to_steps}
 
 -- ---- runs
 
@@ -84,19 +82,10 @@ same_steps zero l rs b t c p g = refl
 same_steps (suc n) l rs b t c p g =
     search (rules, arith, same_value, (same_steps n (with_steps 1 l) rs b t c p g))
 
-counted_step : (old counted mid : LabState) → counted ≡ record old { count = 1 } → mid ≡ begun counted
-    → next_step mid ≡ next_step old
-counted_step old counted mid one e = ap next_step (e ∙ ap begun one) ∙ same_step old _ _ _ 1 old.plan goal.Break
-
-step_said : (o p : Option Step) (st : Standing) → o ≡ p
-    → option_map_or (λ (x : Step). answers.Stepped (record { step = x; standing = st })) o (answers.Stuck st)
-    ≡ option_map_or (λ (x : Step). answers.Stepped (record { step = x; standing = st })) p (answers.Stuck st)
-step_said o p st e = search (rules, arith)
-
 pub did_step : (old counted mid new : LabState) (s : Option Step) (v : Step) (st : Standing)
     → counted ≡ record old { count = 1 } → mid ≡ begun counted → s ≡ next_step mid → s ≡ Some v → st ≡ standing new
     → answers.Stepped (record { step = v; standing = st }) ≡ step_answer old new
-did_step old counted mid new s v st one e is some stands = search (rules, arith, step_said, counted_step)
+did_step old counted mid new s v st one e is some stands = search (rules, arith, same_step)
 
 pub no_step : (old counted mid new : LabState) (s : Option Step) (st : Standing) → counted ≡ record old { count = 1 }
     → mid ≡ begun counted → s ≡ next_step mid → s ≡ None → st ≡ standing new → answers.Stuck st ≡ step_answer old new
@@ -121,39 +110,24 @@ pub took_one : (old inside : LabState) (q : RecordingState) (r : Option Outcome)
       changed = changes before (registers_of q.session.timed.board);
     } → Some v ≡ next_step old
 unfolding step_value
-took_one old inside q r o same did took others v place before at from is =
-    let took_it = rw (did, same) at took in
-    let now : q ≡ with_timed old.recording (after (timed old) 1) =
-    rw same at others ∙ ap (λ (s : SessionState). record old.recording { session = s }) took_it.1 in
-    rw (took_it.0, is, same, now, took_it.2, at, from)
+took_one old inside q r o same did took others v place before at from is = search (rules, arith)
 
 -- a step that was taken is on the way to itself
 pub took_wholly : (inside old new : RecordingState) (r : Option Outcome) (o : Outcome) → inside ≡ old → r ≡ Some o
     → TakesStep inside.session new.session (Ok r) → new ≡ record inside { session = new.session }
     → IsOnWay old new (stepped old)
-took_wholly inside old new r o same did took others =
-    let took_it = rw did at took in
-    let now = others ∙ ap (λ (s : SessionState). record inside { session = s }) took_it.1 in
-    rw (← same, took_it.0, now) (to_steps inside.session.timed 1, nowhere, refl)
+took_wholly inside old new r o same did took others = search (rules, arith, to_steps, nowhere)
 
 -- a step that was taken leaves a lab on the way to itself
 pub wholly : (old new : LabState) → new ≡ record old { recording = stepped old.recording }
     → IsOnWay old.recording new.recording (stepped old.recording)
-wholly old new e = rw (ap (λ (l : LabState). l.recording) e) (by_may (may_step old.recording.session)) where
-  by_may : (b : Bool) → IsOnWay old.recording
-      (if b then with_timed old.recording (after (timed old) 1) else old.recording)
-      (if b then with_timed old.recording (after (timed old) 1) else old.recording)
-  by_may true = (to_steps (timed old) 1, nowhere, refl)
-  by_may false = (nowhere, nowhere, refl)
+wholly old new e = search (rules, arith, to_steps, nowhere)
 
 -- ---- a trace
 
-may_by : (b : Bool) (v w : Step) → Some v ≡ (if b then Some w else None) → (b ≡ true) × (v ≡ w)
-may_by b v w e = search (rules, arith)
-
 pub no_steps : (n : ℕ) (l : LabState) (xs : List Step) → n ≡ 0 → xs ≡ xs ++ next_steps n l
 unfolding next_steps
-no_steps n l xs e = rw e (sym (append-nil xs))
+no_steps n l xs e = search (rules, arith)
 
 pub last_steps : (n : ℕ) (l : LabState) (xs : List Step) → None ≡ next_step l → xs ≡ xs ++ next_steps n l
 unfolding next_steps
@@ -167,11 +141,8 @@ pub more_steps : {A E : Type 0} (r : Result A E) (n : ℕ) (old mid : LabState) 
     → mid ≡ record old { recording = stepped old.recording } → Some v ≡ next_step old → ys ≡ xs ++ v ∷ []
     → OnOk r (zs ≡ ys ++ next_steps (n - 1) mid) → OnOk r (zs ≡ xs ++ next_steps n old)
 unfolding next_steps
-more_steps (Err why) n old mid v xs ys zs h e some g f = tt
-more_steps (Ok x) zero old mid v xs ys zs h e some g f = absurd (omega (arith, h))
-more_steps (Ok x) (suc n) old mid v xs ys zs h e some g f =
-    let may = may_by (may_step old.recording.session) v (step_value old) some in
-    let less : suc n - 1 ≡ n = omega arith in rw (f, g, e, may.0, less, append_assoc, may.1)
+more_steps r zero old mid v xs ys zs h e some g f = search (rules, arith)
+more_steps r (suc n) old mid v xs ys zs h e some g f = search (rules, arith, append_assoc)
 
 -- the steps of a call that are told, without the plan
 pub told_of : (g : Goal) (n : ℕ) (old at_first : LabState) → at_first ≡ record old { plan = None; resumes = goal.Break }
@@ -189,7 +160,7 @@ some_steps r n old mid new is h = rw is at h
 
 pub started : {E : Type 0} (r : Result Done E) (p : Plan) (old mid new : LabState) → mid ≡ begun old
     → IfOk r (λ d. d.answer ≡ run_answer p mid new) → IfOk r (λ d. d.answer ≡ run_answer p (begun old) new)
-started r p old mid new e h = rw e at h
+started r p old mid new e h = search (rules, arith)
 
 pub monitor_ran : {E : Type 0} (r : Result Done E) (line : List ℕ) (p : Plan) (old new : LabState)
     → Some p ≡ monitored_run line old.recording.session → IfOk r (λ d. d.answer ≡ run_answer p (begun old) new)

@@ -1,87 +1,144 @@
--- The values that commands which look answer: lists that are filled one element after another.
-use Rattle.std.proofs.Common.{rules, ◌≡◌, ◌∙◌, ℕ, zero, suc, ◌+◌, ◌-◌, ◌<◌, ◌≤◌, Bool, true, false, List, [], ◌∷◌, ◌++◌, cond, drop, length, map, refl, sym, ap, add-one, append-nil, append_assoc, arith}
-use Rattle.std.specs.Prelude.{Option, Some, None, OnOk, Result, Ok, Err, filter, slice_get, unwrap_or}
+-- The values that commands which look answer.
+use Rattle.std.proofs.Common.{rules, ◌≡◌, ◌∙◌, ℕ, zero, suc, ◌+◌, ◌-◌, ◌<◌, ◌≤◌, Bool, true, false, List, [], ◌∷◌, ◌++◌, cond, drop, length, map, refl, sym, ap, add-one, append-nil, append_assoc, arith, ◌&&◌, find, get_or, nat_le, nat_lt}
+use Rattle.std.specs.Prelude.{Option, Some, None, OnOk, Result, Ok, Err, filter, slice_get, unwrap_or, IfSome, IfNone, not}
 use Rattle.std.specs.Borrow.{Bor}
 use Rattle.std.specs.FinSet as set
-use Rattle.std.specs.List.{range_with_len}
+use Rattle.std.specs.List.{range_with_len, prefix_len, position_or_len}
 use Rattle.std.specs.Option.{option_map}
-use Rattle.std.proofs.lemmas.List.{drop_all, map-append}
-use Rattle.rv_asm.specs.Lines.{Listed}
-use Rattle.rv_answers.proofs.Sources.{map_last}
-use Rattle.rv_answers.proofs.Regions.{one_more}
+use Rattle.std.proofs.lemmas.List.{drop_all, get_or_past}
+use Rattle.std.proofs.lemmas.Bool.Decides.{nat_tests}
+use Rattle.rv_asm.specs.Lines.{Listed, HasByteAt}
+use Rattle.rv_operands.specs.Operands.{only_of}
+use Rattle.rv_why.specs.Repeats.{comes_again}
+use Rattle.rv_isa.specs.Number.{flag}
+use Rattle.rv_pmp.specs.Pmp.{read_register}
+use Rattle.rv_csr.specs.Registers.{lines_word, number_of, read, row_at, status_word, table}
+use Rattle.rv_csr.specs.declared.mstatus.Mstatus.{Mstatus}
+use Rattle.rv_csr.specs.Traps.{next_interrupt}
+use Rattle.rv_isa.specs.Names.{csr_names}
+use Rattle.rv_bus.specs.Access.{lines_of}
+use Rattle.rv_why.proofs.Words.{is_one, most, mstatus_word}
+use Rattle.rv_board.specs.declared.event.TrapRecord.{TrapRecord}
+use Rattle.rv_board.specs.BoardState.{BoardState, csr_of}
+use Rattle.rv_recording.specs.Breaks.{IsNext}
 use Rattle.rv_answers.specs.declared.values.Place.{Place}
 use Rattle.rv_answers.specs.declared.values.Trap.{Trap}
-use Rattle.rv_board.specs.declared.event.TrapRecord.{TrapRecord}
-use Rattle.rv_operands.specs.Operands.{only_of}
-use Rattle.rv_recording.specs.Breaks.{IsNext}
+use Rattle.rv_answers.proofs.Regions.{one_more, next_found}
 use Rattle.rv_lab.specs.Answers.{breakpoints, distance_at, place_of, trap_runs}
 use Rattle.rv_lab.specs.State.{LabState}
-use Rattle.rv_why.specs.Repeats.{comes_again}
-use Rattle.rv_lab.specs.Support.Rows.{label_at}
+use Rattle.rv_lab.specs.Support.Rows.{label_at, first_pending}
+use Rattle.rv_lab.specs.Lines.{line_at}
 
--- ---- what a function gives of some numbers
+-- ---- the first number of a range that passes a test
 
-pub no_items : {A : Type 0} (f : ℕ → A) (a : ℕ) → [] ≡ map f (range_with_len a 0)
-no_items f a = refl
+first_or : (b : Bool) (x : ℕ) (o r : Option ℕ) → (b ≡ true → Some x ≡ r) → (b ≡ false → o ≡ r) → cond b (Some x) o ≡ r
+first_or b x o r t f = search (rules, arith)
 
-pub next_item : {A : Type 0} (f : ℕ → A) (a n k : ℕ) (v : A) (xs ys : List A) → k ≡ a + n → v ≡ f k
-    → xs ≡ map f (range_with_len a n) → ys ≡ xs ++ v ∷ [] → ys ≡ map f (range_with_len a (n + 1))
-next_item f a n k v xs ys is e h g = search (rules, arith, map_last)
+later : (p : ℕ → Bool) (s n : ℕ) → p s ≡ false → p n ≡ true → s ≤ n → s + 1 ≤ n
+later p s n f t h = grind arith
 
-pub all_items : {A : Type 0} (f : ℕ → A) (a n count : ℕ) (xs : List A) → count ≤ n → n ≤ count
-    → xs ≡ map f (range_with_len a n) → xs ≡ map f (range_with_len a count)
-all_items f a n count xs low high e = search (rules, arith)
+found : (p : ℕ → Bool) (n s k : ℕ) → s ≤ n → n < s + k → p n ≡ true → ((m : ℕ) → s ≤ m → p m ≡ true → m ≡ n)
+    → find p (range_with_len s k) ≡ Some n
+found p n s zero low high is only = search (rules, arith)
+found p n s (suc k) low high is only = search (rules, arith, first_or, later, (found p n (s + 1) k))
 
--- ---- the label before an address
+none : (p : ℕ → Bool) (s k : ℕ) → ((m : ℕ) → s ≤ m → p m ≡ true → ⊥) → find p (range_with_len s k) ≡ None
+none p s zero never = refl
+none p s (suc k) never = first_or (p s) s (find p (range_with_len (s + 1) k)) None
+    (λ e. absurd (never s (omega arith) e)) (λ e. none p (s + 1) k (λ m h. never m (omega (arith, h))))
 
-by_label : (l : Listed) (a : ℕ) → distance_at l a ≡ option_map (λ label. label.1) (label_at l a)
-unfolding distance_at label_at
-by_label l a = search (rules, arith)
+first : (p : ℕ → Bool) (s n i : ℕ) → i ≤ n → ((k : ℕ) → s ≤ k → k < s + i → p k ≡ false)
+    → (i < n → p (s + i) ≡ true) → prefix_len (λ k. not (p k)) (range_with_len s n) ≡ i
+first p s zero i below none is = omega arith
+first p s (suc n) zero below none is =
+    let here : s + 0 ≡ s = omega arith in
+    let passes : p s ≡ true = ap p (sym here) ∙ is (omega arith) in rw passes refl
+first p s (suc n) (suc i) below none is =
+    let here : p s ≡ false = none s (omega arith) (omega arith) in
+    let on : s + 1 + i ≡ s + suc i = omega arith in
+    let more : 1 + i ≡ suc i = omega arith in
+    rw here (ap (λ k. 1 + k) (first p (s + 1) n i (omega (arith, below))
+    (λ k h g. none k (omega (arith, h)) (omega (arith, g))) (λ h. ap p on ∙ is (omega (arith, h)))) ∙ more)
 
+pub ends_at : (p : ℕ → Bool) (n i : ℕ) → i ≤ n → ((k : ℕ) → k < i → p k ≡ false) → (i < n → p i ≡ true)
+    → position_or_len p (range_with_len 0 n) ≡ i
+ends_at p n i below none is =
+    let here : 0 + i ≡ i = omega arith in
+    first p 0 n i below (λ k h g. none k (omega (arith, g))) (λ h. ap p here ∙ is h)
+
+-- ---- the line of an address
+
+abbrev has : Listed → ℕ → ℕ → Bool
+has l a n = nat_le (get_or l.addresses (n - 1) 0) a && nat_lt a (get_or l.addresses n 0)
+
+has_byte : (l : Listed) (a n : ℕ) → 1 ≤ n → has l a n ≡ true → HasByteAt l a n
+has_byte l a n h t = grind (arith, nat_tests)
+
+is_line : (l : Listed) (a n : ℕ) → HasByteAt l a n → has l a n ≡ true
+is_line l a n h = grind (arith, nat_tests)
+
+is_listed : (l : Listed) (a n : ℕ) → HasByteAt l a n → n < 1 + (length l.addresses - 1)
+is_listed l a n h = grind (arith, get_or_past)
+
+pub line_is : (l : Listed) (a : ℕ) (result : Option ℕ) → IfSome result (HasByteAt l a)
+    → IfNone result ((m : ℕ) → HasByteAt l a m → ⊥)
+    → IfSome result (λ n. (m : ℕ) → HasByteAt l a m → m ≡ n) → result ≡ line_at l a
+unfolding line_at
+line_is l a (Some n) here never only =
+    sym (found (has l a) n 1 (length l.addresses - 1) here.0 (is_listed l a n here) (is_line l a n here)
+    (λ m h t. only m (has_byte l a m h t)))
+line_is l a None here never only =
+    sym (none (has l a) 1 (length l.addresses - 1) (λ m h t. never m (has_byte l a m h t)))
+
+-- the label before an address
 pub distance_is : {N : Type 0} (f : N → List ℕ × ℕ) (near : Option N) (l : Listed) (a : ℕ) (r : Option N)
     → near ≡ r → option_map f near ≡ label_at l a → option_map (λ (n : N). (f n).1) r ≡ distance_at l a
-distance_is {N} f near l a r e h =
-    go r ∙ (ap (option_map (λ (label : List ℕ × ℕ). label.1)) (ap (option_map f) (sym e) ∙ h) ∙ sym (by_label l a))
-  where
-    go : (o : Option N)
-        → option_map (λ (n : N). (f n).1) o ≡ option_map (λ (label : List ℕ × ℕ). label.1) (option_map f o)
-    go None = refl
-    go (Some n) = refl
+unfolding distance_at label_at
+distance_is f near l a r e h = search (rules, arith)
 
--- ---- the name of a control register
+-- ---- control registers
 
 pub named : (r : Option (Bor (List ℕ))) (ws : List (List ℕ)) (name none : Bor (List ℕ))
     → option_map (λ w. w.now) r ≡ only_of ws → name ≡ unwrap_or r none → none.now ≡ []
     → name.now ≡ unwrap_or (only_of ws) []
 named r ws name none e f g = search (rules, arith)
 
+mie_is : (s : Mstatus) → flag (status_word s) 3 ≡ s.mie
+unfolding status_word
+mie_is s = search (rules, arith, most, is_one)
+
+module _ (b : BoardState) where
+  mie_word : csr_of b 772 ≡ Some (lines_word b.machine.csrs.mie)
+  unfolding read read_register row_at table number_of csr_names
+  mie_word = refl
+
+  mip_word : csr_of b 836 ≡ Some (lines_word (lines_of b.machine.bus))
+  unfolding read read_register row_at table number_of csr_names
+  mip_word = refl
+
+-- the interrupt that is taken next, by the words of the control registers
+pub next_is : (b : BoardState) (r : Option ℕ) → r ≡ first_pending b
+    → r ≡ next_interrupt b.machine.csrs b.machine.mode (lines_of b.machine.bus)
+unfolding first_pending next_interrupt
+next_is b r e = search (rules, arith, mstatus_word, mie_is, mie_word, mip_word)
+
 -- ---- breakpoints
 
-abbrev pub is_break : LabState → ℕ → Bool
+abbrev is_break : LabState → ℕ → Bool
 is_break l a = set.contains l.recording.session.breakpoints.addresses a
 
 abbrev pub breaks_below : LabState → ℕ → List Place
 breaks_below l n = map (place_of l) (filter (is_break l) (range_with_len 0 n))
 
-pub no_breaks_yet : (l : LabState) → [] ≡ breaks_below l 0
-no_breaks_yet l = refl
-
 module _ (l : LabState) where
-  one_break : (a : ℕ) → is_break l a ≡ true → breaks_below l (a + 1) ≡ breaks_below l a ++ place_of l a ∷ []
-  one_break a e = ap (map (place_of l)) (one_more (place_of l) (is_break l) a true e)
-      ∙ map-append (place_of l) (filter (is_break l) (range_with_len 0 a)) (a ∷ [])
-
-  no_break : (a : ℕ) → is_break l a ≡ false → breaks_below l (a + 1) ≡ breaks_below l a
-  no_break a e =
-      ap (map (place_of l)) (one_more (place_of l) (is_break l) a false e ∙ append-nil (filter (is_break l) (range_with_len 0 a)))
-
   skipped : (from n : ℕ) → ((i : ℕ) → from ≤ i → i < from + n → is_break l i ≡ false)
       → breaks_below l (from + n) ≡ breaks_below l from
   skipped from zero none = let same : from + 0 ≡ from = omega arith in ap (breaks_below l) same
   skipped from (suc n) none =
       let last : from + suc n ≡ from + n + 1 = omega arith in
-      ap (breaks_below l) last ∙ (no_break (from + n) (none (from + n) (omega arith) (omega arith))
-      ∙ skipped from n (λ i f h. none i f (omega (arith, h))))
+      let not_last : is_break l (from + n) ≡ false = none (from + n) (omega arith) (omega arith) in
+      rw (last, one_more (place_of l) (is_break l) 0 (from + n) (from + n) (omega arith), not_last, append-nil)
+      (skipped from n (λ i f h. none i f (omega (arith, h))))
 
   skipped_to : (from to : ℕ) → from ≤ to → ((i : ℕ) → from ≤ i → i < to → is_break l i ≡ false)
       → breaks_below l to ≡ breaks_below l from
@@ -92,7 +149,7 @@ module _ (l : LabState) where
   pub next_break : (from address : ℕ) (r : Option ℕ) (xs ys : List Place) → r ≡ Some address
       → IsNext l.recording.session.breakpoints.addresses from r → xs ≡ breaks_below l from
       → ys ≡ xs ++ place_of l address ∷ [] → ys ≡ breaks_below l (address + 1)
-  next_break from address r xs ys e is h g = search (rules, arith, skipped_to, one_break)
+  next_break from address r xs ys e is h g = search (rules, arith, skipped_to, next_found)
 
   pub last_break : (from to : ℕ) (r : Option ℕ) (xs : List Place) → r ≡ None → from ≤ to
       → IsNext l.recording.session.breakpoints.addresses from r → xs ≡ breaks_below l from → xs ≡ breaks_below l to
@@ -106,9 +163,8 @@ module _ (l : LabState) where
 
 -- those from one on
 more : (ts : List TrapRecord) (i : ℕ) (t : TrapRecord) → Some t ≡ slice_get ts i → drop i ts ≡ t ∷ drop (suc i) ts
-more [] zero t e = absurd cc
-more [] (suc i) t e = absurd cc
-more (u ∷ us) zero t e = let same : t ≡ u = cc in ap (λ x. x ∷ us) (sym same)
+more [] i t e = search (rules, arith)
+more (u ∷ us) zero t e = search (rules, arith)
 more (u ∷ us) (suc i) t e = more us i t e
 
 front : (ts : List TrapRecord) (i : ℕ) → slice_get (drop i ts) 0 ≡ slice_get ts i
@@ -125,8 +181,7 @@ runs_end l ts i n xs h = rw (drop_all i ts h) (sym (append-nil xs))
 pub runs_none : (l : LabState) (ts : List TrapRecord) (i n : ℕ) (xs : List Trap) → None ≡ slice_get ts i
     → xs ≡ xs ++ trap_runs l n (drop i ts)
 unfolding trap_runs
-runs_none l [] zero n xs e = sym (append-nil xs)
-runs_none l [] (suc i) n xs e = sym (append-nil xs)
+runs_none l [] i n xs e = search (rules, arith, drop_all)
 runs_none l (t ∷ ts) zero n xs e = absurd cc
 runs_none l (t ∷ ts) (suc i) n xs e = runs_none l ts i n xs e
 

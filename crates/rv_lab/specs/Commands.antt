@@ -10,7 +10,6 @@ use Rattle.rv_monitor.specs.Stops.{may_step}
 use Rattle.rv_recording.specs.Recording.{RecordingState, with_timed}
 use Rattle.rv_recording.specs.Until.{steps_of}
 use Rattle.rv_runs.specs.Ends.{Stops, guards_after, run_ends}
-use Rattle.rv_runs.specs.Guards.{with_guard, without_guard}
 use Rattle.rv_runs.specs.Plans.{plan_after, resumes_after, tells_last}
 use Rattle.rv_lab.specs.State.{LabState, board, registers_of, sent, timed}
 use Rattle.rv_runs.specs.declared.guard.Guard.{Guard}
@@ -29,13 +28,6 @@ use Rattle.rv_lab.specs.Words.{repeated}
 -- a lab with another session, in which only the board, its inputs or the breakpoints differ
 abbrev pub with_session : LabState → SessionState → LabState
 with_session l s = record l { recording = record l.recording { session = s } }
-
--- a lab without a guard of the breakpoint at an address, and with another one for its breakpoint
-abbrev pub unguarded : ℕ → LabState → LabState
-unguarded a l = record l { guards = without_guard a l.guards }
-
-abbrev pub guarded : Guard → LabState → LabState
-guarded g l = record l { guards = with_guard g l.guards }
 
 -- ---- runs
 

@@ -131,11 +131,10 @@ abbrev pub steps_order : ℕ → Order
 steps_order n = if n == 1 then orders.Once else orders.Steps n
 
 -- `next`: past the line at pc, if there is one, and past each call that it makes
-abbrev pub span_of : Listed → (n : ℕ) → Option Span
-span_of l n = option_map (λ a. record { address = a; size = length (bytes_of l n) }) (address_of l n)
-
 abbrev pub here : LabState → Option Span
-here l = option_and_then (span_of (listing l)) (line_at (listing l) (board l).machine.pc)
+here l = let code = listing l in option_and_then
+    (λ n. option_map (λ a. record { address = a; size = length (bytes_of code n) }) (address_of code n))
+    (line_at code (board l).machine.pc)
 
 abbrev pub next_order : LabState → Order
 next_order l = orders.Run (planned (goal.Out 0 (here l)) usual_steps)

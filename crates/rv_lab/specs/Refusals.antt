@@ -1,12 +1,12 @@
 -- To audit: public contracts cite this.
 -- The lab where memory ran out in a call (this project's own: docs/LAB.md).
-use Rattle.std.specs.Prelude.{◌≡◌, ◌⊎◌, ℕ, List, Option, Some, None}
+use Rattle.std.specs.Prelude.{◌≡◌, ◌⊎◌, ℕ, Option, None}
+use Rattle.std.specs.Option.{option_map_or}
 use Rattle.rv_timeline.specs.declared.input.Input.{Input}
 use Rattle.rv_monitor.specs.State.{TimedState, after, with_due, given}
 use Rattle.rv_monitor.specs.Stops.{steps_between}
 use Rattle.rv_recording.specs.Recording.{with_timed}
 use Rattle.rv_runs.specs.declared.goal.Goal.{Goal}
-use Rattle.rv_runs.specs.declared.guard.Guard.{Guard}
 use Rattle.rv_lab.specs.Commands.{guards_by}
 use Rattle.rv_lab.specs.State.{LabState, timed}
 
@@ -17,11 +17,6 @@ pub data Leads (old : TimedState) : TimedState → Type 0 where
   due : (s : TimedState) → Leads old s → Leads old (with_due s)
   by_hand : (s : TimedState) (input : Input) → Leads old s → Leads old (given s input)
 
--- the guards of a lab after the steps to a state: of a run that goes on for something, or of no run
-abbrev pub guards_at : Option Goal → LabState → TimedState → List Guard
-guards_at None l t = l.guards
-guards_at (Some g) l t = guards_by g l (steps_between (timed l) t)
-
 -- a call stopped short, of a run that goes on for something or of no run: it took some of the steps, and gave some of
 -- the inputs, that lead to what it does, the hits of these steps are counted, and its run is over
 abbrev pub StopsShort : Option Goal → (LabState → LabState → Type 0) → LabState → LabState → Type 0
@@ -29,7 +24,7 @@ StopsShort g Does old new =
     (done : LabState) × Does old done × Leads (timed old) (timed new) × Leads (timed new) (timed done)
     × (new ≡ record done {
       recording = with_timed old.recording (timed new);
-      guards = guards_at g old (timed new);
+      guards = option_map_or (λ g. guards_by g old (steps_between (timed old) (timed new))) g old.guards;
       plan = None;
       resumes = new.resumes;
       told = new.told;

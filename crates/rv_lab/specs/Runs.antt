@@ -37,8 +37,9 @@ use Rattle.rv_answers.specs.declared.values.Trap.{Trap}
 use Rattle.rv_why.specs.Why.{explanation}
 use Rattle.rv_why.specs.Origins.{origin, target_of}
 use Rattle.rv_lab.specs.Answers.{given_condition, place_of, rows_answer, standing, watch_of}
-use Rattle.rv_lab.specs.Commands.{begun, gone_on, guarded, monitor_next, monitored_run, next_of, piece_most, piece_steps, planned, ready, stepped, stops_of, unguarded, with_console, with_inputs, with_session, with_steps}
+use Rattle.rv_lab.specs.Commands.{begun, gone_on, monitor_next, monitored_run, next_of, piece_most, piece_steps, planned, ready, stepped, stops_of, with_console, with_inputs, with_session, with_steps}
 use Rattle.rv_runs.specs.Ends.{heeds, run_ends}
+use Rattle.rv_runs.specs.Guards.{with_guard, without_guard}
 use Rattle.rv_runs.specs.Plans.{is_traced}
 use Rattle.rv_lab.specs.Orders.{ordered}
 use Rattle.rv_lab.specs.Saved.{steps_text}
@@ -156,18 +157,16 @@ over_answer is_monitored g end l =
       standing = standing l;
     })
 
--- what a call of a trace answers: its steps
-abbrev pub trace_answer : Plan → (old new : LabState) → Answer
-trace_answer p old new = answers.Traced (record {
-  steps = next_steps (piece_most p old) old;
-  ending = ending_of (end_of p old);
-  standing = standing new;
-})
-
--- what a call of a run answers
+-- what a call of a run answers: of a trace its steps
 unfoldable pub run_answer : Plan → (old new : LabState) → Answer
-run_answer p old new = if is_traced p.goal then trace_answer p old new
-    else (if is_some new.plan then answers.Running (timed new).taken else over_answer p.is_monitored p.goal (end_of p old) new)
+run_answer p old new = if is_traced p.goal
+    then answers.Traced (record {
+      steps = next_steps (piece_most p old) old;
+      ending = ending_of (end_of p old);
+      standing = standing new;
+    })
+    else (if is_some new.plan then answers.Running (timed new).taken
+    else over_answer p.is_monitored p.goal (end_of p old) new)
 
 -- ---- commands that move the board
 
@@ -198,13 +197,7 @@ saved_answer name l = answers.Saved (record {
   pages = l.recording.pages;
 })
 
--- `monitor`: a run goes on as the lab's do; any other command is no command that moves the board, and answers what it
--- prints
-abbrev pub MonitorLeaves : List ℕ → LabState → LabState → Type 0
-MonitorLeaves line old new = let s = old.recording.session in let t = new.recording.session in
-    MatchOption (monitored_run line s)
-    ((new ≡ with_session old t) × monitor.Leaves (command_in line s) s t) (λ p. new ≡ gone_on p (begun old))
-
+-- `monitor`: a run answers as the lab's do, and any other command what it prints
 unfoldable pub monitor_answer : List ℕ → (old new : LabState) → Answer
 monitor_answer line old new = option_map_or (λ p. run_answer p (begun old) new)
     (monitored_run line old.recording.session)
@@ -233,12 +226,7 @@ abbrev pub runs : Plan → (old new : LabState) → Deed
 runs p old new =
     record { leaves = new ≡ gone_on p (begun old); next = next_of new; answer = run_answer p (begun old) new }
 
--- what stays watched where one is to be no more, or none
-abbrev pub unwatched : Option Watched → List Watched → List Watched
-unwatched None ws = []
-unwatched (Some w) ws = without_watch w ws
-
--- a row an order
+-- a row an order: a run of the monitor goes on as the lab's do, and any other of its commands moves no board
 abbrev pub does : Order → (old new : LabState) → Deed
 does orders.Once old new =
     more (new ≡ with_console (record (begun (record old { count = 1 })) { recording = stepped old.recording }))
@@ -251,21 +239,27 @@ does (orders.Back n) old new = let to = (timed old).taken - n in
 does (orders.List e follows) old new =
     more (new ≡ record old { listed = min (e.after + e.count) (line_count (listing old)) }) (rows_answer e follows old)
 does (orders.Break a) old new =
-    more (new ≡ unguarded a (with_session old (with_break old.recording.session a)))
+    more (new ≡ record (with_session old (with_break old.recording.session a)) { guards = without_guard a old.guards })
     (answers.Break (record { place = place_of new a; condition = None; passes = 0 }))
 does (orders.BreakIf g) old new =
-    more (new ≡ guarded g (with_session old (with_break old.recording.session g.address)))
+    more (new ≡ record (with_session old (with_break old.recording.session g.address)) { guards = with_guard g old.guards })
     (answers.Break (record { place = place_of new g.address; condition = given_condition g; passes = g.passes }))
 does (orders.Clear a) old new = let s = old.recording.session in
-    more (new ≡ unguarded a (with_session old (without_break s a)))
+    more (new ≡ record (with_session old (without_break s a)) { guards = without_guard a old.guards })
     (answers.Cleared (record { place = place_of new a; was_there = set.contains s.breakpoints.addresses a }))
 does (orders.Watch w) old new =
     more (new ≡ record old { watches = with_watch w old.watches }) (answers.Watch (watch_of new w))
-does (orders.Unwatch w) old new = more (new ≡ record old { watches = unwatched w old.watches })
+does (orders.Unwatch w) old new =
+    more (new ≡ record old { watches = option_map_or (λ w. without_watch w old.watches) w [] })
     (answers.Unwatched (length old.watches - length new.watches))
 does (orders.Give inputs) old new = more (new ≡ with_inputs old inputs) (given_answer (length inputs) new)
-does (orders.Monitor line) old new = let c = command_in line old.recording.session in
-    record { leaves = MonitorLeaves line old new; next = monitor_next c new; answer = monitor_answer line old new }
+does (orders.Monitor line) old new =
+    let s = old.recording.session in let t = new.recording.session in record {
+      leaves = MatchOption (monitored_run line s)
+          ((new ≡ with_session old t) × monitor.Leaves (command_in line s) s t) (λ p. new ≡ gone_on p (begun old));
+      next = monitor_next (command_in line s) new;
+      answer = monitor_answer line old new;
+    }
 does (orders.Save name) old new =
     record { leaves = new ≡ old; next = if is_some name then next.Save else next.More; answer = saved_answer name old }
 does orders.Explain old new = more (new ≡ old) (answers.Explained (explanation old.recording))

@@ -41,7 +41,7 @@ fn first_pending(board: &BootedBoard) -> Option<u32>
 }
 
 /// Returns the cause of the interrupt that is taken next, if one is.
-#[tactic(auto, using(crate::proofs::Pending::next_is))]
+#[tactic(auto, using(crate::proofs::Values::next_is))]
 fn next_interrupt(board: &BootedBoard) -> Option<u32>
     ensures { result ≡ next_interrupt board.now.machine.csrs board.now.machine.mode (lines_of board.now.machine.bus) }
 {

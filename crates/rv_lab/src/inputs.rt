@@ -66,7 +66,7 @@ impl Lab {
     }
 
     /// Gives the board inputs before the next step.
-    #[tactic(auto, using(crate::proofs::Given::gave_no, crate::proofs::Given::gave_list))]
+    #[tactic(auto, using(crate::proofs::Runs::gave_no, crate::proofs::Runs::gave_list))]
     fn give_all(&mut self, inputs: &[Input]) -> Result<(), NoMemory>
         requires { self.old.plan ≡ None }
         ensures given { OnOk result (self.new ≡ with_inputs self.old inputs.now) }

@@ -63,7 +63,7 @@ fn distance_at(listing: Listing, address: u32) -> Option<u32>
 }
 
 /// Returns bytes from an address on.
-#[tactic(auto, using(crate::proofs::Values::no_items, crate::proofs::Values::next_item, crate::proofs::Values::all_items))]
+#[tactic(auto, using(rv_answers::proofs::Sources::no_items, rv_answers::proofs::Sources::next_item, rv_answers::proofs::Sources::all_items))]
 fn bytes_of(
     alloc: Global,
     board: &BootedBoard,
@@ -80,7 +80,7 @@ fn bytes_of(
 }
 
 /// Returns words from an address on.
-#[tactic(auto, using(crate::proofs::Values::no_items, crate::proofs::Values::next_item, crate::proofs::Values::all_items))]
+#[tactic(auto, using(rv_answers::proofs::Sources::no_items, rv_answers::proofs::Sources::next_item, rv_answers::proofs::Sources::all_items))]
 fn words_of(
     alloc: Global,
     board: &BootedBoard,
@@ -98,7 +98,7 @@ fn words_of(
 }
 
 /// Returns the bytes from an address on, a zero where there is no memory.
-#[tactic(auto, using(crate::proofs::Values::no_items, crate::proofs::Values::next_item, crate::proofs::Values::all_items))]
+#[tactic(auto, using(rv_answers::proofs::Sources::no_items, rv_answers::proofs::Sources::next_item, rv_answers::proofs::Sources::all_items))]
 fn text_of(
     alloc: Global,
     board: &BootedBoard,
@@ -278,7 +278,7 @@ impl Lab {
     }
 
     /// Returns the rows of `count` lines from one on.
-    #[tactic(auto, using(crate::proofs::Values::no_items, crate::proofs::Values::next_item, crate::proofs::Values::all_items))]
+    #[tactic(auto, using(rv_answers::proofs::Sources::no_items, rv_answers::proofs::Sources::next_item, rv_answers::proofs::Sources::all_items))]
     fn rows_from(&self, first: usize, count: usize, last: usize) -> Result<Many<Row>, NoMemory>
         requires { first + count ≤ last + 1 }
         ensures { IfOk result (λ r. r ≡ map (row_of self.now) (range_with_len first count)) }
@@ -315,7 +315,7 @@ impl Lab {
     }
 
     /// Returns the places of the breakpoints.
-    #[tactic(auto, using(crate::proofs::Values::no_breaks_yet))]
+    #[tactic(auto, using(rv_answers::proofs::Regions::none_yet))]
     pub(crate) fn breakpoints(&self) -> Result<Many<Place>, NoMemory>
         ensures { IfOk result (λ b. b ≡ breakpoints self.now) }
     {

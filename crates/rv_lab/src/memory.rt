@@ -20,7 +20,7 @@ pub(crate) fn char_at(board: &BootedBoard, address: u32, offset: u32) -> u8
 }
 
 /// Returns the number of bytes of a text that ends with a zero, at most `most`.
-#[tactic(auto, using(crate::proofs::Texts::ends_at), unfolding(crate::specs::Support::Rows::text_length))]
+#[tactic(auto, using(crate::proofs::Values::ends_at), unfolding(crate::specs::Support::Rows::text_length))]
 pub(crate) fn text_length(board: &BootedBoard, address: u32, most: u32) -> u32
     ensures { result ≡ text_length board.now address most }
 {

@@ -50,7 +50,7 @@ fn printed(text: Vec<u8>) -> Answer
 
 impl Lab {
     /// Returns the run that a line of the monitor asks for, if it does.
-    #[tactic(auto, using(crate::proofs::Monitored::no_run))]
+    #[tactic(auto, using(crate::proofs::Obeyed::no_run))]
     pub(crate) fn monitored_run(&self, line: &[u8]) -> Option<Plan>
         ensures { result ≡ monitored_run line.now self.now.recording.session }
     {
@@ -64,7 +64,7 @@ impl Lab {
     }
 
     /// Executes a command of the monitor that takes no step, and answers what it prints.
-    #[tactic(auto, using(crate::proofs::Monitored::looks_refused, crate::proofs::Monitored::more_follows, crate::proofs::Monitored::quit_follows))]
+    #[tactic(auto, using(crate::proofs::Obeyed::looks_refused, crate::proofs::Obeyed::more_follows, crate::proofs::Obeyed::quit_follows))]
     fn monitor_look(&mut self, line: &[u8]) -> Result<Done, NoMemory>
         requires no_run { monitored_run line.now self.old.recording.session ≡ None }
         requires no_plan { self.old.plan ≡ None }
@@ -89,7 +89,7 @@ impl Lab {
     }
 
     /// Executes `monitor`: a run goes in pieces, as the lab's do.
-    #[tactic(auto, using(crate::proofs::Monitored::run_follows), unfolding(crate::specs::Runs::monitor_answer))]
+    #[tactic(auto, using(crate::proofs::Obeyed::run_follows), unfolding(crate::specs::Runs::monitor_answer))]
     pub(crate) fn monitor_command(&mut self, operands: &[u8]) -> Result<Done, NoMemory>
         requires { self.old.plan ≡ None }
         ensures next { IfOk result

@@ -8,7 +8,7 @@ ghost use Rattle.rv_lab.specs.Support.Rows.{label_at};
 use rv_asm::{Listing, NearLabel};
 
 /// Returns the line that has a byte at an address, if there is one.
-#[tactic(auto, using(crate::proofs::Lines::line_is))]
+#[tactic(auto, using(crate::proofs::Values::line_is))]
 pub(crate) fn line_at(listing: Listing, address: u32) -> Option<usize>
     ensures { result ≡ line_at (seen listing.entry) address }
 {

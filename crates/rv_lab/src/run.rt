@@ -52,7 +52,7 @@ impl Lab {
     /// # Errors
     ///
     /// `NoMemory` if memory runs out. The lab is as after some of the run's steps then.
-    #[tactic(auto, using(crate::proofs::Bounds::unmoved, crate::proofs::Obeyed::replied_on))]
+    #[tactic(auto, using(crate::proofs::Obeyed::unmoved, crate::proofs::Obeyed::replied_on))]
     pub fn go_on(&mut self) -> Result<Reply, NoMemory>
         ensures setup { setup self.new ≡ setup self.old }
         ensures continues { OnOk result (GoesOn self.old self.new) }
@@ -127,7 +127,7 @@ impl Lab {
     }
 
     /// Takes steps of a run, as `run_all` does, and appends what each did if they are told.
-    #[tactic(auto, using(crate::proofs::Tracing::trace_ran, crate::proofs::Tracing::trace_aims, crate::proofs::Tracing::trace_told, crate::proofs::Tracing::trace_stops, crate::proofs::Tracing::trace_others, crate::proofs::Tracing::none_told))]
+    #[tactic(auto, using(crate::proofs::Runs::trace_ran, crate::proofs::Runs::trace_aims, crate::proofs::Runs::trace_told, crate::proofs::Runs::trace_stops, crate::proofs::Runs::trace_others, crate::proofs::Runs::none_told))]
     fn take_steps(
         &mut self,
         goal: &mut Goal,

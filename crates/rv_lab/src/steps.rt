@@ -30,7 +30,7 @@ fn differs(before: &Registers, now: &Registers, number: u8) -> bool
 }
 
 /// Returns the registers whose values differ, with their values now.
-#[tactic(auto, using(crate::proofs::Changed::none_yet, crate::proofs::Changed::next_changed, crate::proofs::Changed::next_same, crate::proofs::Changed::all_changed))]
+#[tactic(auto, using(rv_answers::proofs::Regions::none_yet, rv_answers::proofs::Regions::next_found, rv_answers::proofs::Regions::none_found))]
 pub(crate) fn changes(
     alloc: Global,
     before: &Registers,
@@ -116,7 +116,7 @@ impl Lab {
     }
 
     /// Takes a single step, and answers what it did.
-    #[tactic(auto, using(crate::proofs::Told::no_step, crate::proofs::Short::once_short))]
+    #[tactic(auto, using(crate::proofs::Told::no_step, crate::proofs::Runs::once_short))]
     pub(crate) fn step_once(&mut self) -> Result<Done, NoMemory>
         requires { self.old.plan ≡ None }
         ensures leaves { OnOk result (Leaves orders.Once self.old self.new) }

@@ -1,4 +1,4 @@
-use Rattle.rv_lab.proofs.Repeated.{repeats}
+use Rattle.rv_lab.proofs.Laws.{repeats}
 use Rattle.rv_lab.proofs.inputs.saved_repeats.Goals as goal
 
 pub returns : goal.returns

@@ -1,6 +1,6 @@
 use Rattle.std.proofs.Common.{◌∙◌, ◌==◌, sym, ap, arith}
 use Rattle.rv_lab.specs.Support.Rows.{char_at, text_length}
-use Rattle.rv_lab.proofs.Texts.{ends_at}
+use Rattle.rv_lab.proofs.Values.{ends_at}
 use Rattle.rv_lab.proofs.memory.text_length.Goals as goal
 
 pub returns-then-char_at-eq0 : goal.returns-then-char_at-eq0

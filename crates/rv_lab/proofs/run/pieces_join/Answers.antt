@@ -1,4 +1,4 @@
-use Rattle.rv_lab.proofs.Pieces.{join}
+use Rattle.rv_lab.proofs.Laws.{join}
 use Rattle.rv_lab.proofs.run.pieces_join.Goals as goal
 
 pub returns : goal.returns

@@ -1,7 +1,7 @@
 use Rattle.std.specs.Prelude.{None}
 use Rattle.rv_lab.specs.Refusals.{StopsShort}
 use Rattle.rv_lab.specs.Support.Short.{Gives}
-use Rattle.rv_lab.proofs.Short.{gave_nothing, gave_rest}
+use Rattle.rv_lab.proofs.Runs.{gave_nothing, gave_rest}
 use Rattle.rv_runs.proofs.Parts.{on_err}
 use Rattle.rv_lab.proofs.lab.Lab.+give_all.Goals as goal
 

@@ -1,6 +1,6 @@
 use Rattle.std.proofs.Common.{◌∙◌, sym}
-use Rattle.rv_lab.proofs.Bounds.{piece_short_within, piece_within}
-use Rattle.rv_lab.proofs.Short.{continued}
+use Rattle.rv_lab.proofs.Obeyed.{piece_short_within, piece_within}
+use Rattle.rv_lab.proofs.Runs.{continued}
 use Rattle.rv_lab.proofs.lab.Lab.go_on.Goals as goal
 
 pub returns-in_err-next-clause-err : goal.returns-in_err-next-clause-err

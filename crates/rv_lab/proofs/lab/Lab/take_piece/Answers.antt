@@ -1,21 +1,15 @@
-use Rattle.std.proofs.Common.{◌∙◌, ◌++◌, ap, arith}
+use Rattle.std.proofs.Common.{◌∙◌, ap, arith, rules}
 use Rattle.std.specs.Prelude.{Option}
-use Rattle.rv_lab.specs.State.{LabState}
-use Rattle.rv_lab.specs.Support.Short.{told_steps}
 use Rattle.rv_runs.specs.Plans.{rest_of}
 use Rattle.rv_runs.specs.declared.goal.Goal.{Goal}
 use Rattle.rv_runs.specs.declared.plan.Plan.{Plan}
-use Rattle.rv_lab.proofs.Runs.{took_piece}
-use Rattle.rv_lab.proofs.Short.{piece_err}
+use Rattle.rv_lab.specs.State.{LabState}
+use Rattle.rv_lab.proofs.Runs.{piece_err, took_piece}
 use Rattle.rv_lab.proofs.Told.{told_of}
 use Rattle.rv_lab.proofs.lab.Lab.take_piece.Goals as goal
 
 pub returns-in_err-end-clause-err : goal.returns-in_err-end-clause-err
-returns-in_err-end-clause-err c =
-    piece_err c.from_residual.result c.args.plan.now c.min-most.result c.args.self.now c.keep_plan.new.self
-    c.take_steps.new.self
-    (omega (arith, c.min-most.ensures, c.max.ensures, ap (λ (l : LabState). l.piece) c.self.view_is))
-    c.keep_plan.ensures c.in_err-end.ensures.err
+returns-in_err-end-clause-err c = search (rules, arith, piece_err)
 
 pub returns-clause-piece : goal.returns-clause-piece
 returns-clause-piece c =
@@ -31,7 +25,4 @@ returns-clause-piece c =
     }) c.resumes_after.ensures))
 
 pub returns-clause-steps : goal.returns-clause-steps
-returns-clause-steps c = c.in_ok-end.ensures.steps ∙ ap (λ xs. c.args.steps.now.items ++ xs)
-    (told_of c.args.plan.now.goal c.min-most.result c.args.self.now c.keep_plan.new.self c.keep_plan.ensures
-    ∙ ap (λ n. told_steps c.args.plan.now.goal n c.args.self.now)
-    (omega (arith, c.min-most.ensures, c.max.ensures, ap (λ (l : LabState). l.piece) c.self.view_is)))
+returns-clause-steps c = search (rules, arith, told_of)

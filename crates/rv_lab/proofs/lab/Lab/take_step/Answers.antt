@@ -3,7 +3,7 @@ use Rattle.rv_timeline.specs.Timed.{never_falls}
 use Rattle.rv_lab.specs.State.{LabState, registers_of}
 use Rattle.rv_lab.specs.Support.Short.{IsOnWay}
 use Rattle.rv_lab.specs.Commands.{stepped}
-use Rattle.rv_lab.proofs.Short.{step_refused}
+use Rattle.rv_lab.proofs.Runs.{step_refused}
 use Rattle.rv_runs.proofs.Parts.{on_err}
 use Rattle.rv_board.specs.BoardState.{BoardState}
 use Rattle.rv_lab.specs.Answers.{place_of}

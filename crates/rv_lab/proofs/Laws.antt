@@ -1,18 +1,29 @@
--- A run in pieces of any sizes.
-use Rattle.std.proofs.Common.{rules, arith, ◌≡◌, ◌∙◌, ℕ, ◌+◌, refl, sym, ap, subst}
-use Rattle.std.specs.Prelude.{max, Option, Some, None}
-use Rattle.rv_monitor.specs.State.{IsInTime, SessionState, after}
+-- Laws of the lab: runs in pieces, and sessions that repeat what was saved.
+use Rattle.std.proofs.Common.{rules, arith, ◌≡◌, ◌∙◌, ℕ, ◌+◌, refl, sym, ap, subst, ◌<◌, ◌≤◌, Bool, true}
+use Rattle.std.specs.Prelude.{max, Option, Some, None, ◌⊎◌, ◌&&◌, nat_lt, is_none}
+use Rattle.std.proofs.lemmas.Bool.Decides.{nat_tests}
+use Rattle.std.specs.FinSet as set
+use Rattle.rv_program.specs.Program.{Assembly}
+use Rattle.rv_board.specs.Support.State.{BoardState, halted_of}
+use Rattle.rv_monitor.specs.State.{IsInTime, SessionState, after, TimedState, begun, new_session, with_due}
 use Rattle.rv_monitor.proofs.Steps.{after_more, in_time_after}
-use Rattle.rv_recording.specs.Until.{steps_of}
-use Rattle.rv_lab.specs.State.{LabState, timed}
-use Rattle.rv_lab.specs.Commands.{InPieces, cut, ended, gone_on, guards_by, piece_steps, stops_of, with_console, with_steps}
+use Rattle.rv_monitor.specs.Laws.{IsReached}
+use Rattle.rv_monitor.specs.Stops.{Took, stop_of}
+use Rattle.rv_recording.specs.Until.{steps_of, step_ends}
+use Rattle.rv_recording.specs.Support.Steps.{end_by}
+use Rattle.rv_recording.specs.declared.until.End.{End}
+use Rattle.rv_recording.proofs.Counting.{all_steps}
+use Rattle.rv_recording.proofs.Taken.{took_ran}
 use Rattle.rv_runs.specs.Ends.{Stops, guards_after, run_ends}
 use Rattle.rv_runs.specs.Plans.{plan_after, resumes_after}
 use Rattle.rv_runs.specs.declared.plan.Plan.{Plan}
-use Rattle.rv_runs.proofs.Later.{guards_later}
+use Rattle.rv_runs.proofs.Later.{guards_later, taken_after}
 use Rattle.rv_runs.proofs.Plans.{all_taken, kept, rest_steps, resumes_later}
+use Rattle.rv_lab.specs.State.{LabState, timed}
+use Rattle.rv_lab.specs.Commands.{InPieces, cut, ended, gone_on, guards_by, piece_steps, stops_of, with_console, with_steps}
+use Rattle.rv_lab.proofs.Runs.{goes_while}
 
--- ---- the whole run
+-- ---- a run in pieces of any sizes
 
 -- the lab after the n steps of all of a run
 abbrev whole_of : Plan → LabState → ℕ → LabState
@@ -25,14 +36,6 @@ whole_of p l n = record (with_console (with_steps n l)) {
 
 abbrev whole : Plan → LabState → LabState
 whole p l = whole_of p l (steps_of (run_ends (stops_of l) p.goal l.recording.session) p.left)
-
-none_some : {A : Type 0} (o : Option A) (x : A) → o ≡ None → o ≡ Some x → ⊥
-none_some o x a b = cc
-
-same_plan : (o : Option Plan) (p q : Plan) → o ≡ Some p → o ≡ Some q → p ≡ q
-same_plan o p q a b = cc
-
--- ---- its pieces
 
 no_pieces : (end l : LabState) → InPieces end l → l.plan ≡ None → end ≡ l
 no_pieces end l k none = search (rules, arith)
@@ -80,9 +83,10 @@ whole_by end l q n h rest again (Some r) some = again r some ∙ whole_again q r
 
 made_whole : (end l : LabState) (p : Plan) → IsInTime (timed l) → InPieces end l → l.plan ≡ Some p
     → record end { piece = 0 } ≡ whole p l
-made_whole end _ p h (ended is) e = absurd (none_some end.plan p is e)
+made_whole end _ p h (ended is) e = absurd cc
 made_whole end _ p h (cut l q n is rest) e =
-    subst (λ (o : Plan). record end { piece = 0 } ≡ whole o l) (same_plan l.plan q p is e)
+    let same : q ≡ p = cc in
+    subst (λ (o : Plan). record end { piece = 0 } ≡ whole o l) same
     (whole_by end l q n h rest (λ r some. made_whole end _ r (in_time_after (timed l) _ h) rest some)
     (plan_after (stops_of l) q l.recording.session (piece_steps q (record l { piece = n }))) refl)
 
@@ -93,3 +97,31 @@ join l a b h x y = by_plan l.plan refl where
   by_plan None none =
       ap (λ (e : LabState). record e { piece = 0 }) (no_pieces a l x none ∙ sym (no_pieces b l y none))
   by_plan (Some p) some = made_whole a l p h x some ∙ sym (made_whole b l p h y some)
+
+-- ---- a session that repeats what was saved
+
+none_of : (o : Option End) → is_none o ≡ true → o ≡ None
+none_of o h = search (rules, arith, nat_tests)
+
+may_by : (h : Option ℕ) (b : Bool) → h ≡ None → b ≡ true → (is_none h && b) ≡ true
+may_by h b e f = search (rules, arith)
+
+module _ (first : BoardState) (s : TimedState) (program : Assembly) (limit : ℕ) (r : IsReached first s)
+    (most : s.taken ≤ limit) where
+  abbrev opened : SessionState
+  opened = new_session first s.inputs program limit
+
+  goes : (i : ℕ) → i < s.taken → step_ends opened i ≡ None
+  goes i l =
+      let room : (after (begun first s.inputs) i).taken < limit =
+      omega (arith, taken_after (begun first s.inputs) i, l, most) in
+      none_of (step_ends opened i) (goes_while opened i ∙ may_by (halted_of (after (begun first s.inputs) i).board)
+      (nat_lt (after (begun first s.inputs) i).taken limit) (r.running i l) (grind (arith, nat_tests, room)))
+
+  pub repeats : (new : SessionState) → Took set.empty s.taken opened new → (s ≡ new.timed) ⊎ (s ≡ with_due new.timed)
+  repeats new t =
+      let run = took_ran set.empty s.taken opened new t (stop_of set.empty opened new)
+      (end_by (stop_of set.empty opened new) (nat_lt new.timed.taken new.limit)) refl refl in
+      let now : new.timed ≡ after (begun first s.inputs) s.taken = ap (λ (u : SessionState). u.timed) run.state
+      ∙ ap (after (begun first s.inputs)) (all_steps (step_ends opened) s.taken goes) in
+      subst (λ (u : TimedState). (s ≡ u) ⊎ (s ≡ with_due u)) (sym now) r.state
