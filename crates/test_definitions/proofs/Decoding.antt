@@ -1,10 +1,10 @@
 -- Words are decoded by the rows of a program, and so a run of it can be computed.
-use Rattle.std.proofs.Common.{◌≡◌, refl, subst, true, false, ℕ, List, Bool}
+use Rattle.std.proofs.Common.{rules, ◌≡◌, refl, true, ℕ, List, Bool}
 use Rattle.std.specs.Prelude.{ℤ, pos, negsuc, ◌==◌, ◌&&◌, ◌^◌, nat_lt, [], ◌∷◌, Option, Some, None, if◌then◌else◌}
 use Rattle.std.proofs.lemmas.Bool.{ltb-true, and_parts, eqb-true}
-use Rattle.std.proofs.lemmas.Option.{same_Some, none-some}
-use Rattle.rv_isa.specs.Number.{to_word, modulo, IsWithin, IsDistance}
-use Rattle.rv_isa.specs.Table.{row, Encoding, R, Amount, I, Number, S, B, U, J, Whole}
+use Rattle.std.proofs.lemmas.Option.{same_Some}
+use Rattle.rv_isa.specs.Number.{to_word, modulo}
+use Rattle.rv_isa.specs.Table.{row, Encoding, Amount, I, Number, S, B, U, J}
 use Rattle.rv_isa.specs.Fields.{kind_of}
 use Rattle.rv_isa.specs.Formats.{in_format}
 use Rattle.rv_isa.specs.Word.{encoded, AreInRange, Means}
@@ -30,31 +30,14 @@ has_immediate (U _ _) imm = nat_lt (to_word imm) (2 ^ 20)
 has_immediate (J _ _) imm = is_distance (2 ^ 20) imm
 has_immediate _ imm = true
 
-within : (b : ℕ) (z : ℤ) → is_within b z ≡ true → IsWithin b z
-within b (pos n) e = ltb-true n b e
-within b (negsuc n) e = ltb-true n b e
-
-distance : (b : ℕ) (z : ℤ) → is_distance b z ≡ true → IsDistance b z
-distance b z e = (within b z (and_parts _ _ e).0, eqb-true _ _ (and_parts _ _ e).1)
-
 immediate : (e : Encoding) (f : Fields) → has_immediate e f.imm ≡ true → (in_format e f).HasImmediate
-immediate (Amount _ _ _ _) f h = ltb-true _ _ h
-immediate (I _ _ _) f h = within _ f.imm h
-immediate (Number _ _ _) f h = ltb-true _ _ h
-immediate (S _ _ _) f h = within _ f.imm h
-immediate (B _ _ _) f h = distance _ f.imm h
-immediate (U _ _) f h = ltb-true _ _ h
-immediate (J _ _) f h = distance _ f.imm h
-immediate (R _ _ _ _) f h = tt
-immediate (Whole _ _) f h = tt
+immediate e f h = search (rules, ltb-true, and_parts, eqb-true)
 
 abbrev are_in_range : Fields → Bool
 are_in_range f = nat_lt f.rd 32 && (nat_lt f.rs1 32 && (nat_lt f.rs2 32 && has_immediate (row f.operation).1 f.imm))
 
 in_range : (f : Fields) → are_in_range f ≡ true → AreInRange f
-in_range f e =
-    let one = and_parts _ _ e in let two = and_parts _ _ one.1 in let three = and_parts _ _ two.1 in
-    (ltb-true _ _ one.0, ltb-true _ _ two.0, ltb-true _ _ three.0, immediate _ f three.1)
+in_range f e = search (rules, and_parts, ltb-true, immediate)
 
 -- ---- the kind of a word, by the rows
 abbrev pub decoded : List Row → ℕ → Option Kind
@@ -62,15 +45,10 @@ decoded [] w = None
 decoded (r ∷ rs) w =
     if (encoded (fields r) == w) && are_in_range (fields r) then Some (kind_of (fields r)) else decoded rs w
 
-chosen : (w : ℕ) (k : Kind) (f : Fields) (rest : Option Kind) (b : Bool) → (b ≡ true → Means w (Some (kind_of f)))
-    → (rest ≡ Some k → Means w (Some k)) → (if b then Some (kind_of f) else rest) ≡ Some k → Means w (Some k)
-chosen w k f rest true here there e = subst (λ k. Means w (Some k)) (same_Some _ _ e) (here refl)
-chosen w k f rest false here there e = there e
-
 of_row : (w : ℕ) (f : Fields) → ((encoded f == w) && are_in_range f) ≡ true → Means w (Some (kind_of f))
 unfolding Means
-of_row w f e = (f, in_range f (and_parts _ _ e).1, refl, eqb-true _ _ (and_parts _ _ e).0)
+of_row w f e = (f, search (rules, and_parts, in_range), refl, search (rules, and_parts, eqb-true))
 
 pub by_rows : (rows : List Row) (w : ℕ) (k : Kind) → decoded rows w ≡ Some k → Means w (Some k)
-by_rows [] w k e = absurd (none-some _ e)
-by_rows (r ∷ rs) w k e = chosen w k (fields r) _ _ (of_row w (fields r)) (by_rows rs w k) e
+by_rows [] w k e = absurd cc
+by_rows (r ∷ rs) w k e = search (rules, of_row, same_Some, by_rows rs w k)

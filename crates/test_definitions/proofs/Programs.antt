@@ -42,10 +42,8 @@ each_ends : (runs : List Run) → OneMeaning → list_all computed runs ≡ true
 unfolding board_at_reset
 each_ends [] one is = refl
 each_ends (r ∷ rs) one is =
-    let p = and_parts (computed r) (list_all computed rs) is in
-    and_from _ _
-    (run_is r.0.now at_reset (leaves r) (events r) (board_at_reset (image r.0.now) 4096) one refl p.0)
-    (each_ends rs one p.1)
+    let p = and_parts (computed r) _ is in
+    and_from _ _ (run_is r.0.now at_reset (leaves r) (events r) _ one refl p.0) (each_ends rs one p.1)
 
 pub each_run : OneMeaning → list_all ends RUNS ≡ true
 unfolding computes

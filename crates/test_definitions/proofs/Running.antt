@@ -1,6 +1,6 @@
 -- A run of a program whose words stand in rows is computed with their kinds, and with lists of sources in place of the
 -- interrupt controller's sets, which don't compute.
-use Rattle.std.proofs.Common.{◌≡◌, refl, ap, sym, ◌∙◌, true, false, ℕ, ◌%◌, ◌==◌, List, Bool, eqb-true}
+use Rattle.std.proofs.Common.{rules, ◌≡◌, refl, ap, sym, ◌∙◌, true, false, ℕ, ◌%◌, ◌==◌, List, Bool, eqb-true}
 use Rattle.std.specs.Prelude.{ℤ, [], ◌∷◌, Option, Some, None, is_some, if◌then◌else◌, ◌&&◌, Result, Ok, Err}
 use Rattle.std.specs.Option.{option_map_or}
 use Rattle.std.proofs.lemmas.Bool.{and_parts, true≢false}
@@ -16,8 +16,7 @@ use Rattle.rv_isa.specs.declared.op.Width.{Width}
 use Rattle.rv_isa.proofs.Meaning.{means_inverts}
 use Rattle.rv_isa.specs.declared.Lines.{Lines}
 use Rattle.rv_mmio.specs.Timer.{is_due, timer_ticked}
-use Rattle.rv_plic.specs.Gateways.{PlicState, forwarded, with_line}
-use Rattle.rv_plic.specs.Plic.{is_notified, plic_register}
+use Rattle.rv_plic.specs.Gateways.{forwarded}
 use Rattle.rv_plic.specs.Support.Registers.{reg_at}
 use Rattle.rv_plic.proofs.Forwarding.{none_forwarded}
 use Rattle.rv_plic.proofs.Rows.{loaded, loads, stores}
@@ -25,11 +24,11 @@ use Rattle.rv_pmp.specs.Pmp.{grants}
 use Rattle.rv_pmp.specs.declared.access.Access.TheVariants.{Execute}
 use Rattle.rv_pmp.specs.declared.access.Access.TheVariants as access
 use Rattle.rv_csr.specs.Traps.{next_interrupt}
-use Rattle.rv_bus.specs.Access.{fetch, lines_of}
+use Rattle.rv_bus.specs.Access.{fetch}
 use Rattle.rv_bus.specs.State.{BusState}
 use Rattle.rv_bus.specs.Support.AtLocation.{load_at, location, store_at}
 use Rattle.rv_bus.specs.declared.locations.Location.{Location}
-use Rattle.rv_bus.specs.declared.locations.Location.TheVariants.{Halt, Nowhere, Plic, Ram, Serial, Timer}
+use Rattle.rv_bus.specs.declared.locations.Location.TheVariants.{Plic}
 use Rattle.rv_bus.proofs.Rows.{at_location}
 use Rattle.rv_hart.specs.State.{Machine}
 use Rattle.rv_hart.specs.Effect.{csr_written, effect, execute, may_access, plus, reg, require, trap}
@@ -45,7 +44,7 @@ use Rattle.rv_hart.specs.declared.trap.Outcome.{Outcome}
 use Rattle.rv_board.specs.BoardState.{BoardState, on_bus}
 use Rattle.rv_board.specs.Move.{after_step, moved, with_event, run}
 use Rattle.rv_board.specs.declared.event.Event.{Event}
-use Rattle.rv_board.specs.declared.event.Event.TheVariants.{Step, Line, Rx}
+use Rattle.rv_board.specs.declared.event.Event.TheVariants.{Step, Line}
 use Rattle.test_definitions.specs.Support.Runs.{Row}
 use Rattle.test_definitions.proofs.Lists.{OfLists, forwarded_by, forwarded_is, line_by, line_is, loaded_by, loaded_is, notified_by, notified_is, of, requests_are, requests_by, set_of, stored_by, stored_is, word_by, words_are}
 use Rattle.test_definitions.proofs.Decoding.{decoded, by_rows}
@@ -54,8 +53,8 @@ use Rattle.test_definitions.proofs.Decoding.{decoded, by_rows}
 
 found_by : (rows : List Row) (w : ℕ) (o : Option Kind) → OneMeaning → decoded rows w ≡ o → is_some o ≡ true
     → means w ≡ o
-found_by rows w None one e some = absurd (true≢false (sym some))
 found_by rows w (Some k) one e some = one w (means w) (Some k) (means_inverts w) (by_rows rows w k e)
+found_by rows w None one e some = absurd cc
 
 -- whether a word that was fetched stands in the rows
 abbrev is_known : List Row → Option ℕ → Bool
@@ -63,8 +62,7 @@ is_known rows word = option_map_or (λ w. is_some (decoded rows w)) word true
 
 known_word : (rows : List Row) (pc : ℕ) (word : Option ℕ) → OneMeaning → is_known rows word ≡ true
     → given {B = Kind} 1 pc (λ w. given 2 w Ok (means w)) word ≡ given 1 pc (λ w. given 2 w Ok (decoded rows w)) word
-known_word rows pc None one known = refl
-known_word rows pc (Some w) one known = ap (given 2 w Ok) (found_by rows w (decoded rows w) one refl known)
+known_word rows pc word one known = search (rules, found_by)
 
 -- ---- accesses, while the sets of the interrupt controller are those of lists
 
@@ -85,18 +83,11 @@ module _ (p : OfLists) (b : BusState) (is : b.plic ≡ of p) (w : Width) where
   loads_at : (l : Location) → is_whole l ≡ true → load_at b l w ≡ loaded_at p b w l
   loads_at (Plic off) e =
       let whole : off % 4 ≡ 0 = eqb-true _ _ e in
-      ap (λ (q : PlicState). Some ((plic_register off).word q, record b { plic = (plic_register off).loaded q })) is
-      ∙ (λ i. Some (
-        (loads (of p) off whole ∙ words_are p (reg_at off)) i,
-        record b { plic = (loaded (of p) off whole ∙ loaded_is p (reg_at off)) i },
-      ))
+      rw (is, loads (of p) off whole, words_are p (reg_at off), loaded (of p) off whole, loaded_is p (reg_at off)) refl
   loads_at l e = refl
 
   stores_at : (v : ℕ) (l : Location) → is_whole l ≡ true → store_at b l w v ≡ stored_at p b w v l
-  stores_at v (Plic off) e =
-      let whole : off % 4 ≡ 0 = eqb-true _ _ e in
-      ap (λ (q : PlicState). Some (record b { plic = (plic_register off).stored q v })) is
-      ∙ (λ i. Some (record b { plic = (stores (of p) off whole v ∙ stored_is p v (reg_at off)) i }))
+  stores_at v (Plic off) e = rw (is, stores (of p) off (eqb-true _ _ e) v, stored_is p v (reg_at off)) refl
   stores_at v l e = refl
 
 -- ---- instructions
@@ -134,17 +125,10 @@ effect_is : (p : OfLists) (m : Machine) → m.bus.plic ≡ of p → (k : Kind) �
     → effect k m ≡ effect_by p k m
 unfolding execute
 effect_is p m is (Load op rd base offset) whole =
-    let addr = plus (reg m base) offset in
     let w = load_width op in
-    ap (λ found. require 4 addr (addr % bytes_of w == 0)
-    (require 5 addr (may_access m access.Read addr w) (load_result m op rd addr found)))
-    ((at_location m.bus addr w).load ∙ loads_at p m.bus is w (location m.bus addr w) whole)
+    rw ((at_location m.bus (plus (reg m base) offset) w).load, loads_at p m.bus is w _ whole) refl
 effect_is p m is (Store w source base offset) whole =
-    let addr = plus (reg m base) offset in
-    ap (λ found. require 6 addr (addr % bytes_of w == 0)
-    (require 7 addr (may_access m access.Write addr w) (store_result m addr found)))
-    ((at_location m.bus addr w).store (reg m source)
-    ∙ stores_at p m.bus is w (reg m source) (location m.bus addr w) whole)
+    rw ((at_location m.bus (plus (reg m base) offset) w).store (reg m source), stores_at p m.bus is w _ _ whole) refl
 effect_is p m is k whole = refl
 
 -- the lists after an instruction that retires
@@ -163,34 +147,14 @@ module _ (p : OfLists) (m : Machine) (is : m.bus.plic ≡ of p) where
   abbrev Has : OfLists → Machine → Type 0
   Has q new = new.bus.plic ≡ of q
 
-  loaded_has : (op : LoadOp) (rd addr : ℕ) (aligned granted : Bool) (l : Location)
-      → IfRetired (Has (after_access p (λ off. loaded_by p (reg_at off)) l)) (load_by p m op rd addr aligned granted l)
-  loaded_has op rd addr false granted l = tt
-  loaded_has op rd addr true false l = tt
-  loaded_has op rd addr true true (Plic off) = refl
-  loaded_has op rd addr true true Nowhere = tt
-  loaded_has op rd addr true true l = is
-
-  stored_has : (w : Width) (addr v : ℕ) (aligned granted : Bool) (l : Location)
-      → IfRetired (Has (after_access p (λ off. stored_by p v (reg_at off)) l)) (store_by p m w addr v aligned granted l)
-  stored_has w addr v false granted l = tt
-  stored_has w addr v true false l = tt
-  stored_has w addr v true true (Plic off) = refl
-  stored_has w addr v true true Nowhere = tt
-  stored_has w addr v true true l = is
-
   leaves : (k : Kind) (e : Result Machine Trap) → accessed k m ≡ None → IfRetired (Reaches m k) e
       → IfRetired (Has p) e
-  leaves k (Ok new) none (devices.nothing same) = ap (λ (b : BusState). b.plic) same ∙ is
-  leaves k (Ok new) none (devices.loaded a at granted rest) = absurd (none-some _ (sym none ∙ at))
-  leaves k (Ok new) none (devices.stored a at granted rest) = absurd (none-some _ (sym none ∙ at))
-  leaves k (Err t) none reached = tt
+  leaves k (Ok new) none (devices.nothing same) = rw same is
+  leaves k e none reached = search (rules, none-some)
 
   has_changed : (k : Kind) → IfRetired (Has (changed p m k)) (effect_by p k m)
-  has_changed (Load op rd base offset) =
-      loaded_has op rd (plus (reg m base) offset) _ _ (at_base m base offset (load_width op))
-  has_changed (Store w source base offset) =
-      stored_has w (plus (reg m base) offset) (reg m source) _ _ (at_base m base offset w)
+  has_changed (Load op rd base offset) = search rules
+  has_changed (Store w source base offset) = search rules
   has_changed k = leaves k (effect k m) refl (reaches m k)
 
 -- ---- a step
@@ -214,14 +178,12 @@ tries_whole m (Err t) = true
 
 module _ (p : OfLists) (m : Machine) (is : m.bus.plic ≡ of p) where
   attempt_is : (f : Result Kind Trap) → tries_whole m f ≡ true → attempt m f ≡ attempt_by p m f
-  attempt_is (Ok k) whole = ap (finished m (csr_written k)) (effect_is p m is k whole)
-  attempt_is (Err t) whole = refl
+  attempt_is f whole = search (rules, effect_is)
 
   finished_has : (wrote : Option ℕ) (q : OfLists) (e : Result Machine Trap) → IfRetired (λ new. new.bus.plic ≡ of q) e
       → (finished m wrote e).0.bus.plic ≡ of (after_effect p q e)
   unfolding counts enter
-  finished_has wrote q (Ok new) has = has
-  finished_has wrote q (Err t) has = is
+  finished_has wrote q e has = search rules
 
   attempt_has : (f : Result Kind Trap) → (attempt_by p m f).0.bus.plic ≡ of (lists_after p m f)
   attempt_has (Ok k) = finished_has (csr_written k) (changed p m k) (effect_by p k m) (has_changed p m is k)
@@ -236,10 +198,10 @@ abbrev tick_by : OfLists → OfLists
 tick_by p = forwarded_if p (requests_by p)
 
 tick_is : (p : OfLists) → forwarded (of p) ≡ of (tick_by p)
-tick_is p = by (requests_by p) refl where
-  by : (new : List ℕ) → requests_by p ≡ new → forwarded (of p) ≡ of (forwarded_if p new)
-  by [] none = none_forwarded (of p) (requests_are p ∙ ap (λ xs. set_of xs) none)
-  by (s ∷ ss) some = forwarded_is p
+tick_is p = elim (requests_by p) as (λ new. requests_by p ≡ new → forwarded (of p) ≡ of (forwarded_if p new)) [
+  | [] ↦ λ none. none_forwarded (of p) (requests_are p ∙ ap set_of none)
+  | s ∷ ss ↦ λ some. forwarded_is p
+] refl
 
 -- the machine after a tick
 abbrev ticked_by : OfLists → Machine → Machine
@@ -247,23 +209,12 @@ ticked_by p m =
     record m { bus = record m.bus { timer = timer_ticked m.bus.timer; plic = of (tick_by p) } }
 
 ticked_is : (p : OfLists) (m : Machine) → m.bus.plic ≡ of p → ticked m ≡ ticked_by p m
-ticked_is p m is i =
-    record m {
-      bus = record m.bus { timer = timer_ticked m.bus.timer; plic = (ap forwarded is ∙ tick_is p) i };
-    }
+ticked_is p m is = rw (is, tick_is p) refl
 
 -- the levels of the interrupt lines
 abbrev lines_by : OfLists → Machine → Lines
 lines_by p m =
     record { software = m.bus.timer.software; timer = is_due m.bus.timer; external = notified_by p }
-
-lines_are : (p : OfLists) (m : Machine) → m.bus.plic ≡ of p → lines_of m.bus ≡ lines_by p m
-lines_are p m is i =
-    record {
-      software = m.bus.timer.software;
-      timer = is_due m.bus.timer;
-      external = (ap is_notified is ∙ notified_is p) i;
-    }
 
 abbrev fetched_by : List Row → OfLists → Machine → Result Kind Trap
 fetched_by rows p m =
@@ -279,10 +230,8 @@ known_fetch : (rows : List Row) (p : OfLists) (m : Machine) → OneMeaning
     → is_known rows (fetch m.bus.ram m.pc) ≡ true → m.bus.plic ≡ of p
     → fetched m ≡ fetched_by rows p m
 unfolding fetch_result
-known_fetch rows p m one known is i =
-    option_map_or (λ cause. trap cause 0) (next_interrupt m.csrs m.mode (lines_are p m is i))
-    (require 1 m.pc (grants m.csrs.pmp m.mode Execute m.pc 4)
-    (known_word rows m.pc (fetch m.bus.ram m.pc) one known i))
+known_fetch rows p m one known is =
+    rw (is, notified_is p, known_word rows m.pc (fetch m.bus.ram m.pc) one known) refl
 
 -- whether a step can be computed: its word stands in the rows, and it accesses whole registers
 abbrev is_computed : List Row → OfLists → Machine → Bool
@@ -328,49 +277,27 @@ ran rows p (e ∷ es) b =
 module _ (rows : List Row) (p : OfLists) (b : BoardState) (one : OneMeaning)
     (known : is_computed rows p b.machine ≡ true) (is : b.machine.bus.plic ≡ of p) where
   known_event : (e : Event) → with_event b e ≡ event_by rows p b e
-  known_event Step = ap (after_step b) (known_step rows p b.machine one known is)
-  known_event (Line source high) =
-      ap (λ (q : PlicState). on_bus b (λ bus. record bus { plic = with_line q source high })) is
-      ∙ ap (λ (q : PlicState). on_bus b (λ bus. record bus { plic = q })) (line_is p source high)
-  known_event (Rx byte) = refl
+  known_event e = search (rules, known_step, line_is)
 
   known_move : (e : Event) → moved b e ≡ moved_by rows p b e
   unfolding moved
-  known_move e = ap (λ new. if is_some b.machine.bus.halt then b else new) (known_event e)
+  known_move e = rw (known_event e) refl
 
   event_has : (e : Event) → (event_by rows p b e).machine.bus.plic ≡ of (lists_by rows p b e)
-  event_has Step =
-      attempt_has (tick_by p) (ticked_by p b.machine) refl (fetched_by rows (tick_by p) (ticked_by p b.machine))
-  event_has (Line source high) = refl
-  event_has (Rx byte) = is
+  event_has e = search (rules, attempt_has)
 
   moved_has : (e : Event) → (moved_by rows p b e).machine.bus.plic ≡ of (lists_on rows p b e)
-  moved_has e = by (is_some b.machine.bus.halt) where
-    by : (halted : Bool)
-        → (if halted then b else event_by rows p b e).machine.bus.plic ≡ of (if halted then p else lists_by rows p b e)
-    by true = is
-    by false = event_has e
-
-module _ (rows : List Row) (p : OfLists) (test : BoardState → Bool) (es : List Event) (b : BoardState) (x : Event)
-    (one : OneMeaning) (is : b.machine.bus.plic ≡ of p) where
-  goes_on : ((moved_by rows p b x).machine.bus.plic ≡ of (lists_on rows p b x)
-      → option_map_or test (ran rows (lists_on rows p b x) es (moved_by rows p b x)) false ≡ true
-      → test (run (moved_by rows p b x) es) ≡ true)
-      → (known : Bool) → is_computed rows p b.machine ≡ known
-      → option_map_or test (if known then ran rows (lists_on rows p b x) es (moved_by rows p b x) else None) false
-      ≡ true
-      → test (run b (x ∷ es)) ≡ true
-  goes_on others true known e =
-      ap (λ (new : BoardState). test (run new es)) (known_move rows p b one known is x)
-      ∙ others (moved_has rows p b one known is x) e
-  goes_on others false known e = absurd (true≢false (sym e))
+  moved_has e = search (rules, event_has)
 
 -- what a computed run says of its end holds of the run
 pub run_is : (rows : List Row) (p : OfLists) (test : BoardState → Bool) (es : List Event) (b : BoardState)
     → OneMeaning → b.machine.bus.plic ≡ of p → option_map_or test (ran rows p es b) false ≡ true
     → test (run b es) ≡ true
 run_is rows p test [] b one is e = e
-run_is rows p test (x ∷ es) b one is e =
-    goes_on rows p test es b x one is
-    (run_is rows (lists_on rows p b x) test es (moved_by rows p b x) one)
-    (is_computed rows p b.machine) refl e
+run_is rows p test (x ∷ es) b one is e = elim (is_computed rows p b.machine) as (λ k. is_computed rows p b.machine ≡ k
+    → option_map_or test (if k then ran rows (lists_on rows p b x) es (moved_by rows p b x) else None) false ≡ true
+    → test (run b (x ∷ es)) ≡ true) [
+      | true ↦ λ known e. rw (known_move rows p b one known is x)
+          (run_is rows (lists_on rows p b x) test es (moved_by rows p b x) one (moved_has rows p b one known is x) e)
+      | false ↦ λ known e. absurd (true≢false (sym e))
+    ] refl e
