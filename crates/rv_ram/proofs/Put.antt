@@ -1,8 +1,9 @@
 -- Writes of values to lists of bytes.
-use Rattle.std.proofs.Common.{◌≡◌, ℕ, zero, suc, ◌+◌, ◌-◌, ◌/◌, ◌%◌, ◌^◌, ◌≤◌, List, ◌++◌, true, length, slice_index, slice_set, ◌<◌, arith, refl, ap, ◌∙◌, rules}
+use Rattle.std.proofs.Common.{◌≡◌, ℕ, zero, suc, ◌+◌, ◌/◌, ◌%◌, ◌^◌, ◌≤◌, List, true, length, slice_index, slice_set, ◌<◌, inl, inr, arith, refl, sym, ◌∙◌, rules}
 use Rattle.std.proofs.Math.ListN.{set}
-use Rattle.std.proofs.lemmas.Bool.{eqb-true}
-use Rattle.std.proofs.lemmas.List.{set-append_left, set-append_right, set-get_or, length-set}
+use Rattle.std.proofs.lemmas.Bool.{eqb-true, cases_eq}
+use Rattle.std.proofs.lemmas.Grind.{get_or-set_at}
+use Rattle.std.proofs.lemmas.List.{get_or-set_other, set-get_or, length-set}
 use Rattle.rv_isa.specs.declared.op.Width.{Width}
 use Rattle.rv_isa.specs.Width.{bytes_of}
 use Rattle.rv_ram.specs.Bytes.{put}
@@ -45,18 +46,18 @@ unfolding put
 length_put bs i zero v = refl
 length_put bs i (suc n) v = length-set (put bs i n v) (i + n) _ ∙ length_put bs i n v
 
--- a write to the first of two joined lists
-pub put_left : (xs ys : List ℕ) (i n v : ℕ) → i + n ≤ length xs → put (xs ++ ys) i n v ≡ put xs i n v ++ ys
+-- one byte of two writes of the same bytes, in the written part of both or of none
+pub put_moved : (xs ys : List ℕ) (a b n v j k : ℕ) → a + n ≤ length xs → b + n ≤ length ys
+    → ((d : ℕ) → d < n → j ≡ a + d → k ≡ b + d) → ((d : ℕ) → d < n → k ≡ b + d → j ≡ a + d)
+    → slice_index xs j ≡ slice_index ys k → slice_index (put xs a n v) j ≡ slice_index (put ys b n v) k
 unfolding put
-put_left xs ys i zero v l = refl
-put_left xs ys i (suc n) v l = search (rules, set-append_left, length_put, put_left xs ys i n v (omega arith))
-
-set_right : (xs ys : List ℕ) (n k j x : ℕ) → length xs ≡ n → j ≡ n + k → set (xs ++ ys) j x ≡ xs ++ set ys k x
-set_right xs ys n k j x e q =
-    let d : j - n ≡ k = omega arith in set-append_right xs ys n j x e (omega arith) ∙ ap (λ i. xs ++ set ys i x) d
-
--- a write to the second of two joined lists
-pub put_right : (xs ys : List ℕ) (k i n v : ℕ) → length xs ≡ k → put (xs ++ ys) (k + i) n v ≡ xs ++ put ys i n v
-unfolding put
-put_right xs ys k i zero v e = refl
-put_right xs ys k i (suc n) v e = search (rules, set_right, put_right xs ys k i n v e)
+put_moved xs ys a b zero v j k l h to from e = e
+put_moved xs ys a b (suc n) v j k l h to from e = elim (cases_eq j (a + n)) [
+  | inl q ↦
+      get_or-set_at (put xs a n v) (a + n) j _ 0 q (omega (arith, l, length_put xs a n v))
+      ∙ sym (get_or-set_at (put ys b n v) (b + n) k _ 0 (to n (omega arith) q) (omega (arith, h, length_put ys b n v)))
+  | inr q ↦
+      get_or-set_other (put xs a n v) (a + n) j _ 0 q
+      ∙ put_moved xs ys a b n v j k (omega arith) (omega arith) (λ d m. to d (omega arith)) (λ d m. from d (omega arith)) e
+      ∙ sym (get_or-set_other (put ys b n v) (b + n) k _ 0 (λ r. q (from n (omega arith) r)))
+]
