@@ -1,7 +1,6 @@
 -- The entries that match addresses, one after another.
-use Rattle.std.proofs.Common.{◌≡◌, ℕ, ◌+◌, ◌<◌, ◌≤◌, true, false, List, [], ◌∷◌, ◌++◌, length, take, drop, get_or, refl, add-one, append_assoc, append-nil}
-use Rattle.std.proofs.Math.Seq.{drop-cons}
-use Rattle.std.proofs.lemmas.List.{take_more_set, drop_all}
+use Rattle.std.proofs.Common.{◌≡◌, ℕ, ◌+◌, ◌<◌, ◌≤◌, true, false, List, [], ◌∷◌, ◌++◌, length, take, drop, get_or, refl, ap, arith, append_assoc, append-nil, length-append}
+use Rattle.std.proofs.lemmas.List.{take_more_set, drop_all, drop_more}
 use Rattle.std.proofs.Math.ListN.{set}
 use Rattle.rv_pmp.specs.declared.active_entries.ActiveEntry.{ActiveEntry}
 use Rattle.rv_pmp.specs.declared.entry.Entry.{Entry}
@@ -12,20 +11,29 @@ pub take_push : (items : List ActiveEntry) (count : ℕ) (a : ActiveEntry) → c
     → take (count + 1) (set items count a) ≡ take count items ++ a ∷ []
 take_push items count a h = take_more_set items count a h
 
--- the next entry matches addresses, or it doesn't
-pub one_more : (lower : ℕ) (es : List Entry) (xs ys all : List ActiveEntry) (i : ℕ) (e : Entry) (a : ActiveEntry)
-    → i < length es
-    → is_matching (get_or es i e).matching ≡ true → a ≡ active_of lower (get_or es i e) → ys ≡ xs ++ a ∷ []
-    → xs ++ actives_from lower (drop i es) ≡ all → ys ++ actives_from (get_or es i e).address (drop (i + 1) es) ≡ all
-unfolding actives_from
-one_more lower es xs ys all i e a h on is more done =
-    rw (more, is, ← done, drop-cons es i e h, on, add-one, append_assoc) refl
+-- what is selected of the entries before one, and what is left to select
+pub record IsSelected (es : List Entry) (lower : ℕ) (xs : List ActiveEntry) (i : ℕ) : Type 0 where
+  pub room : length xs ≤ i
+  pub done : xs ++ actives_from lower (drop i es) ≡ actives_from 0 es
 
-pub none_more : (lower : ℕ) (es : List Entry) (xs ys all : List ActiveEntry) (i : ℕ) (e : Entry) → i < length es
-    → is_matching (get_or es i e).matching ≡ false → ys ≡ xs → xs ++ actives_from lower (drop i es) ≡ all
-    → ys ++ actives_from (get_or es i e).address (drop (i + 1) es) ≡ all
+-- the next entry matches addresses, or it doesn't
+pub one_more : (lower : ℕ) (es : List Entry) (xs ys : List ActiveEntry) (i : ℕ) (e : Entry) (a : ActiveEntry)
+    → i < length es → IsSelected es lower xs i → is_matching (get_or es i e).matching ≡ true
+    → a ≡ active_of lower (get_or es i e) → ys ≡ xs ++ a ∷ [] → IsSelected es (get_or es i e).address ys (i + 1)
 unfolding actives_from
-none_more lower es xs ys all i e h off same done = rw (same, ← done, drop-cons es i e h, off, add-one) refl
+one_more lower es xs ys i e a h so on is more = record {
+  room = omega (arith, so.room, ap length more, length-append xs (a ∷ []));
+  done = rw (more, is, ← so.done, drop_more es i e h, on, append_assoc) refl;
+}
+
+pub none_more : (lower : ℕ) (es : List Entry) (xs ys : List ActiveEntry) (i : ℕ) (e : Entry) → i < length es
+    → IsSelected es lower xs i → is_matching (get_or es i e).matching ≡ false → ys ≡ xs
+    → IsSelected es (get_or es i e).address ys (i + 1)
+unfolding actives_from
+none_more lower es xs ys i e h so off same = record {
+  room = omega (arith, so.room, ap length same);
+  done = rw (same, ← so.done, drop_more es i e h, off) refl;
+}
 
 pub no_more : (lower : ℕ) (es : List Entry) (xs : List ActiveEntry) (i : ℕ) → length es ≤ i
     → xs ++ actives_from lower (drop i es) ≡ xs

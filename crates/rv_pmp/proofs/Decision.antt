@@ -1,13 +1,11 @@
 -- The decision by spans is the one by number.
-use Rattle.std.proofs.Common.{rules, ◌≡◌, ℕ, zero, suc, ◌+◌, ◌-◌, ◌*◌, ◌%◌, ◌^◌, ◌<◌, ◌≤◌, ◌⊎◌, inl, Bool, true, false, cond, List, [], ◌∷◌, length, drop, get_or, Option, Some, None, refl, ap, sym, ◌∙◌, arith, add-one, add-zero, nat_lt, nat_le, ◌/◌, ◌==◌, eqb-true, mul_assoc, div-add-mod', add-sub_of_le}
+use Rattle.std.proofs.Common.{rules, ◌≡◌, ℕ, zero, suc, ◌+◌, ◌-◌, ◌*◌, ◌%◌, ◌^◌, ◌<◌, ◌≤◌, ◌⊎◌, inl, Bool, true, false, List, [], ◌∷◌, length, drop, get_or, Option, Some, None, refl, ap, sym, ◌∙◌, arith, nat_lt, nat_le, ◌/◌, ◌==◌, eqb-true, mul_assoc, div-add-mod', add-sub_of_le}
 use Rattle.std.specs.Prelude.{if◌then◌else◌, ◌&&◌, find, unwrap_or}
 use Rattle.std.specs.List.{list_any, list_all, range_with_len}
-use Rattle.std.specs.Option.{option_map_or}
 use Rattle.std.proofs.lemmas.Bool.{and_parts, or_parts}
 use Rattle.std.proofs.lemmas.Bool.Decides.{nat_tests}
 use Rattle.std.proofs.lemmas.Grind.{common_steps}
-use Rattle.std.proofs.Math.Seq.{drop-cons}
-use Rattle.std.proofs.lemmas.List.{drop_all}
+use Rattle.std.proofs.lemmas.List.{drop_all, drop_more}
 use Rattle.std.proofs.lemmas.Nat.{pow_pos, pow-add, mod_below, div-mul-add}
 use Rattle.rv_isa.specs.Width.{bytes_of}
 use Rattle.rv_isa.specs.declared.op.Width.{Width}
@@ -22,7 +20,7 @@ use Rattle.rv_pmp.specs.declared.span.Span.{Span}
 use Rattle.rv_pmp.specs.Mode.{is_machine}
 use Rattle.rv_pmp.specs.Entry.{matched, permits, trailing_ones}
 use Rattle.rv_pmp.specs.Support.ActiveEntries.{entry_answer, decision, some_on, some_locked, active_of, actives_from}
-use Rattle.rv_pmp.specs.Pmp.{PmpState, decided, decider, entry_at, grants, lower_of, matches, off_entry}
+use Rattle.rv_pmp.specs.Pmp.{PmpState, decided, entry_at, grants, lower_of, matches, off_entry}
 use Rattle.rv_pmp.specs.Support.Span.{is_between, span, span_of, holds, meets}
 
 -- ---- one step of the search
@@ -32,13 +30,13 @@ pub decision-entry_answer : (mode : Mode) (access : Access) (first last : ℕ) (
     → i < length xs → entry_answer mode access first last (get_or xs i a) ≡ Some granted
     → decision mode access first last (drop i xs) ≡ Some granted
 unfolding decision
-decision-entry_answer mode access first last xs i a granted h e = rw (drop-cons xs i a h) (search rules)
+decision-entry_answer mode access first last xs i a granted h e = rw (drop_more xs i a h) (search rules)
 
 pub decision-passed : (mode : Mode) (access : Access) (first last : ℕ) (xs : List ActiveEntry) (i : ℕ) (a : ActiveEntry)
     → i < length xs → entry_answer mode access first last (get_or xs i a) ≡ None
     → decision mode access first last (drop (i + 1) xs) ≡ decision mode access first last (drop i xs)
 unfolding decision
-decision-passed mode access first last xs i a h e = rw (add-one, drop-cons xs i a h) (search rules)
+decision-passed mode access first last xs i a h e = rw (drop_more xs i a h) (search rules)
 
 pub decision-end : (mode : Mode) (access : Access) (first last : ℕ) (xs : List ActiveEntry) (i : ℕ)
     → length xs ≤ i → decision mode access first last (drop i xs) ≡ None
@@ -150,45 +148,19 @@ decision-more : (mode : Mode) (access : Access) (first last lower : ℕ) (e : En
 unfolding decision actives_from step span_of
 decision-more mode access first last lower e es = search rules
 
--- what is said of the numbers after one is what is said of those before them
-found_after : (p q : ℕ → Bool) (f g : ℕ → Bool) (d : Bool) → ((n : ℕ) → p (suc n) ≡ q n)
-    → ((n : ℕ) → f (suc n) ≡ g n) → (a next count : ℕ) → next ≡ suc a
-    → option_map_or f (find p (range_with_len next count)) d ≡ option_map_or g (find q (range_with_len a count)) d
-found_after p q f g d tests says a next zero is = refl
-found_after p q f g d tests says a next (suc count) is =
-    grind (arith, nat_tests, common_steps, found_after p q f g d tests says (a + 1) (next + 1) count)
-
--- the address register before an entry of a list, with that before the first, and whether the entry matches a byte
-abbrev lower_from : ℕ → List Entry → ℕ → ℕ
-lower_from lower es zero = lower
-lower_from lower es (suc n) = (get_or es n off_entry).address
-
-abbrev matches_from : ℕ → List Entry → ℕ → ℕ → Bool
-matches_from lower es n byte =
-    matched (get_or es n off_entry).matching (lower_from lower es n) (get_or es n off_entry).address byte
-
--- the decision of the first of the entries with these numbers that matches any of the bytes
-abbrev decided_from : Mode → Access → List ℕ → ℕ → List Entry → List ℕ → Bool
-decided_from mode access bytes lower es ns =
-    option_map_or (λ n. list_all (matches_from lower es n) bytes && permits (get_or es n off_entry) mode access)
-    (find (λ n. list_any (matches_from lower es n) bytes) ns) (is_machine mode)
-
-matches-after : (lower : ℕ) (e : Entry) (es : List Entry) (n : ℕ)
-    → matches_from lower (e ∷ es) (suc n) ≡ matches_from e.address es n
-matches-after lower e es zero = refl
-matches-after lower e es (suc n) = refl
-
-decided-after : (mode : Mode) (access : Access) (bytes : List ℕ) (lower : ℕ) (e : Entry) (es : List Entry)
-    → decided_from mode access bytes lower (e ∷ es) (range_with_len 1 (length es))
-    ≡ decided_from mode access bytes e.address es (range_with_len 0 (length es))
-decided-after mode access bytes lower e es = search (rules, nat_tests, found_after, matches-after)
-
-decision-spans : (mode : Mode) (access : Access) (a n lower : ℕ) (es : List Entry)
-    → unwrap_or (decision mode access a (a + suc n) (actives_from lower es)) (is_machine mode)
-    ≡ decided_from mode access (range_with_len a (suc n)) lower es (range_with_len 0 (length es))
+-- of the entries from number k on
+decision-spans : (pmp : PmpState) (mode : Mode) (access : Access) (a n k count : ℕ) → k + count ≡ length pmp.entries
+    → unwrap_or (decision mode access a (a + suc n) (actives_from (lower_of pmp k) (drop k pmp.entries)))
+    (is_machine mode) ≡ decided pmp mode access (range_with_len a (suc n))
+    (find (λ i. list_any (matches pmp i) (range_with_len a (suc n))) (range_with_len k count))
 unfolding decision actives_from step
-decision-spans mode access a n lower [] = refl
-decision-spans mode access a n lower (e ∷ es) = grind (arith, nat_tests, common_steps, decision-more, any_matched, decided-after, all_matched, decision-spans mode access a n e.address es)
+decision-spans pmp mode access a n k zero all = rw (drop_all k pmp.entries (omega (arith, all))) refl
+decision-spans pmp mode access a n k (suc count) all = let next : k + 1 ≡ suc k = omega arith in rw (
+  drop_more pmp.entries k off_entry (omega (arith, all)),
+  decision-more mode access a (a + suc n) (lower_of pmp k) (entry_at pmp k) (drop (k + 1) pmp.entries),
+  any_matched (lower_of pmp k) (entry_at pmp k) a n,
+  next,
+) (grind (arith, nat_tests, common_steps, all_matched, decision-spans pmp mode access a n (suc k) count))
 
 -- ---- answers without a search
 
@@ -214,27 +186,27 @@ decision-word access first last lower (e ∷ es) free some within = grind (arith
 
 -- ---- the answer of the registers
 
-same_matches : (pmp : PmpState) (n byte : ℕ) → matches pmp n byte ≡ matches_from 0 pmp.entries n byte
-same_matches pmp n byte = search rules
-
-by_entries : (pmp : PmpState) (mode : Mode) (access : Access) (bytes : List ℕ)
-    → decided pmp mode access bytes (decider pmp bytes)
-    ≡ decided_from mode access bytes 0 pmp.entries (range_with_len 0 (length pmp.entries))
-by_entries pmp mode access bytes = search (rules, same_matches)
-
 pub decision-grants : (pmp : PmpState) (mode : Mode) (access : Access) (first count : ℕ) → 0 < count
     → unwrap_or (decision mode access first (first + count) (actives_from 0 pmp.entries)) (is_machine mode)
     ≡ grants pmp mode access first count
 unfolding grants
 decision-grants pmp mode access first zero h = absurd (omega arith)
-decision-grants pmp mode access first (suc n) h = grind (arith, nat_tests, common_steps, decision-spans, by_entries)
+decision-grants pmp mode access first (suc n) h = decision-spans pmp mode access first n 0 (length pmp.entries) (omega arith)
+
+-- that of the entry that decides, or that of the mode
+pub grants-some : (pmp : PmpState) (mode : Mode) (access : Access) (first count : ℕ) (granted : Bool) → 0 < count
+    → decision mode access first (first + count) (actives_from 0 pmp.entries) ≡ Some granted
+    → grants pmp mode access first count ≡ granted
+grants-some pmp mode access first count granted h d = rw (← decision-grants pmp mode access first count h, d) refl
+
+pub grants-none : (pmp : PmpState) (mode : Mode) (access : Access) (first count : ℕ) → 0 < count
+    → decision mode access first (first + count) (actives_from 0 pmp.entries) ≡ None
+    → grants pmp mode access first count ≡ is_machine mode
+grants-none pmp mode access first count h d = rw (← decision-grants pmp mode access first count h, d) refl
 
 pub grants-off : (pmp : PmpState) (mode : Mode) (access : Access) (first count : ℕ) → 0 < count
     → some_on pmp.entries ≡ false → grants pmp mode access first count ≡ is_machine mode
-grants-off pmp mode access first count h off = rw (
-  ← decision-grants pmp mode access first count h,
-  decision-off mode access first (first + count) 0 pmp.entries off,
-) refl
+grants-off pmp mode access first count h off = search (rules, grants-none, decision-off)
 
 pub grants-word : (pmp : PmpState) (access : Access) (first count : ℕ) → 0 < count
     → some_locked pmp.entries ≡ false → first % 4 + count ≤ 4 → grants pmp Machine access first count ≡ true
@@ -248,55 +220,19 @@ grants-aligned pmp access first w free aligned = search (rules, grants-word)
 
 -- ---- bytes that are granted together are granted one by one
 
-any_byte : (p : ℕ → Bool) (first count i : ℕ) → i < count → list_any p (range_with_len first count) ≡ false
-    → p (first + i) ≡ false
-any_byte p first zero i h none = absurd (omega arith)
-any_byte p first (suc count) zero h none = rw add-zero ((or_parts (p first) _ none).0)
-any_byte p first (suc count) (suc i) h none =
-    grind (arith, nat_tests, common_steps, or_parts, any_byte p (first + 1) count i)
-
-all_bytes : (p : ℕ → Bool) (first count i : ℕ) → i < count → list_all p (range_with_len first count) ≡ true
-    → p (first + i) ≡ true
-all_bytes p first zero i h all = absurd (omega arith)
-all_bytes p first (suc count) zero h all = rw add-zero ((and_parts (p first) _ all).0)
-all_bytes p first (suc count) (suc i) h all =
-    grind (arith, nat_tests, common_steps, and_parts, all_bytes p (first + 1) count i)
-
-decided_each : (pmp : PmpState) (mode : Mode) (access : Access) (first count i : ℕ) → i < count → (ns : List ℕ)
-    → decided pmp mode access (range_with_len first count)
-    (find (λ n. list_any (matches pmp n) (range_with_len first count)) ns) ≡ true
-    → decided pmp mode access (range_with_len (first + i) 1)
-    (find (λ n. list_any (matches pmp n) (range_with_len (first + i) 1)) ns) ≡ true
-decided_each pmp mode access first count i h [] granted = granted
-decided_each pmp mode access first count i h (n ∷ ns) granted =
-    elim (list_any (matches pmp n) (range_with_len first count)) as (λ b.
-    list_any (matches pmp n) (range_with_len first count) ≡ b → decided pmp mode access (range_with_len first count)
-    (cond b (Some n) (find (λ n. list_any (matches pmp n) (range_with_len first count)) ns)) ≡ true
-    → decided pmp mode access (range_with_len (first + i) 1)
-    (find (λ n. list_any (matches pmp n) (range_with_len (first + i) 1)) (n ∷ ns)) ≡ true) [
-      | true ↦ λ m r.
-          let parts = and_parts (list_all (matches pmp n) (range_with_len first count)) _ r in
-          let held = all_bytes (matches pmp n) first count i h parts.0 in
-          rw (held, held) parts.1
-      | false ↦ λ m r.
-          rw (any_byte (matches pmp n) first count i h m) (decided_each pmp mode access first count i h ns r)
-    ] refl granted
+decision_each : (mode : Mode) (access : Access) (first last byte : ℕ) → first ≤ byte → byte < last
+    → (xs : List ActiveEntry) → unwrap_or (decision mode access first last xs) (is_machine mode) ≡ true
+    → unwrap_or (decision mode access byte (byte + 1) xs) (is_machine mode) ≡ true
+unfolding decision
+decision_each mode access first last byte from to [] granted = granted
+decision_each mode access first last byte from to (x ∷ xs) granted =
+    search (rules, and_parts, nat_tests, decision_each mode access first last byte from to xs)
 
 pub grants_each : (pmp : PmpState) (mode : Mode) (access : Access) (first count i : ℕ) → i < count
     → grants pmp mode access first count ≡ true → grants pmp mode access (first + i) 1 ≡ true
-unfolding grants
-grants_each pmp mode access first count i h granted = search (rules, nat_tests, decided_each)
-
--- the answer of `allowed`: that of the entry that decides, or that of the mode
-pub grants-some : (pmp : PmpState) (mode : Mode) (access : Access) (first count : ℕ) (granted : Bool) → 0 < count
-    → decision mode access first (first + count) (actives_from 0 pmp.entries) ≡ Some granted
-    → grants pmp mode access first count ≡ granted
-grants-some pmp mode access first count granted h d = rw (← decision-grants pmp mode access first count h, d) refl
-
-pub grants-none : (pmp : PmpState) (mode : Mode) (access : Access) (first count : ℕ) → 0 < count
-    → decision mode access first (first + count) (actives_from 0 pmp.entries) ≡ None
-    → grants pmp mode access first count ≡ is_machine mode
-grants-none pmp mode access first count h d = rw (← decision-grants pmp mode access first count h, d) refl
+grants_each pmp mode access first count i h granted = rw (← decision-grants pmp mode access (first + i) 1 (omega arith))
+    (decision_each mode access first (first + count) (first + i) (omega arith) (omega arith) (actives_from 0 pmp.entries)
+    (decision-grants pmp mode access first count (omega arith) ∙ granted))
 
 pub ruleset quick_answers = (grants-off, grants-word, grants-some, grants-none)
 

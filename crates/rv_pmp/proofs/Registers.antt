@@ -1,20 +1,20 @@
 -- The registers by number are what the code reads and writes.
 use Rattle.std.proofs.lemmas.Grind.{common_steps}
-use Rattle.std.proofs.Common.{rules, ◌≡◌, ◌≢◌, ◌∙◌, ℕ, zero, suc, ◌+◌, ◌-◌, ◌*◌, ◌<◌, ◌≤◌, ◌==◌, Bool, true, false, List, [], ◌∷◌, length, map, get_or, Some, None, refl, arith, add-zero, nat_lt}
-use Rattle.std.specs.Prelude.{slice_get, slice_set, if◌then◌else◌, ◌&&◌, not}
+use Rattle.std.proofs.Common.{rules, ◌≡◌, ◌≢◌, ◌∙◌, ℕ, zero, suc, ◌+◌, ◌-◌, ◌*◌, ◌<◌, ◌==◌, true, List, [], ◌∷◌, length, map, get_or, Some, None, refl, sym, arith, add-zero, nat_lt}
+use Rattle.std.specs.Prelude.{slice_get, if◌then◌else◌, ◌&&◌, not}
 use Rattle.std.specs.List.{range_with_len}
 use Rattle.std.specs.Option.{option_map, option_map_or}
 use Rattle.std.proofs.Math.ListN.{get_or-eq_default}
 use Rattle.std.proofs.Math.Bool.{and-false, and-true}
 use Rattle.std.proofs.lemmas.List.FromFn.{fill_by_all, get_or-map-range_with_len, length-map-range_with_len}
 use Rattle.std.proofs.lemmas.Bool.Decides.{nat_tests}
+use Rattle.std.proofs.lemmas.Option.{slice_get-get_or, slice_get_past}
 use Rattle.rv_pmp.specs.declared.entry.Entry.{Entry}
 use Rattle.rv_pmp.specs.declared.register.PmpRegister.{PmpRegister}
 use Rattle.rv_pmp.specs.declared.register.PmpRegister.TheVariants.{Config}
 use Rattle.rv_pmp.specs.Entry.{matching_code, config_byte, configured, addressed}
 use Rattle.rv_pmp.specs.Pmp.{PmpState, is_address, is_config, off_entry, entry_at, config_word, is_locked_tor, read_register, write_register, written}
-use Rattle.rv_pmp.specs.Support.Registers.{register_at, word_of, byte_of, with_config, starts_locked, with_address, with_word}
-use Rattle.rv_pmp.proofs.Writes.{with_config-at, with_config-past, with_address-at, with_address-locked, with_address-past}
+use Rattle.rv_pmp.specs.Support.Registers.{register_at, changed_at, word_of, byte_of, with_config, starts_locked, with_address, with_word}
 
 -- ---- reads
 
@@ -49,29 +49,20 @@ address-length : (es : List Entry) (p word : ℕ) → length (with_address es p 
 unfolding with_address
 address-length es p word = search rules
 
-other : (i p : ℕ) → (i == p) ≡ false → i ≢ p
-other i p apart same = absurd (grind (arith, nat_tests))
-
-set-at : (es : List Entry) (p i : ℕ) (x : Entry) → p < length es
-    → at (slice_set es p x) i ≡ (if i == p then x else at es i)
-set-at es p i x within = search rules
-
--- the entry at a place after a change of the one at another place
-changed : (f : Entry → Entry) (es new : List Entry) (p i : ℕ) → i < length es
-    → (p < length es → new ≡ slice_set es p (f (at es p))) → (length es ≤ p → new ≡ es)
-    → at new i ≡ (if i == p then f (at es i) else at es i)
-changed f es new p i within inside outside = search rules
+-- an entry after a change of the one at a place
+changed : (f : Entry → Entry) (es : List Entry) (p i : ℕ) → i < length es
+    → at (changed_at es p f) i ≡ (if i == p then f (at es i) else at es i)
+changed f es p i within = search (rules, slice_get-get_or, slice_get_past)
 
 config-at : (es : List Entry) (p byte i : ℕ) → i < length es
     → at (with_config es p byte) i ≡ (if i == p then configured (at es i) byte else at es i)
-config-at es p byte i within = changed (λ e. configured e byte) es (with_config es p byte) p i within
-    (λ inside. with_config-at es p byte off_entry inside) (λ outside. with_config-past es p byte outside)
+unfolding with_config
+config-at es p byte i within = changed (λ e. configured e byte) es p i within
 
 address-at : (es : List Entry) (p word i : ℕ) → i < length es → at (with_address es p word) i
     ≡ (if (i == p) && not (starts_locked es (p + 1)) then addressed (at es i) word else at es i)
-unfolding with_address starts_locked addressed
-address-at es p word i within =
-    search (rules, with_address-locked, and-false, changed, addressed, with_address-at, with_address-past, and-true)
+unfolding with_address
+address-at es p word i within = search (rules, and-false, changed, addressed, and-true)
 
 -- ---- a write to a configuration register
 
@@ -125,34 +116,27 @@ unfolding write_register
 stored_entry pmp new addr word is n = grind (arith, nat_tests, common_steps, get_or-map-range_with_len, length-map-range_with_len, get_or-eq_default)
 
 module _ (pmp : PmpState) (addr word : ℕ) (sixteen : length pmp.entries ≡ 16) where
-  entries : List Entry
-  entries = map (written pmp addr word) (range_with_len 0 (length pmp.entries))
-
   same : (new : List Entry) → length new ≡ length pmp.entries
-      → ((i : ℕ) → i < 16 → at new i ≡ written pmp addr word i) → new ≡ entries
-  unfolding entries
-  same new long each =
-      fill_by_all (written pmp addr word) new (length pmp.entries) off_entry long (λ k less. each k (omega arith))
+      → ((i : ℕ) → i < 16 → at new i ≡ written pmp addr word i)
+      → map (written pmp addr word) (range_with_len 0 (length pmp.entries)) ≡ new
+  same new long each = sym (fill_by_all (written pmp addr word) new (length pmp.entries) off_entry long
+      (λ k less. each k (omega arith)))
+
+  configs_stored : is_config addr ≡ true → map (written pmp addr word) (range_with_len 0 (length pmp.entries))
+      ≡ with_word pmp.entries (Config (4 * (addr - 0x3A0))) word
+  configs_stored is = same _ (configs-length pmp.entries (4 * (addr - 0x3A0)) word)
+      (λ i less. configs-at pmp.entries (4 * (addr - 0x3A0)) word i (omega arith)
+      ∙ config_written pmp addr word i is less)
+
+  address_stored : is_address addr ≡ true → map (written pmp addr word) (range_with_len 0 (length pmp.entries))
+      ≡ with_address pmp.entries (addr - 0x3B0) word
+  address_stored is = same _ (address-length pmp.entries (addr - 0x3B0) word)
+      (λ i less. address_written pmp addr word i is less (omega arith))
 
   pub stores : write_register pmp addr word
       ≡ option_map (λ register. with_entries (with_word pmp.entries register word)) (register_at addr)
-  unfolding write_register register_at entries with_word
-  stores = go (is_config addr) refl (is_address addr) refl where
-    go : (a : Bool) → is_config addr ≡ a → (b : Bool) → is_address addr ≡ b → write_register pmp addr word
-        ≡ option_map (λ register. with_entries (with_word pmp.entries register word)) (register_at addr)
-    go true is b also = rw (
-      is,
-      same _ (configs-length pmp.entries (4 * (addr - 0x3A0)) word)
-          (λ i less. configs-at pmp.entries (4 * (addr - 0x3A0)) word i (omega arith)
-          ∙ config_written pmp addr word i is less),
-    ) refl
-    go false not_config true is = rw (
-      not_config,
-      is,
-      same _ (address-length pmp.entries (addr - 0x3B0) word)
-          (λ i less. address_written pmp addr word i is less (omega arith)),
-    ) refl
-    go false not_config false not_address = rw (not_config, not_address) refl
+  unfolding write_register register_at with_word
+  stores = search (rules, configs_stored, address_stored)
 
   pub stored_by : (register : PmpRegister) (new : PmpState) → Some register ≡ register_at addr
       → new ≡ record { entries = with_word pmp.entries register word } → write_register pmp addr word ≡ Some new
