@@ -1,23 +1,16 @@
 -- Counts of edges, where those of a set of sources are changed.
-use Rattle.std.proofs.Common.{rules, ◌≡◌, ℕ, zero, suc, ◌+◌, ◌-◌, ◌^◌, ◌<◌, ◌≤◌, Bool, true, false, [], ◌∷◌, refl, sym, ◌∙◌, ap, arith, add-zero}
+use Rattle.std.proofs.Common.{rules, ◌≡◌, ℕ, zero, suc, ◌+◌, ◌-◌, ◌^◌, ◌<◌, ◌≤◌, true, false, [], ◌∷◌, refl, sym, ◌∙◌, ap, arith}
 use Rattle.std.proofs.lemmas.Bool.Decides.{nat_tests}
 use Rattle.std.proofs.lemmas.Grind.{common_steps}
-use Rattle.std.specs.Prelude.{length, slice_index, slice_set, get_or, map, if◌then◌else◌}
-use Rattle.std.specs.List.{range_with_len}
+use Rattle.std.specs.Prelude.{length, slice_index, slice_set, get_or, if◌then◌else◌}
 use Rattle.std.specs.FinSet.{contains}
-use Rattle.std.proofs.lemmas.Bool.{le-leb}
 use Rattle.std.proofs.lemmas.List.{same_lists}
+use Rattle.std.proofs.lemmas.List.FromFn.{get_or-map-range_with_len, length-map-range_with_len}
 use Rattle.rv_plic.specs.Sources.{Sources}
-use Rattle.rv_plic.specs.Gateways.{edges_of, one_more}
+use Rattle.rv_plic.specs.Gateways.{one_more}
 use Rattle.rv_plic.specs.Withdrawn.{with_more_edges}
 use Rattle.rv_plic.specs.Support.GatewayState.{Edges, taken}
 use Rattle.rv_plic.specs.Support.Changes.{one_less, changed}
-
-pub nothing_changed : (f : ℕ → ℕ) (s : Sources) (a : ℕ) (edges : Edges)
-    → ((q : ℕ) → a ≤ q → contains s q ≡ false) → changed f s a edges ≡ edges
-unfolding changed
-nothing_changed f s a [] none = refl
-nothing_changed f s a (n ∷ ns) none = grind (arith, nat_tests, common_steps, nothing_changed f s (a + 1) ns)
 
 pub length-changed : (f : ℕ → ℕ) (s : Sources) (a : ℕ) (edges : Edges) → length (changed f s a edges) ≡ length edges
 unfolding changed
@@ -31,57 +24,27 @@ get_or-changed f s a [] k d in_list = absurd (omega arith)
 get_or-changed f s a (n ∷ ns) zero d in_list = search rules
 get_or-changed f s a (n ∷ ns) (suc k) d in_list = grind (arith, nat_tests, common_steps, contains, get_or-changed f s (a + 1) ns k d)
 
+pub nothing_changed : (f : ℕ → ℕ) (s : Sources) (a : ℕ) (edges : Edges)
+    → ((q : ℕ) → a ≤ q → contains s q ≡ false) → changed f s a edges ≡ edges
+nothing_changed f s a edges none = grind (arith, nat_tests, common_steps, same_lists, length-changed, get_or-changed)
+
 -- a pending edge that is taken and given back leaves the count as it was
 again_same : (n : ℕ) → (0 < n) × (n < 2 ^ 32) → one_more (one_less n) ≡ n
 again_same n is = search rules
 
--- ---- taking an edge of each source of a set, as the definition says it
-less : (b : Bool) (m n : ℕ) → m ≡ n → m - (if b then 1 else 0) ≡ (if b then one_less n else n)
-less b m n same = search rules
-
-taken-from : (s : Sources) (all edges : Edges) (a : ℕ) → ((k : ℕ) → edges_of all (a + k) ≡ slice_index edges k)
-    → map (λ q. edges_of all q - (if contains s q then 1 else 0)) (range_with_len a (length edges))
-    ≡ changed one_less s a edges
-unfolding changed
-taken-from s all [] a each = refl
-taken-from s all (n ∷ ns) a each =
-    λ i. less (contains s a) (edges_of all a) n (ap (edges_of all) (sym (add-zero a)) ∙ each 0) i
-    ∷ taken-from s all ns (a + 1)
-    (λ k. let place : a + 1 + k ≡ a + suc k = omega arith in ap (edges_of all) place ∙ each (suc k)) i
-
+-- ---- taking and giving an edge of each source of a set, as the definitions say it
 pub taken-changed : (s : Sources) (edges : Edges) → taken s edges ≡ changed one_less s 24 edges
 unfolding taken
-taken-changed s edges = search (rules, taken-from, le-leb)
-
--- ---- giving an edge to each source of a set, as the definition says it
-more-from : (s : Sources) (all edges : Edges) (a : ℕ) → ((k : ℕ) → edges_of all (a + k) ≡ slice_index edges k)
-    → map (λ q. if contains s q then one_more (edges_of all q) else edges_of all q) (range_with_len a (length edges))
-    ≡ changed one_more s a edges
-unfolding changed
-more-from s all [] a each = refl
-more-from s all (n ∷ ns) a each = λ i. ap (λ count. if contains s a then one_more count else count)
-    (ap (edges_of all) (sym (add-zero a)) ∙ each 0) i ∷ more-from s all ns (a + 1)
-    (λ k. let place : a + 1 + k ≡ a + suc k = omega arith in ap (edges_of all) place ∙ each (suc k)) i
+taken-changed s edges = grind (arith, nat_tests, common_steps, same_lists, length-changed, get_or-changed, get_or-map-range_with_len, length-map-range_with_len)
 
 pub more-changed : (s : Sources) (edges : Edges) → with_more_edges edges s ≡ changed one_more s 24 edges
 unfolding with_more_edges
-more-changed s edges = search (rules, more-from, le-leb)
+more-changed s edges = grind (arith, nat_tests, common_steps, same_lists, length-changed, get_or-changed, get_or-map-range_with_len, length-map-range_with_len)
 
 pub taken_and_given : (s : Sources) (a : ℕ) (edges : Edges) → ((k : ℕ) → k < length edges → contains s (a + k) ≡ true
     → (0 < slice_index edges k) × (slice_index edges k < 2 ^ 32))
     → changed one_more s a (changed one_less s a edges) ≡ edges
-unfolding changed
-taken_and_given s a [] each = refl
-taken_and_given s a (n ∷ ns) each = grind (
-  arith,
-  nat_tests,
-  common_steps,
-  again_same,
-  each 0,
-  taken_and_given s (a + 1) ns
-      (λ k in_list is. let same : a + suc k ≡ a + 1 + k = omega arith in
-      each (suc k) (omega arith) (ap (contains s) same ∙ is)),
-)
+taken_and_given s a edges each = grind (arith, nat_tests, common_steps, again_same, same_lists, length-changed, get_or-changed)
 
 -- ---- one source after the other
 -- the counts of the sources below `number` are changed, and the others are as before
