@@ -1,12 +1,12 @@
 -- Locked entries of protection, which no event changes.
-use Rattle.std.proofs.Common.{rules, arith, ◌≡◌, ◌∙◌, ℕ, List, ◌+◌, ◌*◌, ◌/◌, ◌%◌, ◌^◌, Bool, true, false, [], ◌∷◌, length, Option, Some, Result, refl, ap, nat_lt}
+use Rattle.std.proofs.Common.{rules, arith, ◌≡◌, ℕ, List, ◌/◌, ◌%◌, ◌^◌, Bool, true, [], ◌∷◌, Option, Some, Result}
 use Rattle.std.specs.Prelude.{if◌then◌else◌, ◌&&◌, not}
 use Rattle.rv_isa.specs.declared.kind.Kind.{Kind}
 use Rattle.rv_isa.specs.declared.op.CsrOp.{CsrOp}
 use Rattle.rv_isa.specs.Number.{flag}
 use Rattle.rv_pmp.specs.Entry.{addressed, configured, matching_of}
 use Rattle.rv_pmp.specs.Pmp as protection
-use Rattle.rv_pmp.specs.Pmp.{PmpState, entry_at, is_locked_tor, written}
+use Rattle.rv_pmp.specs.Pmp.{PmpState, is_locked_tor}
 use Rattle.rv_pmp.proofs.Registers.{stored_entry}
 use Rattle.rv_pmp.specs.declared.entry.Entry.{Entry}
 use Rattle.rv_pmp.specs.declared.mode.Mode.{Mode}
@@ -17,11 +17,11 @@ use Rattle.rv_csr.proofs.Table.{write_by_cases}
 use Rattle.rv_csr.specs.Traps.{entered, after_return}
 use Rattle.rv_csr.specs.declared.register.Register.{Register}
 use Rattle.rv_hart.specs.State.{Machine}
-use Rattle.rv_hart.specs.Effect.{effect}
-use Rattle.rv_hart.specs.Support.EffectParts.{exchange_effect, return_effect}
+use Rattle.rv_hart.specs.Effect.{csr_change, effect, exchange}
+use Rattle.rv_hart.specs.Support.EffectParts.{at_next, return_effect}
 use Rattle.rv_hart.specs.Step.{step, ticked, fetched, attempt, counts, enter}
 use Rattle.rv_hart.specs.declared.trap.Trap.{Trap}
-use Rattle.rv_hart.proofs.Rows.{IfRetired, rows}
+use Rattle.rv_hart.proofs.Devices.{IfRetired, rows}
 use Rattle.rv_board.specs.Support.State.{BoardState, halted_of, pmp_of}
 use Rattle.rv_board.specs.Laws.{KeepsLocked}
 use Rattle.rv_board.specs.Move.{moved, run}
@@ -63,24 +63,7 @@ module _ (e : Entry) (byte word : ℕ) where
 
 store_kept : (pmp new : PmpState) (addr word : ℕ) → protection.write_register pmp addr word ≡ Some new
     → KeepsLocked pmp new
-store_kept pmp new addr word is = record {
-  locked = λ n locked. stored_entry pmp new addr word is n ∙ same n (nat_lt n (length pmp.entries)) locked;
-  below = λ n top. ap (λ (e : Entry). e.address) (stored_entry pmp new addr word is n)
-      ∙ same_address n (nat_lt n (length pmp.entries)) top;
-}
-  where
-    byte : ℕ → ℕ
-    byte n = word / 2 ^ (8 * (n % 4)) % 2 ^ 8
-
-    same : (n : ℕ) (there : Bool) → (entry_at pmp n).locked ≡ true
-        → (if there then written pmp addr word n else entry_at pmp n) ≡ entry_at pmp n
-    same n true locked = search (rules, arith, locked_by, byte)
-    same n false locked = refl
-
-    same_address : (n : ℕ) (there : Bool) → is_locked_tor pmp (n + 1) ≡ true
-        → (if there then written pmp addr word n else entry_at pmp n).address ≡ (entry_at pmp n).address
-    same_address n true top = search (rules, arith, below_by, byte)
-    same_address n false top = refl
+store_kept pmp new addr word is = search (rules, arith, stored_entry pmp new addr word is, locked_by, below_by)
 
 -- ---- a write to a control register
 
@@ -103,8 +86,7 @@ module _ (m : Machine) where
   same_registers new same = search (rules, arith, kept)
 
   registers : (k : Kind) (op : CsrOp) (field operand rd csr : ℕ)
-      → IfRetired (KeptFrom m) (exchange_effect k m op field operand rd csr)
-  unfolding exchange_effect
+      → IfRetired (KeptFrom m) (exchange k (at_next m) (csr_change op field) operand rd csr)
   registers k op field operand rd csr = search (rules, arith, wrote_kept, kept)
 
   returns : (d : Mode) → IfRetired (KeptFrom m) (return_effect m d)

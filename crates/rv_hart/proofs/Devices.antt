@@ -1,25 +1,20 @@
 -- Which instructions change a device: loads and stores that are granted, at an address of its own.
-use Rattle.std.proofs.Common.{rules, ◌≡◌, ℕ, ◌+◌, ◌-◌, ◌*◌, ◌/◌, ◌%◌, ◌^◌, ◌<◌, ◌==◌, Bool, true, false, length, Option, Some, None, Result, Ok, Err, nat_le, arith, refl, sym, ap, subst, ◌∙◌}
-use Rattle.std.specs.Prelude.{◌&&◌, if◌then◌else◌}
+use Rattle.std.proofs.Common.{rules, ◌≡◌, ℕ, ◌+◌, ◌-◌, ◌^◌, ◌==◌, Bool, true, false, length, Option, Some, None, Result, Ok, Err, nat_le, arith, refl, ap, ◌∙◌}
+use Rattle.std.specs.Prelude.{◌&&◌, if◌then◌else◌, IfSome}
 use Rattle.std.specs.FinSet.{contains}
 use Rattle.std.proofs.lemmas.Bool.{both_ways}
-use Rattle.rv_isa.specs.Word.{word}
 use Rattle.rv_isa.specs.Width.{bytes_of}
 use Rattle.rv_isa.specs.Support.Loads.{load_width, load_value}
 use Rattle.rv_isa.specs.declared.op.CsrOp.{CsrOp}
 use Rattle.rv_isa.specs.declared.op.LoadOp.{LoadOp}
 use Rattle.rv_isa.specs.declared.op.Width.{Width}
-use Rattle.rv_isa.specs.declared.op.Width.TheVariants.{One, Two, Four}
 use Rattle.rv_isa.specs.declared.kind.Kind.{Kind}
-use Rattle.rv_isa.specs.declared.kind.Kind.TheVariants.{Jal, Jalr, Branch, Load, Store, Csr, CsrImm, Ecall, Ebreak, Mret, Wfi}
-use Rattle.rv_pmp.specs.Mode.{level}
+use Rattle.rv_isa.specs.declared.kind.Kind.TheVariants.{Load, Store}
 use Rattle.rv_pmp.specs.Pmp.{grants}
 use Rattle.rv_pmp.specs.declared.access.Access.{Access}
 use Rattle.rv_pmp.specs.declared.access.Access.TheVariants.{Read, Write}
-use Rattle.rv_pmp.specs.declared.mode.Mode.{Mode}
 use Rattle.rv_pmp.specs.declared.mode.Mode.TheVariants as mode
 use Rattle.rv_pmp.proofs.Decision.{grants_each}
-use Rattle.rv_csr.specs.State.{CsrState}
 use Rattle.rv_csr.specs.Traps.{data_mode}
 use Rattle.rv_bus.specs.State.{BusState}
 use Rattle.rv_bus.specs.Access.{load, store}
@@ -30,10 +25,10 @@ use Rattle.rv_bus.specs.declared.locations.Location.TheVariants.{Ram, Halt, Time
 use Rattle.rv_bus.proofs.Rows.{at_location}
 use Rattle.rv_hart.proofs.Claims.{at_keeps}
 use Rattle.rv_hart.specs.State.{Machine}
-use Rattle.rv_hart.specs.Effect.{csr_change, csr_written, effect, exchange, execute, plus, reg, require, trap, with_reg}
-use Rattle.rv_hart.specs.Laws.{ChangesByAccess, IsDenied, accessed, is_best}
-use Rattle.rv_hart.specs.Step.{step, ticked, fetched, attempt, finished, counts, enter}
-use Rattle.rv_hart.specs.Support.EffectParts.{Effect, given, at_next, branch_effect, jump_effect, load_effect, load_result, may_access, return_effect, store_effect, store_result, trap_step, with_result}
+use Rattle.rv_hart.specs.Effect.{csr_change, effect, exchange, execute, reg}
+use Rattle.rv_hart.specs.Laws.{ChangesByAccess, accessed, is_best}
+use Rattle.rv_hart.specs.Step.{step, ticked, fetched, attempt, counts, enter}
+use Rattle.rv_hart.specs.Support.EffectParts.{Effect, at_next, load_effect, load_result, may_access, return_effect, store_effect, store_result, with_result}
 use Rattle.rv_hart.specs.declared.trap.Trap.{Trap}
 
 -- ---- the addresses of a location
@@ -72,10 +67,6 @@ pub record LeavesByStore (a : ℕ) (b new : BusState) : Type 0 where
   pub serial : IsApart 0x10000000 12 a → new.serial ≡ b.serial
   pub pending : (s : ℕ) → contains b.plic.pending s ≡ true → contains new.plic.pending s ≡ true
 
-abbrev IfSome : {A : Type 0} → (A → Type 0) → Option A → Type 0
-IfSome P None = Unit {0}
-IfSome P (Some x) = P x
-
 module _ (b : BusState) (a : ℕ) (w : Width) where
   plic_window : (off : ℕ) → belongs a (Plic off) ≡ true → (has 0x0c000000 0x4000000 a ≡ true) × (off ≡ a - 0x0c000000)
   plic_window off is = search rules
@@ -83,7 +74,7 @@ module _ (b : BusState) (a : ℕ) (w : Width) where
   at_claim : (off : ℕ) → belongs a (Plic off) ≡ true → (off == 0x200004) ≡ (a == 0x0c200004)
   at_claim off is = search rules
 
-  loads_at : (p : Location) → belongs a p ≡ true → IfSome (λ (r : ℕ × BusState). LeavesByLoad a b r.1) (load_at b p w)
+  loads_at : (p : Location) → belongs a p ≡ true → IfSome (load_at b p w) (λ (r : ℕ × BusState). LeavesByLoad a b r.1)
   loads_at (Plic off) is = record {
     halt = refl;
     timer = refl;
@@ -93,7 +84,7 @@ module _ (b : BusState) (a : ℕ) (w : Width) where
   }
   loads_at p is = search rules
 
-  stores_at : (v : ℕ) (p : Location) → belongs a p ≡ true → IfSome (LeavesByStore a b) (store_at b p w v)
+  stores_at : (v : ℕ) (p : Location) → belongs a p ≡ true → IfSome (store_at b p w v) (LeavesByStore a b)
   stores_at v (Plic off) is = record {
     halt = λ _. refl;
     timer = λ _. refl;
@@ -103,12 +94,11 @@ module _ (b : BusState) (a : ℕ) (w : Width) where
   }
   stores_at v p is = search rules
 
-  after_load : IfSome (λ (r : ℕ × BusState). LeavesByLoad a b r.1) (load b a w)
+  after_load : IfSome (load b a w) (λ (r : ℕ × BusState). LeavesByLoad a b r.1)
   after_load = search (rules, at_location, loads_at, located)
 
-  after_store : (v : ℕ) → IfSome (LeavesByStore a b) (store b a w v)
-  after_store v = subst (IfSome (LeavesByStore a b)) (sym ((at_location b a w).store v))
-      (stores_at v (location b a w) (located (length b.ram) a w))
+  after_store : (v : ℕ) → IfSome (store b a w v) (LeavesByStore a b)
+  after_store v = rw (at_location b a w).store (stores_at v (location b a w) (located (length b.ram) a w))
 
 -- ---- an instruction
 
@@ -134,31 +124,13 @@ Ends m k P (Err t) = nat_le (2 ^ 31) t.cause ≡ false
 first_granted : (m : Machine) (access : Access) (a : ℕ) (w : Width) → may_access m access a w ≡ true
     → grants m.csrs.pmp (data_mode m.csrs m.mode) access a 1 ≡ true
 first_granted m access a w granted =
-    let at : a + 0 ≡ a = omega arith in
-    subst (λ x. grants m.csrs.pmp (data_mode m.csrs m.mode) access x 1 ≡ true) at
-    (grants_each m.csrs.pmp (data_mode m.csrs m.mode) access a (bytes_of w) 0 (some w) granted)
-  where
-    some : (w : Width) → 0 < bytes_of w
-    some One = omega arith
-    some Two = omega arith
-    some Four = omega arith
+    let at : a ≡ a + 0 = omega arith in
+    rw at (grants_each m.csrs.pmp (data_mode m.csrs m.mode) access a (bytes_of w) 0 (search (rules, arith)) granted)
 
 -- the fact is one of every machine with the mode and the control registers of this one
-module _ (m : Machine) (P : Machine → Type 0) (same : (new : Machine) → new.mode ≡ m.mode → new.csrs ≡ m.csrs → P new) where
-  checked : (k : Kind) (one : Machine) (cause tval : ℕ) (passes : Bool) → nat_le (2 ^ 31) cause ≡ false
-      → one.bus ≡ m.bus → one.mode ≡ m.mode → one.csrs ≡ m.csrs → Ends m k P (require cause tval passes (Ok one))
-  checked k one cause tval true low still mode csrs = (nothing still, same one mode csrs)
-  checked k one cause tval false low still mode csrs = low
-
-  jumps : (k : Kind) (rd target : ℕ) → Ends m k P (jump_effect m rd target)
-  unfolding jump_effect
-  jumps k rd target = search rules
-
-  branches : (k : Kind) (taken : Bool) (target : ℕ) → Ends m k P (branch_effect m taken target)
-  unfolding branch_effect
-  branches k true target = checked k (record m { pc = target }) 0 target (target % 4 == 0) refl refl refl refl
-  branches k false target = (nothing refl, same (at_next m) refl refl)
-
+module _ (m : Machine) (P : Machine → Type 0) (same : (new : Machine) → new.mode ≡ m.mode → new.csrs ≡ m.csrs → P new)
+    (registers : (k : Kind) (op : CsrOp) (field operand rd csr : ℕ)
+    → IfRetired P (exchange k (at_next m) (csr_change op field) operand rd csr)) (is : IfRetired P (return_effect m m.mode)) where
   accesses_by : (k : Kind) (aligned granted : Bool) (x refused misaligned : Effect) → (granted ≡ true → Ends m k P x)
       → Ends m k P refused → Ends m k P misaligned
       → Ends m k P (if aligned then (if granted then x else refused) else misaligned)
@@ -166,69 +138,33 @@ module _ (m : Machine) (P : Machine → Type 0) (same : (new : Machine) → new.
 
   loads_of : (k : Kind) (op : LoadOp) (rd addr : ℕ) (r : Option (ℕ × BusState)) → accessed k m ≡ Some addr
       → may_access m Read addr (load_width op) ≡ true
-      → IfSome (λ (r : ℕ × BusState). LeavesByLoad addr m.bus r.1) r → Ends m k P (load_result m op rd addr r)
+      → IfSome r (λ (r : ℕ × BusState). LeavesByLoad addr m.bus r.1) → Ends m k P (load_result m op rd addr r)
   loads_of k op rd addr None at granted leaves = refl
   loads_of k op rd addr (Some r) at granted leaves = (
     loaded addr at (first_granted m Read addr (load_width op) granted) leaves,
     same (with_result (record m { bus = r.1 }) rd (load_value op r.0)) refl refl,
   )
 
-  loads : (k : Kind) (op : LoadOp) (rd addr : ℕ) → accessed k m ≡ Some addr → Ends m k P (load_effect m op rd addr)
-  unfolding load_effect
-  loads k op rd addr at = search (rules, accesses_by, loads_of, after_load)
-
   stores_of : (k : Kind) (w : Width) (addr : ℕ) (after : Option BusState) → accessed k m ≡ Some addr
-      → may_access m Write addr w ≡ true → IfSome (LeavesByStore addr m.bus) after
+      → may_access m Write addr w ≡ true → IfSome after (LeavesByStore addr m.bus)
       → Ends m k P (store_result m addr after)
   stores_of k w addr None at granted leaves = refl
   stores_of k w addr (Some b) at granted leaves =
       (stored addr at (first_granted m Write addr w granted) leaves, same (at_next (record m { bus = b })) refl refl)
 
-  stores : (k : Kind) (w : Width) (addr v : ℕ) → accessed k m ≡ Some addr → Ends m k P (store_effect m w addr v)
-  unfolding store_effect
-  stores k w addr v at = search (rules, accesses_by, stores_of, after_store)
-
-  -- an instruction on a control register that had an old value, by the control registers after it
-  abbrev after : Kind → ℕ → ℕ → Option CsrState → Effect
-  after k rd old csrs = given 2 (word k) (λ csrs. Ok (with_reg (record (at_next m) { csrs = csrs }) rd old)) csrs
-
-  exchanges : (k : Kind) (change : Option (ℕ → ℕ → ℕ)) (operand rd csr : ℕ)
-      → IfRetired P (exchange k (at_next m) change operand rd csr) → Ends m k P (exchange k (at_next m) change operand rd csr)
-  exchanges k change operand rd csr = search rules
-
-  returns : (k : Kind) (d : Mode) → IfRetired P (return_effect m d) → Ends m k P (return_effect m d)
-  unfolding return_effect
-  returns k mode.User is = refl
-  returns k mode.Machine is = (nothing refl, is)
-
-  calls : (k : Kind) (d : Mode) → Ends m k P (trap (8 + level d) 0)
-  calls k mode.User = refl
-  calls k mode.Machine = refl
-
   -- where those keep it that change the mode or a control register, each instruction does
-  pub ends : ((k : Kind) (op : CsrOp) (field operand rd csr : ℕ)
-      → IfRetired P (exchange k (at_next m) (csr_change op field) operand rd csr)) → IfRetired P (return_effect m m.mode)
-      → (k : Kind) → Ends m k P (effect k m)
-  unfolding execute jump_effect branch_effect load_effect store_effect return_effect
-  ends registers is (Jal rd offset) = jumps (Jal rd offset) rd (plus m.pc offset)
-  ends registers is (Jalr rd base offset) = jumps (Jalr rd base offset) rd (plus (reg m base) offset / 2 * 2)
-  ends registers is (Branch cond rs1 rs2 offset) = search rules
-  ends registers is (Load op rd base offset) = loads (Load op rd base offset) op rd (plus (reg m base) offset) refl
-  ends registers is (Store w source base offset) = search (rules, stores)
-  ends registers is (Csr op rd rs1 csr) = search rules
-  ends registers is (CsrImm op rd imm csr) = exchanges _ (csr_change op imm) imm rd csr (registers _ op imm imm rd csr)
-  ends registers is Ecall = calls Ecall m.mode
-  ends registers is Ebreak = refl
-  ends registers is Mret = returns Mret m.mode is
-  ends registers is Wfi = search rules
-  ends registers is k = (nothing refl, same _ refl refl)
+  pub ends : (k : Kind) → Ends m k P (effect k m)
+  unfolding execute load_effect store_effect return_effect
+  ends (Load op rd base offset) = search (rules, accesses_by, loads_of, after_load)
+  ends (Store w source base offset) = search (rules, accesses_by, stores_of, after_store)
+  ends k = search rules
+
+  pub rows : (k : Kind) → IfRetired P (effect k m)
+  rows k = let end : Ends m k P (effect k m) = ends k in search rules
 
 -- of any machine
 pub all_end : (m : Machine) (k : Kind) → Ends m k (λ new. Unit {0}) (effect k m)
-all_end m = ends m (λ new. Unit {0}) (λ new mode csrs. tt) (λ k op field operand rd csr. any _) (any _) where
-  any : (e : Effect) → IfRetired (λ new. Unit {0}) e
-  any (Ok new) = tt
-  any (Err t) = tt
+all_end m = ends m (λ new. Unit {0}) (λ new mode csrs. tt) (λ k op field operand rd csr. search rules) (search rules)
 
 pub reaches : (m : Machine) (k : Kind) → IfRetired (Reaches m k) (effect k m)
 reaches m k = by (effect k m) (all_end m k) where
@@ -236,32 +172,13 @@ reaches m k = by (effect k m) (all_end m k) where
   by (Ok new) end = end.0
   by (Err t) end = tt
 
--- ---- what is denied stays as it is
+-- ---- a step, and what is denied stays as it is
 
-outside : (m : Machine) (access : Access) (first size a : ℕ)
-    → IsDenied m.csrs.pmp (data_mode m.csrs m.mode) access first size
-    → grants m.csrs.pmp (data_mode m.csrs m.mode) access a 1 ≡ true → has first size a ≡ false
-outside m access first size a denied granted = search rules
-
-changes : (m new : Machine) (k : Kind) → Reaches m k new → ChangesByAccess m.csrs.pmp (data_mode m.csrs m.mode) m.bus new.bus
-changes m new k h3 = search rules
-
--- ---- a step
-
-module _ (m : Machine) where
-  traps : (t : Trap) → ChangesByAccess m.csrs.pmp (data_mode m.csrs m.mode) m.bus (trap_step m t).0.bus
-  unfolding counts enter
-  traps t = record { halt = λ _. refl; timer = λ _. refl; controller = λ _ _. refl; serial = λ _ _. refl }
-
-  settles : (k : Kind) (wrote : Option ℕ) (e : Effect) → IfRetired (Reaches m k) e
-      → ChangesByAccess m.csrs.pmp (data_mode m.csrs m.mode) m.bus (finished m wrote e).0.bus
-  unfolding counts
-  settles k wrote (Ok new) reached = changes m new k reached
-  settles k wrote (Err t) reached = traps t
-
-  attempts : (f : Result Kind Trap) → ChangesByAccess m.csrs.pmp (data_mode m.csrs m.mode) m.bus (attempt m f).0.bus
-  attempts (Ok k) = settles k (csr_written k) (effect k m) (reaches m k)
-  attempts (Err t) = traps t
+attempts : (m : Machine) (f : Result Kind Trap)
+    → ChangesByAccess m.csrs.pmp (data_mode m.csrs m.mode) m.bus (attempt m f).0.bus
+unfolding counts enter
+attempts m (Ok k) = let reached : IfRetired (Reaches m k) (effect k m) = reaches m k in search rules
+attempts m (Err t) = search rules
 
 pub devices_change : (m : Machine) → ChangesByAccess m.csrs.pmp (data_mode m.csrs m.mode) (ticked m).bus (step m).0.bus
 unfolding step

@@ -1,5 +1,5 @@
 -- The interrupt that a step takes, and those that stay pending.
-use Rattle.std.proofs.Common.{rules, ◌≡◌, ℕ, ◌+◌, ◌-◌, ◌%◌, ◌^◌, ◌<◌, Bool, true, false, List, [], ◌∷◌, Option, Some, None, Result, Ok, Err, nat_le, nat_lt, arith, refl, ap, ◌∙◌}
+use Rattle.std.proofs.Common.{rules, ◌≡◌, ℕ, ◌+◌, ◌-◌, ◌%◌, ◌^◌, ◌<◌, Bool, true, false, List, [], ◌∷◌, Some, None, Result, Ok, Err, nat_le, nat_lt, arith, ap, ◌∙◌}
 use Rattle.std.specs.Prelude.{◌&&◌, ◌||◌, if◌then◌else◌}
 use Rattle.std.specs.List.{list_any}
 use Rattle.std.specs.FinSet.{contains, contains-union}
@@ -11,16 +11,15 @@ use Rattle.rv_isa.specs.declared.kind.Kind.{Kind}
 use Rattle.rv_csr.specs.Support.Interruptible.{cause_of, pending_by_cases}
 use Rattle.rv_csr.proofs.Pending.{by_cases}
 use Rattle.rv_plic.specs.Sources.{sources}
-use Rattle.rv_plic.specs.Gateways.{PlicState, forwarded, requests}
-use Rattle.rv_plic.specs.Plic.{asks_above, is_notified, priority_of}
+use Rattle.rv_plic.specs.Gateways.{PlicState, forwarded}
+use Rattle.rv_plic.specs.Plic.{asks_above, is_notified}
 use Rattle.rv_mmio.specs.Timer.{TimerState, is_due, timer_ticked}
 use Rattle.rv_bus.specs.Access.{lines_of}
 use Rattle.rv_hart.specs.State.{Machine}
-use Rattle.rv_hart.specs.Effect.{csr_written, effect, trap}
+use Rattle.rv_hart.specs.Effect.{effect, trap}
 use Rattle.rv_hart.specs.Fetch.{fetch_result}
 use Rattle.rv_hart.specs.Laws.{StaysPending, accessed, first_interrupt, interrupt_taken, is_best}
-use Rattle.rv_hart.specs.Step.{step, ticked, tries, fetched, attempt, finished, counts, enter}
-use Rattle.rv_hart.specs.Support.EffectParts.{Effect, outcome_of}
+use Rattle.rv_hart.specs.Step.{step, ticked, tries, fetched, attempt, counts, enter}
 use Rattle.rv_hart.proofs.Devices.{IfRetired, Reaches, all_end, reaches}
 use Rattle.rv_hart.specs.declared.trap.Trap.{Trap}
 
@@ -38,20 +37,8 @@ module _ (m : Machine) where
   unfolding fetch_result
   fetches = search rules
 
-  retires : (halt : Option ℕ) → interrupt_taken (outcome_of halt) ≡ None
-  retires None = refl
-  retires (Some code) = refl
-
-  traps : (t : Trap) → nat_le (2 ^ 31) t.cause ≡ false → interrupt_taken (attempt m (Err t)).1 ≡ None
-  traps t low = ap (λ b. if b then Some (t.cause - 2 ^ 31) else None) low
-
-  settles : (k : Kind) (e : Effect) → IsException e → interrupt_taken (finished m (csr_written k) e).1 ≡ None
-  settles k (Ok new) is = retires new.bus.halt
-  settles k (Err t) is = traps t is
-
   attempts : (f : Result Kind Trap) → IsException f → interrupt_taken (attempt m f).1 ≡ None
-  attempts (Ok k) is = settles k (effect k m) (exceptions m k)
-  attempts (Err t) is = traps t is
+  attempts f is = search (rules, exceptions)
 
   -- ---- the interrupt that is taken
 
@@ -79,63 +66,36 @@ any_more f g [] each any = any
 any_more f g (x ∷ xs) each any = search (rules, or_left, or_right, any_more f g xs)
 
 or_more : (a b c more : Bool) → (a && b && c) ≡ true → ((a || more) && b && c) ≡ true
-or_more true b c more is = is
-or_more false b c more is = absurd cc
+or_more a b c more is = search rules
 
 notified_forwarded : (p : PlicState) → is_notified p ≡ true → is_notified (forwarded p) ≡ true
 unfolding is_notified
-notified_forwarded p =
-    any_more (asks_above p p.threshold) (asks_above (forwarded p) p.threshold) sources (λ s is.
-    ap (λ b. b && contains p.enabled s && nat_lt p.threshold (priority_of p s))
-    (contains-union nat_cmp_total p.pending (requests p) s)
-    ∙ or_more (contains p.pending s) (contains p.enabled s) (nat_lt p.threshold (priority_of p s))
-    (contains (requests p) s) is)
+notified_forwarded p is = search (
+  rules,
+  contains-union nat_cmp_total p.pending,
+  or_more,
+  any_more (asks_above p p.threshold) (asks_above (forwarded p) p.threshold),
+)
 
 module _ (m : Machine) where
   -- whether what was fetched retires a load or a store at some addresses
-  abbrev retires_at : ℕ → ℕ → Kind → Effect → Bool
-  retires_at first size k e =
-      is_ok e && option_map_or (λ addr. nat_le first addr && nat_lt (addr - first) size) (accessed k m) false
-
   abbrev reaches_by : ℕ → ℕ → Result Kind Trap → Bool
-  reaches_by first size f = option_map_or (λ k. retires_at first size k (effect k m)) (result_ok f) false
+  reaches_by first size f = option_map_or (λ k. is_ok (effect k m)
+      && option_map_or (λ addr. nat_le first addr && nat_lt (addr - first) size) (accessed k m) false) (result_ok f) false
 
-  record Leaves (at_timer at_controller at_claim : Bool) (new : Machine) : Type 0 where
-    timer : at_timer ≡ false → new.bus.timer ≡ m.bus.timer
-    controller : at_controller ≡ false → new.bus.plic ≡ m.bus.plic
-    sources : (s : ℕ) → (at_claim && is_best m.bus.plic s) ≡ false → contains m.bus.plic.pending s ≡ true
-        → contains new.bus.plic.pending s ≡ true
+  record Leaves (f : Result Kind Trap) (new : Machine) : Type 0 where
+    timer : reaches_by 0x02000000 0xc000 f ≡ false → new.bus.timer ≡ m.bus.timer
+    controller : reaches_by 0x0c000000 0x4000000 f ≡ false → new.bus.plic ≡ m.bus.plic
+    sources : (s : ℕ) → (reaches_by 0x0c200004 1 f && is_best m.bus.plic s) ≡ false
+        → contains m.bus.plic.pending s ≡ true → contains new.bus.plic.pending s ≡ true
 
-  trapped : (a b c : Bool) (t : Trap) → Leaves a b c (attempt m (Err t)).0
+  leaves : (f : Result Kind Trap) → Leaves f (attempt m f).0
   unfolding counts enter
-  trapped a b c t = record { timer = λ _. refl; controller = λ _. refl; sources = λ s out on. on }
-
-  -- of an instruction that accesses an address it is known whether that is among others
-  there : (k : Kind) (new : Machine) (first size a : ℕ) → accessed k m ≡ Some a
-      → (nat_le first a && nat_lt (a - first) size) ≡ retires_at first size k (Ok new)
-  there k new first size a at = search rules
-
-  left_by : (k : Kind) (new : Machine) → Reaches m k new
-      → Leaves (retires_at 0x02000000 0xc000 k (Ok new)) (retires_at 0x0c000000 0x4000000 k (Ok new))
-      (retires_at 0x0c200004 1 k (Ok new)) (counts new true (csr_written k))
-  unfolding counts
-  left_by k new h2 = search rules
-
-  ended : (k : Kind) (e : Effect) → IfRetired (Reaches m k) e
-      → Leaves (retires_at 0x02000000 0xc000 k e) (retires_at 0x0c000000 0x4000000 k e)
-      (retires_at 0x0c200004 1 k e) (finished m (csr_written k) e).0
-  ended k (Ok new) reached = left_by k new reached
-  ended k (Err t) reached = trapped _ _ _ t
-
-  leaves : (f : Result Kind Trap)
-      → Leaves (reaches_by 0x02000000 0xc000 f) (reaches_by 0x0c000000 0x4000000 f) (reaches_by 0x0c200004 1 f)
-      (attempt m f).0
-  leaves (Ok k) = ended k (effect k m) (reaches m k)
-  leaves (Err t) = trapped _ _ _ t
+  leaves (Ok k) = let reached : IfRetired (Reaches m k) (effect k m) = reaches m k in search rules
+  leaves (Err t) = search rules
 
 pending_forwarded : (p : PlicState) (s : ℕ) → contains p.pending s ≡ true → contains (forwarded p).pending s ≡ true
-pending_forwarded p s on =
-    contains-union nat_cmp_total p.pending (requests p) s ∙ or_left (contains p.pending s) (contains (requests p) s) on
+pending_forwarded p s on = search (rules, contains-union nat_cmp_total p.pending, or_left)
 
 pub stay_pending : (m : Machine) → StaysPending m (step m).0
 unfolding step tries

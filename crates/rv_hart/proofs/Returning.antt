@@ -1,5 +1,5 @@
 -- The return from a trap right after its entry.
-use Rattle.std.proofs.Common.{rules, ◌≡◌, ℕ, Option, Some, None, Result, Ok, Err, true, refl, ap, subst, ◌∙◌}
+use Rattle.std.proofs.Common.{rules, ◌≡◌, ℕ, Some, Result, Ok, true, refl, ap, ◌∙◌}
 use Rattle.std.specs.Result.{result_ok}
 use Rattle.rv_isa.specs.declared.kind.Kind.{Kind}
 use Rattle.rv_isa.specs.declared.kind.Kind.TheVariants.{Mret}
@@ -8,37 +8,24 @@ use Rattle.rv_csr.specs.Traps.{entered, after_return}
 use Rattle.rv_hart.specs.State.{Machine}
 use Rattle.rv_hart.specs.Effect.{csr_written, effect, execute}
 use Rattle.rv_hart.specs.Step.{step, tries, ticked, fetched, attempt, finished, counts, enter}
-use Rattle.rv_hart.specs.Support.EffectParts.{Effect, branch_effect, exchange_effect, jump_effect, load_effect, outcome_of, return_effect, store_effect, trap_step}
+use Rattle.rv_hart.specs.Support.EffectParts.{branch_effect, exchange_effect, jump_effect, load_effect, return_effect, store_effect, trap_step}
 use Rattle.rv_hart.specs.Laws.{IsBack}
 use Rattle.rv_hart.specs.declared.trap.Trap.{Trap}
 use Rattle.rv_hart.specs.declared.trap.Outcome.{Outcome}
-use Rattle.rv_hart.specs.declared.trap.Outcome.TheVariants.{Retired, Trapped, Halted}
+use Rattle.rv_hart.specs.declared.trap.Outcome.TheVariants.{Trapped}
 
 -- ---- a step that ends in a trap
 
-abbrev Enters : Machine → Machine → Outcome → Type 0
-Enters m new Retired = Unit {0}
-Enters m new Halted = Unit {0}
-Enters m new (Trapped cause epc tval) = (t : Trap) × (new ≡ (trap_step m t).0)
-
-retires : (m new : Machine) (halt : Option ℕ) → Enters m new (outcome_of halt)
-retires m new None = tt
-retires m new (Some code) = tt
-
-concludes : (m : Machine) (wrote : Option ℕ) (e : Effect) → Enters m (finished m wrote e).0 (finished m wrote e).1
-concludes m wrote (Ok new) = retires m (counts new true wrote) new.bus.halt
-concludes m wrote (Err t) = (t, refl)
-
-attempts : (m : Machine) (f : Result Kind Trap) → Enters m (attempt m f).0 (attempt m f).1
-attempts m (Ok k) = concludes m (csr_written k) (effect k m)
-attempts m (Err t) = (t, refl)
+enters : (m : Machine) (f : Result Kind Trap) (cause epc tval : ℕ) → (attempt m f).1 ≡ Trapped cause epc tval
+    → (attempt m f).0 ≡ (trap_step m (record { cause = cause; tval = tval })).0
+unfolding counts enter
+enters m f cause epc tval is = search rules
 
 -- ---- a step that tries MRET
 
 tried : (m : Machine) (f : Result Kind Trap) (k : Kind) → result_ok f ≡ Some k
     → attempt m f ≡ finished m (csr_written k) (effect k m)
-tried m (Ok j) k is = let same : j ≡ k = cc in ap (λ x. attempt m (Ok x)) same
-tried m (Err t) k is = absurd cc
+tried m f k is = search rules
 
 abbrev returned : Machine → Machine
 returned m = record m { csrs = after_return m.csrs; mode = m.csrs.mstatus.mpp; pc = m.csrs.mepc }
@@ -74,6 +61,4 @@ pub traps_return : (m : Machine) (cause epc tval : ℕ) → (step m).1 ≡ Trapp
     → tries (step m).0 ≡ Some Mret → IsBack m (step (step m).0).0
 unfolding step
 traps_return m cause epc tval trapped mret =
-    let entered : Enters (ticked m) (step m).0 (Trapped cause epc tval)
-    = subst (Enters (ticked m) (step m).0) trapped (attempts (ticked m) (fetched (ticked m))) in
-    leads_back m (step m).0 entered.0 entered.1 mret
+    leads_back m (step m).0 _ (enters (ticked m) (fetched (ticked m)) cause epc tval trapped) mret

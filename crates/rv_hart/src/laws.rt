@@ -13,12 +13,14 @@ ghost use Rattle.rv_hart.specs.declared.trap.Outcome.TheVariants.{Trapped};
 /// and minstret. A trap begins machine mode at the address that mtvec gives, and changes nothing else than
 /// mepc, mcause, mtval and the fields of mstatus. RISC-V Privileged Architecture 20211203, sections 2.1, 3.1
 /// and 3.1.7.
+#[tactic(auto, using(crate::proofs::UserChanges::user_changes))]
 pub fn user_mode_changes_by_traps()
     ensures { (m : Machine) → m.mode ≡ User → ChangesByTrap m (step m).0 (step m).1 }
 {}
 
 /// Law: a step leaves each device as its tick does, unless protection grants the mode whose permissions loads
 /// and stores have an access to it. RISC-V Privileged Architecture 20211203, section 3.7.
+#[tactic(auto, using(crate::proofs::Devices::devices_change))]
 pub fn devices_change_by_access()
     ensures { (m : Machine)
         → ChangesByAccess m.csrs.pmp (data_mode m.csrs m.mode) (ticked m).bus (step m).0.bus }
@@ -27,6 +29,7 @@ pub fn devices_change_by_access()
 /// Law: a step takes at most one interrupt, once time has passed: the first in the order of their priority that
 /// is pending and enabled. It takes one wherever there is one. RISC-V Privileged Architecture 20211203,
 /// section 3.1.9.
+#[tactic(auto, using(crate::proofs::Interrupts::first_taken))]
 pub fn first_interrupt_is_taken()
     ensures { (m : Machine)
         → interrupt_taken (step m).1 ≡ first_interrupt m.csrs m.mode (lines_of (ticked m).bus) }
@@ -34,6 +37,7 @@ pub fn first_interrupt_is_taken()
 
 /// Law: a step leaves an interrupt pending that is pending, also where it takes a trap, unless it loads from or
 /// stores to the device that raises it. RISC-V Privileged Architecture 20211203, section 3.1.9.
+#[tactic(auto, using(crate::proofs::Interrupts::stay_pending))]
 pub fn interrupts_stay_pending()
     ensures { (m : Machine) → StaysPending m (step m).0 }
 {}

@@ -36,9 +36,8 @@ use Rattle.rv_hart.specs.Support.EffectParts.{given, load_result, store_result}
 use Rattle.rv_hart.specs.Fetch.{fetch_result}
 use Rattle.rv_hart.specs.Step.{attempt, counts, enter, fetched, finished, step, ticked}
 use Rattle.rv_hart.specs.Laws.{accessed}
-use Rattle.rv_hart.proofs.Devices.{Reaches, reaches}
+use Rattle.rv_hart.proofs.Devices.{IfRetired, Reaches, reaches}
 use Rattle.rv_hart.proofs.Devices as devices
-use Rattle.rv_hart.proofs.Rows.{IfRetired}
 use Rattle.rv_hart.specs.declared.trap.Trap.{Trap}
 use Rattle.rv_hart.specs.declared.trap.Outcome.{Outcome}
 use Rattle.rv_board.specs.BoardState.{BoardState, on_bus}
