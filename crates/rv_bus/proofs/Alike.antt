@@ -1,15 +1,16 @@
 -- Loads, stores and fetches read and write only their own bytes of the memory. Each law compares a bus with
 -- the same bus over another memory of the same size.
-use Rattle.std.proofs.Common.{◌≡◌, ◌≢◌, ℕ, zero, suc, ◌+◌, ◌-◌, ◌≤◌, ◌<◌, List, [], ◌∷◌, slice_get, slice_index, slice_set, length, Option, Some, None, refl, ap, rules}
+use Rattle.std.proofs.Common.{◌≡◌, ◌≢◌, ℕ, zero, suc, ◌+◌, ◌-◌, ◌≤◌, ◌<◌, List, slice_get, slice_index, slice_set, length, Option, Some, None, rules}
+use Rattle.std.specs.Prelude.{IfSome}
 use Rattle.std.specs.Option.{option_map}
 use Rattle.std.proofs.lemmas.Bool.{le-leb, leb-true, cases_eq, cases_lt}
 use Rattle.std.proofs.lemmas.Grind.{get_or-set_at}
-use Rattle.std.proofs.lemmas.Option.{slice_get-get_or, slice_get_past}
+use Rattle.std.proofs.lemmas.Option.{slice_get-get_or, slice_get_past, unwrap_or-slice_get}
 use Rattle.std.proofs.lemmas.List.{set_past, get_or-set_other}
 use Rattle.rv_base.specs.Limits.{ram_base}
 use Rattle.rv_isa.specs.declared.op.Width.{Width}
 use Rattle.rv_isa.specs.Width.{bytes_of}
-use Rattle.rv_ram.specs.Bytes.{value_at, put}
+use Rattle.rv_ram.specs.Bytes.{put}
 use Rattle.rv_bus.specs.State.{BusState}
 use Rattle.rv_bus.proofs.Memory.{fetch_is}
 use Rattle.rv_bus.specs.Access.{fetch, load, store, ram_byte}
@@ -30,50 +31,34 @@ with_ram b ram = record b { ram = ram }
 abbrev pub SameBytes : List ℕ → List ℕ → ℕ → ℕ → Type 0
 SameBytes one other off count = (i : ℕ) → i < count → slice_index other (off + i) ≡ slice_index one (off + i)
 
-pub same_number : (one other : List ℕ) (off n : ℕ) → SameBytes one other off n
-    → value_at other off n ≡ value_at one off n
-same_number one other off n same = same_value other one off off n same
-
 same_get : (one other : List ℕ) (k : ℕ) → length other ≡ length one
     → slice_index other k ≡ slice_index one k → slice_get other k ≡ slice_get one k
 same_get one other k size same = search (rules, cases_lt, slice_get-get_or, slice_get_past)
 
 same_index : (one other : List ℕ) (k : ℕ) → slice_get other k ≡ slice_get one k
     → slice_index other k ≡ slice_index one k
-same_index [] [] k same = refl
-same_index [] (y ∷ other) zero same = absurd cc
-same_index [] (y ∷ other) (suc k) same = same_index [] other k same
-same_index (x ∷ one) [] zero same = absurd cc
-same_index (x ∷ one) [] (suc k) same = same_index one [] k same
-same_index (x ∷ one) (y ∷ other) zero same = cc
-same_index (x ∷ one) (y ∷ other) (suc k) same = same_index one other k same
+same_index one other k same = rw (← unwrap_or-slice_get other k 0, ← unwrap_or-slice_get one k 0, same)
 
 -- ---- loads and fetches
-
--- what a load gives, over another memory
-abbrev pub with_ram_after : List ℕ → Option (ℕ × BusState) → Option (ℕ × BusState)
-with_ram_after ram loaded = option_map (λ (r : ℕ × BusState). (r.0, with_ram r.1 ram)) loaded
 
 -- a load of the same bytes returns the same value, and the devices after it don't depend on the memory
 pub same_load : (b : BusState) (ram : List ℕ) (a : ℕ) (w : Width) → length ram ≡ length b.ram
     → (ram_base ≤ a → SameBytes b.ram ram (a - ram_base) (bytes_of w))
-    → load (with_ram b ram) a w ≡ with_ram_after ram (load b a w)
-same_load b ram a w size same = rw ((at_location (with_ram b ram) a w).load, (at_location b a w).load, size)
-    (each_location (λ p. load_at (with_ram b ram) p w ≡ with_ram_after ram (load_at b p w)) (length b.ram) a w
-    (λ above. ap (λ (v : ℕ). Some (v, with_ram b ram)) (same_number b.ram ram (a - ram_base) (bytes_of w) (same above)))
-    refl (λ off. refl) (λ off. refl) (λ reg. refl) refl)
+    → load (with_ram b ram) a w ≡ option_map (λ (r : ℕ × BusState). (r.0, with_ram r.1 ram)) (load b a w)
+same_load b ram a w size same = rw ((at_location (with_ram b ram) a w).load, (at_location b a w).load, size) (search (
+  rules,
+  each_location (λ p. load_at (with_ram b ram) p w ≡ option_map (λ (r : ℕ × BusState). (r.0, with_ram r.1 ram)) (load_at b p w))
+      (length b.ram) a w,
+  same_value,
+))
 
 -- a load leaves the memory
-abbrev pub KeepsMemory : BusState → Option (ℕ × BusState) → Type 0
-KeepsMemory b None = Unit {0}
-KeepsMemory b (Some r) = r.1.ram ≡ b.ram
-
-pub memory_after_load : (b : BusState) (a : ℕ) (w : Width) → KeepsMemory b (load b a w)
+pub memory_after_load : (b : BusState) (a : ℕ) (w : Width) → IfSome (load b a w) (λ (r : ℕ × BusState). r.1.ram ≡ b.ram)
 memory_after_load b a w = search (rules, at_location, each_location)
 
 pub same_fetch : (one other : List ℕ) (a : ℕ) → length other ≡ length one
     → (ram_base ≤ a → SameBytes one other (a - ram_base) 4) → fetch other a ≡ fetch one a
-same_fetch one other a size same = search (rules, fetch_is, same_number, leb-true)
+same_fetch one other a size same = search (rules, fetch_is, same_value, leb-true)
 
 -- ---- stores
 

@@ -1,6 +1,6 @@
 -- The rows of the address table do what the accesses at their locations do.
-use Rattle.std.proofs.Common.{◌≡◌, ℕ, ◌+◌, ◌-◌, ◌<◌, ◌==◌, Bool, true, false, cond, nat_le, List, [], ◌∷◌, Option, Some, None, refl, rules, sym, ap, subst, ◌∙◌}
-use Rattle.std.specs.Prelude.{◌&&◌, if◌then◌else◌, drop, find, length}
+use Rattle.std.proofs.Common.{◌≡◌, ℕ, ◌+◌, ◌-◌, ◌<◌, ◌==◌, Bool, true, false, cond, nat_le, List, [], ◌∷◌, Option, Some, None, refl, rules}
+use Rattle.std.specs.Prelude.{◌&&◌, if◌then◌else◌, drop, find, is_some, length}
 use Rattle.std.specs.List.{list_any}
 use Rattle.std.specs.Option.{option_map}
 use Rattle.std.proofs.lemmas.Bool.{and_from, and_right, eqb-true, le-leb, lt-ltb, not-true, or_parts}
@@ -8,13 +8,12 @@ use Rattle.rv_base.specs.Limits.{ram_base}
 use Rattle.rv_isa.specs.declared.op.Width.{Width}
 use Rattle.rv_isa.specs.Width.{bytes_of}
 use Rattle.rv_ram.specs.Room.{RoomRule}
-use Rattle.rv_mmio.specs.declared.serial.SerialReg.TheVariants.{Tx}
 use Rattle.rv_bus.specs.State.{BusState}
 use Rattle.rv_bus.specs.Table.{Window, window_at, windows}
 use Rattle.rv_bus.specs.Access.{load, store, keeps_stores, fetch}
 use Rattle.rv_bus.specs.Room.{wants_room}
 use Rattle.rv_bus.specs.Support.Locations.{device_in, for_width, has, location_of, registers, takes}
-use Rattle.rv_bus.specs.Support.AtLocation.{IsFor, Reached, location, reach_at, is_written, fetch_at, wants_room_at}
+use Rattle.rv_bus.specs.Support.AtLocation.{IsFor, Reached, location, reach_at, store_at, is_written, fetch_at, wants_room_at}
 use Rattle.rv_bus.specs.declared.locations.Location.{Location}
 use Rattle.rv_bus.specs.declared.locations.Location.TheVariants.{Nowhere, Ram, Serial}
 use Rattle.rv_bus.proofs.Memory.{fetch_is, has_byte, writes_is}
@@ -80,27 +79,19 @@ module _ (b : BusState) (a : ℕ) (w : Width) where
       → IsRow (option_map reaches (find takes_it xs)) (for_width (device_in ys a) w)
   rows_of [] xs is = search (rules, tested, at_row, nowhere)
   rows_of (y ∷ ys) [] is = absurd is
-  rows_of (y ∷ ys) (x ∷ xs) is =
-      subst (λ t. IsRow (option_map reaches (cond t (Some x) (find takes_it xs))) (for_width (device_in (y ∷ ys) a) w))
-      (sym test)
+  rows_of (y ∷ ys) (x ∷ xs) is = rw test
       (at_row (takes y.1 w) (a == y.0) x (find takes_it xs) y.1 (device_in ys a) refl none (is.0.3 (a - x.first))
       (rows_of ys xs is.1))
     where
       test : takes_it x ≡ (takes y.1 w && (a == y.0))
-      test = ap (λ f. nat_le x.narrowest (bytes_of w) && has f x.places a) is.0.0
-          ∙ (ap (λ s. nat_le x.narrowest (bytes_of w) && has y.0 s a) is.0.1
-          ∙ (ap (λ n. nat_le n (bytes_of w) && has y.0 1 a) is.0.2
-          ∙ (ap (λ t. t && has y.0 1 a) (narrow w y.1) ∙ ap (λ u. takes y.1 w && u) (one_address y.0 a))))
+      test = rw (is.0.0, is.0.1, is.0.2, narrow w y.1, one_address y.0 a)
 
       none : (a == y.0) ≡ true → find takes_it xs ≡ None
-      none u = none_takes xs
-          (subst (λ k. list_any (λ (x : Window). has x.first x.places k) xs ≡ false) (sym (eqb-true a y.0 u)) is.0.4)
+      none u = none_takes xs (rw (eqb-true a y.0 u) is.0.4)
 
   rows : IsRow (option_map reaches (window_at b a (bytes_of w))) (location b a w)
   unfolding location_of
-  rows = tested (Serial Tx) (has ram_base (length b.ram) a) _ (find takes_it (drop 1 (windows b (bytes_of w)))) _
-      (first (has ram_base (length b.ram) a) _ (find takes_it (drop 1 (windows b (bytes_of w)))) (Ram (a - ram_base))
-      (for_width (device_in registers a) w) refl (rows_of registers (drop 1 (windows b (bytes_of w))) (search rules)))
+  rows = search (rules, tested, first, rows_of registers (drop 1 (windows b (bytes_of w))))
 
   -- ---- the memory and the transmit register
 
@@ -145,9 +136,20 @@ module _ (b : BusState) (a : ℕ) (w : Width) where
   }
 
   pub is_for : (p : Location) → p ≡ location b a w → IsFor b a w p
-  is_for p is = subst (IsFor b a w) (sym is) at_location
+  is_for p is = rw is at_location
 
   -- the memory
   pub in_ram : (off : ℕ) → a ≡ ram_base + off → off < length b.ram → IsFor b a w (Ram off)
   unfolding location_of
   in_ram off is below = is_for (Ram off) (search (rules, le-leb, lt-ltb, and_from))
+
+-- a store for which room may have to be made goes into the memory or to the transmit register, and is no fault
+stores_there : (rule : RoomRule) (b : BusState) (v : ℕ) (w : Width) (p : Location) → wants_room_at rule b p w v ≡ true
+    → (is_written p ≡ true) × (is_some (store_at b p w v) ≡ true)
+stores_there rule b v w p is = search rules
+
+pub room_stores : (rule : RoomRule) (b : BusState) (a v : ℕ) (w : Width) → wants_room rule b a w v ≡ true
+    → (keeps_stores b a ≡ true) × (is_some (store b a w v) ≡ true)
+room_stores rule b a v w is =
+    let row = at_location b a w in
+    rw (row.writes, row.store v) (stores_there rule b v w (location b a w) (rw (row.room rule v) at is))

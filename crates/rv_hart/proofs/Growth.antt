@@ -7,7 +7,7 @@ use Rattle.rv_isa.specs.declared.kind.Kind.{Kind}
 use Rattle.rv_ram.specs.Room.{RoomRule}
 use Rattle.rv_bus.specs.Access.{keeps_stores}
 use Rattle.rv_bus.specs.Access as bus
-use Rattle.rv_bus.proofs.Growth.{room_stores}
+use Rattle.rv_bus.proofs.Rows.{room_stores}
 use Rattle.rv_hart.specs.State.{Machine}
 use Rattle.rv_hart.specs.Effect.{effect, execute}
 use Rattle.rv_hart.specs.Support.EffectParts.{store_effect}
