@@ -1,8 +1,14 @@
--- Which instructions change a device: loads and stores that are granted, at an address of its own.
-use Rattle.std.proofs.Common.{rules, ◌≡◌, ℕ, ◌+◌, ◌-◌, ◌^◌, ◌==◌, Bool, true, false, length, Option, Some, None, Result, Ok, Err, nat_le, arith, refl, ap, ◌∙◌}
-use Rattle.std.specs.Prelude.{◌&&◌, if◌then◌else◌, IfSome}
-use Rattle.std.specs.FinSet.{contains}
-use Rattle.std.proofs.lemmas.Bool.{both_ways}
+-- Which instructions change a device: loads and stores that are granted, at an address of its own. A source that is pending
+-- stays so, whatever is loaded from or stored to the interrupt controller, until it is claimed.
+use Rattle.std.proofs.Common.{rules, ◌≡◌, ℕ, ◌+◌, ◌-◌, ◌^◌, ◌==◌, Bool, true, false, length, Option, Some, None, Result, Ok, Err, nat_le, arith, refl, ◌*◌, ◌%◌, List, [], ◌∷◌, ◌++◌, map}
+use Rattle.std.specs.Prelude.{◌&&◌, if◌then◌else◌, IfSome, find}
+use Rattle.std.specs.FinSet.{contains, contains-remove}
+use Rattle.std.proofs.lemmas.Bool.{and_from, cond_both, eqb-true, not_from_false}
+use Rattle.std.specs.Ordering.{eq_by_cmp, nat_cmp}
+use Rattle.std.proofs.lemmas.Cmp.{nat_cmp_total}
+use Rattle.rv_base.specs.Registers.{Register, register}
+use Rattle.rv_plic.specs.Gateways.{PlicState}
+use Rattle.rv_plic.specs.Plic.{plic_register, claimed, completed, priority_of, registers, with_priority}
 use Rattle.rv_isa.specs.Width.{bytes_of}
 use Rattle.rv_isa.specs.Support.Loads.{load_width, load_value}
 use Rattle.rv_isa.specs.declared.op.CsrOp.{CsrOp}
@@ -19,17 +25,61 @@ use Rattle.rv_csr.specs.Traps.{data_mode}
 use Rattle.rv_bus.specs.State.{BusState}
 use Rattle.rv_bus.specs.Access.{load, store}
 use Rattle.rv_bus.specs.Support.AtLocation.{load_at, location, store_at}
-use Rattle.rv_bus.specs.Support.Locations.{has, location_of, registers}
+use Rattle.rv_bus.specs.Support.Locations.{has, location_of}
 use Rattle.rv_bus.specs.declared.locations.Location.{Location}
 use Rattle.rv_bus.specs.declared.locations.Location.TheVariants.{Ram, Halt, Timer, Plic, Serial, Nowhere}
 use Rattle.rv_bus.proofs.Rows.{at_location}
-use Rattle.rv_hart.proofs.Claims.{at_keeps}
 use Rattle.rv_hart.specs.State.{Machine}
 use Rattle.rv_hart.specs.Effect.{csr_change, effect, exchange, execute, reg}
 use Rattle.rv_hart.specs.Laws.{ChangesByAccess, accessed, is_best}
 use Rattle.rv_hart.specs.Step.{step, ticked, fetched, attempt, counts, enter}
 use Rattle.rv_hart.specs.Support.EffectParts.{Effect, at_next, load_effect, load_result, may_access, return_effect, store_effect, store_result, with_result}
 use Rattle.rv_hart.specs.declared.trap.Trap.{Trap}
+
+-- a register, by its offset, keeps what is pending
+pub record KeepsPending (r : ℕ × Register PlicState) : Type 0 where
+  pub loaded : (p : PlicState) (s : ℕ) → (r.0 == 0x200004 && is_best p s) ≡ false → contains p.pending s ≡ true
+      → contains (r.1.loaded p).pending s ≡ true
+  pub stored : (p : PlicState) (word : ℕ) → (r.1.stored p word).pending ≡ p.pending
+
+-- ---- each row of the interrupt controller
+
+same_source : (s b : ℕ) → (b == s) ≡ false → eq_by_cmp nat_cmp s b ≡ false
+same_source s b apart = search rules
+
+claimed_keeps : (p : PlicState) (s : ℕ) → is_best p s ≡ false → contains p.pending s ≡ true
+    → contains (claimed p).pending s ≡ true
+claimed_keeps p s out is = search (rules, contains-remove nat_cmp_total p.pending, and_from, not_from_false, same_source)
+
+completed_keeps : (p : PlicState) (word : ℕ) → (completed p word).pending ≡ p.pending
+completed_keeps p word = search rules
+
+abbrev AllKeep : List (ℕ × Register PlicState) → Type 0
+AllKeep [] = Unit {0}
+AllKeep (r ∷ rs) = KeepsPending r × AllKeep rs
+
+priorities : (ns : List ℕ) (rest : List (ℕ × Register PlicState)) → AllKeep rest
+    → AllKeep (map (λ s. (4 * s, register (λ p. priority_of p s) (λ p word. with_priority p s (word % 8)))) ns ++ rest)
+priorities [] rest later = later
+priorities (s ∷ ns) rest later = search (rules, priorities ns rest)
+
+all_keep : AllKeep registers
+unfolding registers
+all_keep = search (rules, priorities, claimed_keeps, completed_keeps)
+
+-- ---- the register at an offset
+
+abbrev Found : ℕ → Option (ℕ × Register PlicState) → Type 0
+Found off None = Unit {0}
+Found off (Some r) = KeepsPending r × (off ≡ r.0)
+
+found : (off : ℕ) (rs : List (ℕ × Register PlicState)) → AllKeep rs → Found off (find (λ row. off == row.0) rs)
+found off [] keep = tt
+found off (r ∷ rs) keep = search (rules, cond_both, eqb-true, found off rs)
+
+pub at_keeps : (off : ℕ) → KeepsPending (off, plic_register off)
+unfolding plic_register
+at_keeps off = search (rules, found, all_keep)
 
 -- ---- the addresses of a location
 
@@ -68,30 +118,15 @@ pub record LeavesByStore (a : ℕ) (b new : BusState) : Type 0 where
   pub pending : (s : ℕ) → contains b.plic.pending s ≡ true → contains new.plic.pending s ≡ true
 
 module _ (b : BusState) (a : ℕ) (w : Width) where
-  plic_window : (off : ℕ) → belongs a (Plic off) ≡ true → (has 0x0c000000 0x4000000 a ≡ true) × (off ≡ a - 0x0c000000)
-  plic_window off is = search rules
-
   at_claim : (off : ℕ) → belongs a (Plic off) ≡ true → (off == 0x200004) ≡ (a == 0x0c200004)
   at_claim off is = search rules
 
   loads_at : (p : Location) → belongs a p ≡ true → IfSome (load_at b p w) (λ (r : ℕ × BusState). LeavesByLoad a b r.1)
-  loads_at (Plic off) is = record {
-    halt = refl;
-    timer = refl;
-    plic = λ out. absurd (both_ways _ out (plic_window off is).0);
-    serial = λ _. refl;
-    pending = λ s out. (at_keeps off).loaded b.plic s (ap (λ t. t && is_best b.plic s) (at_claim off is) ∙ out);
-  }
+  loads_at (Plic off) is = search (rules, (at_keeps off).loaded, at_claim off is)
   loads_at p is = search rules
 
   stores_at : (v : ℕ) (p : Location) → belongs a p ≡ true → IfSome (store_at b p w v) (LeavesByStore a b)
-  stores_at v (Plic off) is = record {
-    halt = λ _. refl;
-    timer = λ _. refl;
-    plic = λ out. absurd (both_ways _ out (plic_window off is).0);
-    serial = λ _. refl;
-    pending = λ s on. ap (λ set. contains set s) ((at_keeps off).stored b.plic v) ∙ on;
-  }
+  stores_at v (Plic off) is = search (rules, (at_keeps off).stored)
   stores_at v p is = search rules
 
   after_load : IfSome (load b a w) (λ (r : ℕ × BusState). LeavesByLoad a b r.1)

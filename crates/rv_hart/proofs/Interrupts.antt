@@ -1,5 +1,5 @@
--- The interrupt that a step takes, and those that stay pending.
-use Rattle.std.proofs.Common.{rules, ◌≡◌, ℕ, ◌+◌, ◌-◌, ◌%◌, ◌^◌, ◌<◌, Bool, true, false, List, [], ◌∷◌, Some, None, Result, Ok, Err, nat_le, nat_lt, arith, ap, ◌∙◌}
+-- The interrupt that a step takes, those that stay pending, and the return from a trap right after its entry.
+use Rattle.std.proofs.Common.{rules, ◌≡◌, ℕ, ◌+◌, ◌-◌, ◌%◌, ◌^◌, ◌<◌, Bool, true, false, List, [], ◌∷◌, Some, None, Result, Ok, Err, nat_le, nat_lt, arith, ap, ◌∙◌, refl}
 use Rattle.std.specs.Prelude.{◌&&◌, ◌||◌, if◌then◌else◌}
 use Rattle.std.specs.List.{list_any}
 use Rattle.std.specs.FinSet.{contains, contains-union}
@@ -7,21 +7,27 @@ use Rattle.std.specs.Option.{option_map_or}
 use Rattle.std.specs.Result.{is_ok, result_ok}
 use Rattle.std.proofs.lemmas.Cmp.{nat_cmp_total}
 use Rattle.std.proofs.lemmas.Bool.{le-leb, leb-true, or_left, or_right}
-use Rattle.rv_isa.specs.declared.kind.Kind.{Kind}
-use Rattle.rv_csr.specs.Support.Interruptible.{cause_of, pending_by_cases}
-use Rattle.rv_csr.proofs.Pending.{by_cases}
 use Rattle.rv_plic.specs.Sources.{sources}
 use Rattle.rv_plic.specs.Gateways.{PlicState, forwarded}
 use Rattle.rv_plic.specs.Plic.{asks_above, is_notified}
 use Rattle.rv_mmio.specs.Timer.{TimerState, is_due, timer_ticked}
+use Rattle.rv_isa.specs.declared.kind.Kind.{Kind}
+use Rattle.rv_isa.specs.declared.kind.Kind.TheVariants.{Mret}
+use Rattle.rv_pmp.specs.declared.mode.Mode.TheVariants as mode
+use Rattle.rv_csr.specs.Support.Interruptible.{cause_of, pending_by_cases}
+use Rattle.rv_csr.proofs.Pending.{by_cases}
+use Rattle.rv_csr.specs.Traps.{entered, after_return}
 use Rattle.rv_bus.specs.Access.{lines_of}
 use Rattle.rv_hart.specs.State.{Machine}
-use Rattle.rv_hart.specs.Effect.{effect, trap}
+use Rattle.rv_hart.specs.Effect.{effect, trap, csr_written, execute}
 use Rattle.rv_hart.specs.Fetch.{fetch_result}
-use Rattle.rv_hart.specs.Laws.{StaysPending, accessed, first_interrupt, interrupt_taken, is_best}
-use Rattle.rv_hart.specs.Step.{step, ticked, tries, fetched, attempt, counts, enter}
+use Rattle.rv_hart.specs.Laws.{StaysPending, accessed, first_interrupt, interrupt_taken, is_best, IsBack}
+use Rattle.rv_hart.specs.Step.{step, ticked, tries, fetched, attempt, counts, enter, finished}
 use Rattle.rv_hart.proofs.Devices.{IfRetired, Reaches, all_end, reaches}
 use Rattle.rv_hart.specs.declared.trap.Trap.{Trap}
+use Rattle.rv_hart.specs.Support.EffectParts.{branch_effect, exchange_effect, jump_effect, load_effect, return_effect, store_effect, trap_step}
+use Rattle.rv_hart.specs.declared.trap.Outcome.{Outcome}
+use Rattle.rv_hart.specs.declared.trap.Outcome.TheVariants.{Trapped}
 
 -- ---- no instruction traps with the cause of an interrupt
 
@@ -107,3 +113,52 @@ stay_pending m =
       external = λ out high. ap is_notified (kept.controller out) ∙ notified_forwarded m.bus.plic high;
       sources = λ s out on. kept.sources s out (pending_forwarded m.bus.plic s on);
     }
+
+-- ---- a step that ends in a trap
+
+enters : (m : Machine) (f : Result Kind Trap) (cause epc tval : ℕ) → (attempt m f).1 ≡ Trapped cause epc tval
+    → (attempt m f).0 ≡ (trap_step m (record { cause = cause; tval = tval })).0
+unfolding counts enter
+enters m f cause epc tval is = search rules
+
+-- ---- a step that tries MRET
+
+tried : (m : Machine) (f : Result Kind Trap) (k : Kind) → result_ok f ≡ Some k
+    → attempt m f ≡ finished m (csr_written k) (effect k m)
+tried m f k is = search rules
+
+abbrev returned : Machine → Machine
+returned m = record m { csrs = after_return m.csrs; mode = m.csrs.mstatus.mpp; pc = m.csrs.mepc }
+
+returns : (m : Machine) → m.mode ≡ mode.Machine → effect Mret m ≡ Ok (returned m)
+unfolding execute jump_effect branch_effect load_effect store_effect exchange_effect return_effect
+returns m machine = ap (return_effect m) machine
+
+mret_leaves : (m : Machine) → m.mode ≡ mode.Machine → tries m ≡ Some Mret
+    → (step m).0 ≡ counts (returned (ticked m)) true (csr_written Mret)
+unfolding step tries
+mret_leaves m machine is =
+    let h = ticked m in
+    ap (λ (s : Machine × Outcome). s.0) (tried h (fetched h) Mret is
+    ∙ ap (finished h (csr_written Mret)) (returns h machine))
+
+-- ---- both
+
+back : (m : Machine) (t : Trap)
+    → IsBack m (counts (returned (ticked (trap_step (ticked m) t).0)) true (csr_written Mret))
+unfolding counts enter entered after_return
+back m t = record { pc = refl; mode = refl; interrupts = refl; registers = refl; memory = refl }
+
+in_machine_mode : (m : Machine) (t : Trap) → (trap_step m t).0.mode ≡ mode.Machine
+unfolding counts enter
+in_machine_mode m t = refl
+
+leads_back : (m handler : Machine) (t : Trap) → handler ≡ (trap_step (ticked m) t).0
+    → tries handler ≡ Some Mret → IsBack m (step handler).0
+leads_back m handler t is mret = search (rules, in_machine_mode, mret_leaves, back)
+
+pub traps_return : (m : Machine) (cause epc tval : ℕ) → (step m).1 ≡ Trapped cause epc tval
+    → tries (step m).0 ≡ Some Mret → IsBack m (step (step m).0).0
+unfolding step
+traps_return m cause epc tval trapped mret =
+    leads_back m (step m).0 _ (enters (ticked m) (fetched (ticked m)) cause epc tval trapped) mret

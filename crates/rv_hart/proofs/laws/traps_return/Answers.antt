@@ -1,4 +1,4 @@
-use Rattle.rv_hart.proofs.Returning.{traps_return}
+use Rattle.rv_hart.proofs.Interrupts.{traps_return}
 use Rattle.rv_hart.proofs.laws.traps_return.Goals as goal
 
 pub returns : goal.returns
