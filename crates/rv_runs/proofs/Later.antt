@@ -2,23 +2,21 @@
 use Rattle.std.proofs.Common.{◌≡◌, ◌∙◌, ℕ, zero, suc, ◌+◌, Bool, true, false, List, [], ◌∷◌, refl, sym, ap, arith}
 use Rattle.std.proofs.lemmas.Bool.Decides.{nat_tests}
 use native.Mathlib.Numerals.{unary_clauses}
-use Rattle.std.specs.FinSet as set
 use Rattle.std.specs.Prelude.{◌&&◌, nat_eq, nat_lt, not, is_some, pred, if◌then◌else◌, option_and_then, Option, Some, None}
 use Rattle.std.specs.List.{list_any}
 use Rattle.std.specs.Option.{option_eq}
 use Rattle.rv_board.specs.BoardState.{BoardState}
-use Rattle.rv_board.specs.Support.State.{halted_of, pc_of}
-use Rattle.rv_monitor.specs.State.{Addresses, IsInTime, SessionState, TimedState, after}
+use Rattle.rv_monitor.specs.State.{IsInTime, SessionState, TimedState, after}
+use Rattle.rv_monitor.proofs.Sets.{no_member}
 use Rattle.rv_monitor.proofs.Steps.{after_more, after_none, in_time_after}
-use Rattle.rv_recording.specs.Out.{is_out, open_at}
-use Rattle.rv_recording.specs.Until.{comes, end_at, watched_value}
+use Rattle.rv_recording.specs.Out.{open_at}
+use Rattle.rv_recording.specs.Until.{comes, watched_value}
 use Rattle.rv_recording.specs.declared.until.Condition.{Condition}
 use Rattle.rv_recording.specs.declared.until.End.{End}
 use Rattle.rv_recording.specs.declared.until.End.TheVariants.{Breakpoint, Halted, Reached, Stuck}
 use Rattle.rv_recording.specs.declared.until.Watched.{Watched}
 use Rattle.rv_runs.specs.Ends.{Stops, goal_after, guarded_ends, guards_after, plain_ends, run_ends}
 use Rattle.rv_runs.specs.Guards.{counted, counted_by, end_here, hits, is_hit, is_met, passing}
-use Rattle.rv_runs.specs.Marks.{is_marked}
 use Rattle.rv_runs.specs.Support.Plain.{watched_ends}
 use Rattle.rv_runs.specs.Watches.{changes_at, differs, watching}
 use Rattle.rv_runs.specs.declared.goal.Goal.{Goal}
@@ -35,14 +33,21 @@ taken_after s n = refl
 
 -- ---- the rest of a run is a run
 
-goes_on_at_first : (h : Option ℕ) (r b l : Bool) → is_some (end_is h r b l) ≡ false → end_is h false false l ≡ None
-goes_on_at_first h r b l e = grind arith
-
 -- also where it went on at a breakpoint
 goes_on_past : (gs : List Guard) (t : SessionState) (h : Option ℕ) (r b : Bool)
     → is_some (option_and_then (end_here gs t) (end_is h r b (nat_lt t.timed.taken t.limit))) ≡ false
     → end_is h false false (nat_lt t.timed.taken t.limit) ≡ None
 goes_on_past gs t h r b e = grind arith
+
+-- steps past any breakpoint come to none
+no_break : (gs : List Guard) (t : SessionState) (b : Bool) (h : Option ℕ) (z l : Bool) → b ≡ false
+    → end_is h (z && false) (z && b) l ≡ option_and_then (end_here gs t) (end_is h (z && false) (z && b) l)
+no_break gs t b h z l e = grind arith
+
+-- why a run is over by why it would be without guards
+pub is_passing : (ms : List ℕ) (gs : List Guard) (g : Goal) (s : SessionState) (n : ℕ)
+    → guarded_ends ms gs g s n ≡ passing gs s (plain_ends ms g s) n
+is_passing ms gs g s n = grind (arith, nat_tests, no_break, no_member)
 
 pub none_of : {A : Type 0} (o : Option A) → is_some o ≡ false → o ≡ None
 none_of o e = grind arith
@@ -79,31 +84,9 @@ module _ (s : SessionState) (k : ℕ) (h : IsInTime s.timed) where
   later i = after_more s.timed k i h.rising
 
   -- before its first step it isn't over
-  none_first : (g : ℕ → Bool) (a : Addresses)
-      → end_is (halted_of mid.timed.board) false false (nat_lt mid.timed.taken s.limit) ≡ None → end_at g a mid 0 ≡ None
-  none_first g a e = grind (arith, nat_tests, after_none, in_time_after)
-
-  first_is : (f g : ℕ → Bool) (a : Addresses) → is_some (end_at f a s k) ≡ false → end_at g a mid 0 ≡ None
-  first_is f g a e = none_first g a (goes_on_at_first (halted_of mid.timed.board) (nat_lt 0 k && f k)
-      (nat_lt 0 k && set.contains a (pc_of mid.timed.board)) (nat_lt mid.timed.taken s.limit) e)
-
-  first_past : (gs hs : List Guard) (f g : ℕ → Bool) (a : Addresses) → is_some (passing gs s (end_at f a s) k) ≡ false
-      → passing hs mid (end_at g a mid) 0 ≡ None
-  first_past gs hs f g a e =
-      rw (none_first g a (goes_on_past (counted gs s (end_at f a s) (pred k)) mid (halted_of mid.timed.board)
-      (nat_lt 0 k && f k) (nat_lt 0 k && set.contains a (pc_of mid.timed.board)) e))
-
-  -- after others it is over where the whole run is
-  then_is : (f g : ℕ → Bool) (a : Addresses) (j : ℕ) → g (suc j) ≡ f (k + suc j)
-      → end_at g a mid (suc j) ≡ end_at f a s (k + suc j)
-  then_is f g a j same = grind (arith, nat_tests, above, later)
-
-  rest_is : (f g : ℕ → Bool) (a : Addresses) → ((j : ℕ) → g (suc j) ≡ f (k + suc j))
-      → is_some (end_at f a s k) ≡ false → (i : ℕ) → end_at g a mid i ≡ end_at f a s (k + i)
-  rest_is f g a same e zero =
-      let none : k + 0 ≡ k = omega arith in
-      first_is f g a e ∙ sym (ap (λ (n : ℕ). end_at f a s n) none ∙ none_of (end_at f a s k) e)
-  rest_is f g a same e (suc j) = then_is f g a j (same j)
+  first_open : (ms : List ℕ) (gs : List Guard) (g : Goal) → is_some (guarded_ends ms gs g s k) ≡ false
+      → plain_ends ms (goal_after g s.timed k) mid 0 ≡ None
+  first_open ms gs g e = grind (arith, nat_tests, after_none, in_time_after, is_passing, goes_on_past)
 
   -- its hits are those of the whole run
   module _ (E F : ℕ → Option End) (same : (j : ℕ) → F (suc j) ≡ E (k + suc j)) where
@@ -133,18 +116,6 @@ module _ (s : SessionState) (k : ℕ) (h : IsInTime s.timed) where
     counted_later (g ∷ gs) i = ap (λ (x : Guard). x ∷ counted (counted gs s E k) mid F i) (one_later i g)
         ∙ ap (λ (xs : List Guard). counted_by s E (k + i) g ∷ xs) (counted_later gs i)
 
-  rest_past : (gs : List Guard) (f g : ℕ → Bool) (a : Addresses) → ((j : ℕ) → g (suc j) ≡ f (k + suc j))
-      → is_some (passing gs s (end_at f a s) k) ≡ false → (i : ℕ)
-      → passing (counted gs s (end_at f a s) k) mid (end_at g a mid) i ≡ passing gs s (end_at f a s) (k + i)
-  rest_past gs f g a same e zero =
-      let none : k + 0 ≡ k = omega arith in
-      first_past gs (counted gs s (end_at f a s) k) f g a e
-      ∙ sym (ap (λ (n : ℕ). passing gs s (end_at f a s) n) none ∙ none_of (passing gs s (end_at f a s) k) e)
-  rest_past gs f g a same e (suc j) =
-      let E = end_at f a s in
-      let one : pred (k + suc j) ≡ k + j = omega arith in
-      rw (one, counted_later E (end_at g a mid) (λ i. then_is f g a i (same i)) gs j, then_is f g a j (same j), later (suc j))
-
   pub open_later : (calls i : ℕ) → open_at (open_at calls s.timed k) mid.timed i ≡ open_at calls s.timed (k + i)
   unfolding open_at
   open_later calls zero = simp unary_clauses refl
@@ -156,26 +127,10 @@ module _ (s : SessionState) (k : ℕ) (h : IsInTime s.timed) where
       let one : pred (k + suc j) ≡ k + j = omega arith in
       rw (one, later j, later (suc j))
 
-  -- a test of the open calls and the board after its steps is that of the whole run
-  tests_later : (test : ℕ → BoardState → Bool) (calls j : ℕ)
-      → test (open_at (open_at calls s.timed k) mid.timed (suc j)) (after mid.timed (suc j)).board
-      ≡ test (open_at calls s.timed (k + suc j)) (after s.timed (k + suc j)).board
-  tests_later test calls j = rw (open_later calls (suc j), later (suc j))
-
   -- why the rest of a run would be over without guards, after its first step
   plain_later : (ms : List ℕ) (g : Goal) (j : ℕ)
       → plain_ends ms (goal_after g s.timed k) mid (suc j) ≡ plain_ends ms g s (k + suc j)
-  plain_later ms goal.Count j = then_is (λ n. false) (λ n. false) set.empty j refl
-  plain_later ms goal.Trace j = then_is (λ n. false) (λ n. false) set.empty j refl
-  plain_later ms goal.Break j = then_is (λ n. false) (λ n. false) s.breakpoints.addresses j refl
-  plain_later ms (goal.Out calls line) j = then_is (λ n. is_out line (open_at calls s.timed n) (after s.timed n).board)
-      (λ n. is_out line (open_at (open_at calls s.timed k) mid.timed n) (after mid.timed n).board)
-      s.breakpoints.addresses j (tests_later (is_out line) calls j)
-  plain_later ms (goal.Mark calls) j = then_is (λ n. is_marked ms (open_at calls s.timed n) (after s.timed n).board)
-      (λ n. is_marked ms (open_at (open_at calls s.timed k) mid.timed n) (after mid.timed n).board)
-      s.breakpoints.addresses j (tests_later (is_marked ms) calls j)
-  plain_later ms (goal.Until c) j =
-      then_is (comes c s.timed) (comes c mid.timed) s.breakpoints.addresses j (comes_later c j)
+  plain_later ms g j = grind (arith, nat_tests, above, later, open_later, comes_later)
 
   -- the guards that it leaves
   pub guards_later : (ms : List ℕ) (gs : List Guard) (g : Goal) (i : ℕ)
@@ -185,19 +140,14 @@ module _ (s : SessionState) (k : ℕ) (h : IsInTime s.timed) where
   -- why it is over where nothing is watched
   pub guarded_later : (ms : List ℕ) (gs : List Guard) (g : Goal) → is_some (guarded_ends ms gs g s k) ≡ false → (i : ℕ)
       → guarded_ends ms (guards_after ms gs g s k) (goal_after g s.timed k) mid i ≡ guarded_ends ms gs g s (k + i)
-  guarded_later ms gs goal.Count e i = rest_is (λ n. false) (λ n. false) set.empty (λ j. refl) e i
-  guarded_later ms gs goal.Trace e i = rest_is (λ n. false) (λ n. false) set.empty (λ j. refl) e i
-  guarded_later ms gs goal.Break e i = rest_past gs (λ n. false) (λ n. false) s.breakpoints.addresses (λ j. refl) e i
-  guarded_later ms gs (goal.Out calls line) e i =
-      rest_past gs (λ n. is_out line (open_at calls s.timed n) (after s.timed n).board)
-      (λ n. is_out line (open_at (open_at calls s.timed k) mid.timed n) (after mid.timed n).board)
-      s.breakpoints.addresses (tests_later (is_out line) calls) e i
-  guarded_later ms gs (goal.Mark calls) e i =
-      rest_past gs (λ n. is_marked ms (open_at calls s.timed n) (after s.timed n).board)
-      (λ n. is_marked ms (open_at (open_at calls s.timed k) mid.timed n) (after mid.timed n).board)
-      s.breakpoints.addresses (tests_later (is_marked ms) calls) e i
-  guarded_later ms gs (goal.Until c) e i =
-      rest_past gs (comes c s.timed) (comes c mid.timed) s.breakpoints.addresses (comes_later c) e i
+  guarded_later ms gs g e zero =
+      let none : k + 0 ≡ k = omega arith in
+      is_passing ms (guards_after ms gs g s k) (goal_after g s.timed k) mid 0 ∙ rw (first_open ms gs g e)
+      (sym (ap (guarded_ends ms gs g s) none ∙ none_of (guarded_ends ms gs g s k) e))
+  guarded_later ms gs g e (suc j) =
+      let one : pred (k + suc j) ≡ k + j = omega arith in
+      is_passing ms (guards_after ms gs g s k) (goal_after g s.timed k) mid (suc j)
+      ∙ (rw (one, guards_later ms gs g j, plain_later ms g j, later (suc j)) refl ∙ sym (is_passing ms gs g s (k + suc j)))
 
   -- its steps change what those of the whole run do
   changes_later : (ws : List Watched) → changes_at ws s.timed k ≡ false → (i : ℕ)

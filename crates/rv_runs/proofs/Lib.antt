@@ -1,7 +1,5 @@
 pub mod Later
-pub mod Marking
 pub mod Parts
 pub mod Passing
 pub mod Plans
-pub mod Sifting
 pub mod Watching

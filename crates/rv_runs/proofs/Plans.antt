@@ -14,8 +14,7 @@ use Rattle.rv_runs.specs.declared.goal.Goal.{Goal}
 use Rattle.rv_runs.specs.declared.goal.Goal.TheVariants as goal
 use Rattle.rv_runs.specs.declared.plan.Plan.{Plan}
 use Rattle.rv_runs.proofs.Later.{ends_later, goal_later, stops_after}
-use Rattle.rv_runs.proofs.Parts.{all_of, as_far}
-use Rattle.rv_runs.proofs.Sifting.{none_before}
+use Rattle.rv_runs.proofs.Parts.{all_of, as_far, none_before}
 use Rattle.rv_runs.proofs.Watching.{is_limit, never}
 
 -- ---- after a call that ended so

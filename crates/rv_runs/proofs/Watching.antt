@@ -1,8 +1,8 @@
 -- Runs up to the first change of what is watched, step by step.
-use Rattle.std.proofs.Common.{◌≡◌, ◌∙◌, ℕ, ◌+◌, ◌-◌, ◌<◌, ◌≤◌, Bool, true, false, List, [], ◌∷◌, length, refl, sym, ap, subst, arith}
+use Rattle.std.proofs.Common.{rules, ◌≡◌, ◌∙◌, ℕ, ◌-◌, ◌<◌, ◌≤◌, Bool, true, false, List, [], ◌∷◌, length, refl, sym, ap, arith}
 use Rattle.std.proofs.lemmas.Bool.Decides.{nat_tests}
 use Rattle.std.specs.List.{list_any}
-use Rattle.std.specs.Prelude.{min, pred, is_some, if◌then◌else◌, option_and_then, unwrap_or, IfOk, OnErr, Option, Some, None, Result, Ok, Err, IsErr}
+use Rattle.std.specs.Prelude.{min, pred, is_some, option_and_then, unwrap_or, IfOk, OnErr, Option, Some, None, Result, Ok, Err, IsErr}
 use Rattle.rv_base.specs.declared.memory.NoMemory.{NoMemory}
 use Rattle.rv_monitor.specs.State.{IsInTime, SessionState, after}
 use Rattle.rv_monitor.proofs.Steps.{after_none}
@@ -13,16 +13,16 @@ use Rattle.rv_recording.specs.declared.until.End.{End}
 use Rattle.rv_recording.specs.declared.until.End.TheVariants.{Limit}
 use Rattle.rv_recording.specs.declared.until.Watched.{Watched}
 use Rattle.rv_recording.proofs.Counting.{steps_within}
-use Rattle.rv_runs.specs.Ends.{Stops, goal_after, guarded_ends, heeds, run_ends}
+use Rattle.rv_runs.specs.Ends.{Stops, guarded_ends, heeds, run_ends}
 use Rattle.rv_runs.specs.Guards.{end_here}
 use Rattle.rv_runs.specs.Support.Plain.{Aim, Ran, aim_after, past_ends, stop_here, watch_ends, watched_ends}
-use Rattle.rv_runs.specs.Watches.{changes_at, differs, watching}
+use Rattle.rv_runs.specs.Watches.{differs, watching}
 use Rattle.rv_runs.specs.declared.guard.Guard.{Guard}
 use Rattle.rv_runs.specs.declared.goal.Goal.{Goal}
-use Rattle.rv_runs.proofs.Later.{end_is, no_change, stops_after, watched_later}
-use Rattle.rv_runs.proofs.Parts.{Rests, all_of, goes_at, over_with, ran_too, refused_too, short_with}
+use Rattle.rv_runs.specs.declared.goal.Goal.TheVariants as goal
+use Rattle.rv_runs.proofs.Later.{end_is, no_change, watched_later}
+use Rattle.rv_runs.proofs.Parts.{Part, Rests, all_of, between, in_time, none_before, short}
 use Rattle.rv_runs.proofs.Passing.{aims_later}
-use Rattle.rv_runs.proofs.Sifting.{none_before}
 
 -- ---- a run that isn't over ends for no limit
 
@@ -44,153 +44,97 @@ never ms gs g s n = grind (arith, nat_tests, never_by, never_past)
 -- ---- a step
 
 -- why a run is over after it, by why it would be if nothing were watched
-module _ (full plain : ℕ → Option End) (m : ℕ) (c : Bool)
-    (at : full (steps_of plain (min m 1)) ≡ watching c (plain (steps_of plain (min m 1)))) (end : End)
-    (ended : end ≡ unwrap_or (plain (steps_of plain (min m 1))) Limit) where
+module _ (full plain : ℕ → Option End) (m k : ℕ) (c : Bool) (at : full k ≡ watching c (plain k)) (end : End)
+    (ended : end ≡ unwrap_or (plain k) Limit) (all : is_some (plain k) ≡ false → k ≡ min m 1) where
   -- where it isn't over, the step was the last that may be taken
-  was_last : (said : End) → stop_here c end m ≡ Some said → is_some (full (steps_of plain (min m 1))) ≡ false
-      → steps_of plain (min m 1) ≡ m
-  was_last said is going = grind (arith, nat_tests, all_of plain (min m 1), steps_within plain (min m 1))
+  over_by : (said : End) → stop_here c end m ≡ Some said
+      → (said ≡ unwrap_or (full k) Limit) × (is_some (full k) ≡ false → k ≡ m)
+  over_by said is = grind (arith, nat_tests)
 
-  told_is : (said : End) → stop_here c end m ≡ Some said → said ≡ unwrap_or (full (steps_of plain (min m 1))) Limit
-  told_is said is = grind (arith, nat_tests)
+  goes_by : stop_here c end m ≡ None → is_limit (plain k) ≡ false → (full k ≡ None) × (k ≡ 1)
+  goes_by is never = grind (arith, nat_tests)
 
-  went_on : stop_here c end m ≡ None → is_limit (plain (steps_of plain (min m 1))) ≡ false
-      → (full (steps_of plain (min m 1)) ≡ None) × (1 < m) × (steps_of plain (min m 1) ≡ 1)
-  went_on is never = grind (arith, nat_tests, all_of plain (min m 1), steps_within plain (min m 1))
-
-module _ (st : Stops) (g : Goal) (s : SessionState) (m : ℕ) (h : IsInTime s.timed) where
+module _ (ws : List Watched) (ms : List ℕ) (a : Aim) (s : SessionState) (h : IsInTime s.timed) where
   abbrev plain : ℕ → Option End
-  plain = guarded_ends st.marks st.guards g s
+  plain = past_ends ms a s
 
   abbrev full : ℕ → Option End
-  full = watched_ends st g s
+  full = watch_ends ws ms a s
 
-  abbrev k : ℕ
-  k = steps_of plain (min m 1)
-
-  within_one : k ≤ min m 1
-  within_one = steps_within plain (min m 1)
+  full_at : (n : ℕ) → n ≤ 1 → full n ≡ watching (list_any (differs s.timed.board (after s.timed n).board) ws) (plain n)
+  full_at n l =
+      let none : pred n ≡ 0 = omega (arith, l) in
+      rw (none, after_none s.timed h) refl
 
   -- nothing changes before the first step
-  first_same : (i : ℕ) → i ≡ 0 → changes_at st.watches s.timed i ≡ false
-  first_same i e = ap (changes_at st.watches s.timed) e ∙ no_change (after s.timed 0).board st.watches
+  open_before : (n : ℕ) → n ≤ 1 → NoneEnds plain n → NoneEnds full n
+  open_before n l none i less =
+      let first : i ≡ 0 = omega (arith, l, less) in
+      full_at i (omega (arith, first)) ∙ rw (none i less, first, after_none s.timed h, no_change s.timed.board ws) refl
 
-  open_before : NoneEnds full k
-  open_before i l =
-      let first : i ≡ 0 = omega (arith, l, within_one) in
-      ap (λ (b : Bool). watching b (plain i)) (first_same i first) ∙ none_before plain (min m 1) i l
+-- ---- a part of the whole run
 
-  changes_here : changes_at st.watches s.timed k ≡ list_any (differs s.timed.board (after s.timed k).board) st.watches
-  changes_here = let none : pred k ≡ 0 = omega (arith, within_one) in rw (none, after_none s.timed h)
-
-  -- it was taken
-  module _ (t : SessionState) (end : End) (c : Bool) (run : HasRun plain (min m 1) s t end)
-      (changed : c ≡ list_any (differs s.timed.board t.timed.board) st.watches) where
-    full_is : full k ≡ watching c (plain k)
-    full_is =
-        let now = ap (λ (u : SessionState). list_any (differs s.timed.board u.timed.board) st.watches) run.state in
-        ap (λ (b : Bool). watching b (plain k)) (changes_here ∙ sym (changed ∙ now))
-
-    finishes : (said : End) → stop_here c end m ≡ Some said → HasRun full m s t said
-    finishes said is = ran_too full plain (min m 1) m (omega (arith, within_one)) open_before s t end said
-        (was_last full plain m c full_is end run.ended said is) (told_is full plain m c full_is end run.ended said is) run
-
-    -- it goes on
-    module _ (on : stop_here c end m ≡ None) where
-      goes : (full k ≡ None) × (1 < m) × (k ≡ 1)
-      goes = went_on full plain m c full_is end run.ended on (never st.marks st.guards g s k)
-
-      same_rest : (i : ℕ)
-          → watched_ends (stops_after st g s k) (goal_after g s.timed k) (record s { timed = after s.timed k }) i ≡ full (k + i)
-      same_rest i = watched_later s k h st g (ap is_some goes.0) i
-
--- ---- a step of the whole run
-
-abbrev stops_with : List Watched → List ℕ → Aim → Stops
-stops_with ws ms a = record { guards = a.guards; watches = ws; marks = ms }
-
-module _ (ws : List Watched) (ms : List ℕ) {a0 : Aim} {r0 : RecordingState} {most : ℕ} {a : Aim} {r : RecordingState} {left : ℕ}
-    (before : Rests (watch_ends ws ms) (aim_after ms) a0 r0 most a r left) {one : ℕ} (is_one : one ≡ min left 1)
-    {b : Aim} {q : RecordingState} where
+module _ (ws : List Watched) (ms : List ℕ) {one left : ℕ} (is_one : one ≡ min left 1) where
   -- memory ran out in it
-  pub watch_short : {e : NoMemory} (result : Result End NoMemory) → IsErr result
-      → Ran (past_ends ms) (aim_after ms) one a b r q (Err e)
-      → Ran (watch_ends ws ms) (aim_after ms) most a0 b r0 q result
-  watch_short result is part =
-      short_with before part.aim part.others result is (refused_too (watch_ends ws ms a r.session) (past_ends ms a r.session)
-      (min left 1) left (omega (arith, within_one (stops_with ws ms a) a.goal r.session left before.in_time))
-      (open_before (stops_with ws ms a) a.goal r.session left before.in_time) r.session q.session
-      (subst (λ (m : ℕ). IsRefusedIn (past_ends ms a r.session) m r.session q.session) is_one part.err))
+  pub watch_short : {a0 a b : Aim} {r0 r q : RecordingState} {most : ℕ}
+      → Rests (watch_ends ws ms) (aim_after ms) a0 r0 most a r left → {e : NoMemory} (result : Result End NoMemory) → IsErr result
+      → Ran (past_ends ms) (aim_after ms) one a b r q (Err e) → Ran (watch_ends ws ms) (aim_after ms) most a0 b r0 q result
+  watch_short {a = a} {r = r} before result is part =
+      let within = steps_within (past_ends ms a r.session) one in
+      short before result is part.aim part.others part.err
+      (open_before ws ms a r.session (in_time before) (steps_of (past_ends ms a r.session) one) (omega (arith, is_one, within))
+      (none_before (past_ends ms a r.session) one)) (omega (arith, is_one, within))
 
-  module _ {end : End} {c : Bool} (part : Ran (past_ends ms) (aim_after ms) one a b r q (Ok end))
-      (changed : c ≡ list_any (differs r.session.timed.board q.session.timed.board) ws)
-      {o : Option End} (here : o ≡ stop_here c end left) where
-    abbrev run : HasRun (past_ends ms a r.session) (min left 1) r.session q.session end
-    run = subst (λ (m : ℕ). HasRun (past_ends ms a r.session) m r.session q.session end) is_one part.ok
+  pub watch_part : {a b : Aim} {r q : RecordingState} → IsInTime r.session.timed → {end : End}
+      → Ran (past_ends ms) (aim_after ms) one a b r q (Ok end) → {c : Bool}
+      → c ≡ list_any (differs r.session.timed.board q.session.timed.board) ws → {o : Option End} → o ≡ stop_here c end left
+      → Part (watch_ends ws ms) (aim_after ms) a r left (steps_of (past_ends ms a r.session) one) b q o
+  watch_part {a} {b} {r} {q} begun {end} part {c} changed {o} is =
+      let plain = past_ends ms a r.session in
+      let full = watch_ends ws ms a r.session in
+      let k = steps_of plain one in
+      let within : k ≤ min left 1 = omega (arith, is_one, steps_within plain one) in
+      let all : is_some (plain k) ≡ false → k ≡ min left 1 = λ going. all_of plain one going ∙ is_one in
+      let there : q.session ≡ record r.session { timed = after r.session.timed k } = part.ok.state in
+      let aim : b ≡ aim_after ms a r.session k = part.aim ∙ rw (there, ← between r.session.timed k) refl in
+      let at : full k ≡ watching c (plain k) =
+      full_at ws ms a r.session begun k (omega (arith, within)) ∙ rw (changed, there) refl in
+      record {
+        state = part.others ∙ ap (λ (u : SessionState). record r { session = u }) there;
+        aim = aim;
+        within = omega (arith, within);
+        none = open_before ws ms a r.session begun k (omega (arith, within)) (none_before plain one);
+        over = λ said some. over_by full plain left k c at end part.ok.ended all said (sym is ∙ some);
+        on = λ goes.
+            let on = goes_by full plain left k c at end part.ok.ended all (sym is ∙ goes) (never ms a.guards a.goal r.session k) in
+            (on.0, omega (arith, on.1));
+        rest = λ going i. watched_later r.session k begun (record { guards = a.guards; watches = ws; marks = ms }) a.goal going i;
+        aims = λ i. aims_later ms a r.session k begun i;
+      }
 
-    -- the run is over
-    pub watch_over : (said : End) → o ≡ Some said → Ran (watch_ends ws ms) (aim_after ms) most a0 b r0 q (Ok said)
-    watch_over said is = over_with before part.aim part.others said
-        (finishes (stops_with ws ms a) a.goal r.session left before.in_time q.session end c run changed said (sym here ∙ is))
-
-    -- it goes on
-    module _ (is : o ≡ None) {less : ℕ} (fewer_is : less ≡ left - 1) where
-      abbrev on : stop_here c end left ≡ None
-      on = sym here ∙ is
-
-      pub watch_fewer : less < left
-      watch_fewer =
-          let went = goes (stops_with ws ms a) a.goal r.session left before.in_time q.session end c run changed on in
-          omega (arith, fewer_is, went.1)
-
-      pub watch_on : Rests (watch_ends ws ms) (aim_after ms) a0 r0 most b q less
-      watch_on =
-          let went = goes (stops_with ws ms a) a.goal r.session left before.in_time q.session end c run changed on in
-          let n = steps_of (past_ends ms a r.session) (min left 1) in
-          goes_at before n (omega (arith, within_one (stops_with ws ms a) a.goal r.session left before.in_time))
-          (open_before (stops_with ws ms a) a.goal r.session left before.in_time)
-          went.0 (same_rest (stops_with ws ms a) a.goal r.session left before.in_time q.session end c run changed on)
-          (aims_later ms a r.session n before.in_time) q b less run.state part.aim part.others
-          (omega (arith, fewer_is, went.2))
+-- it goes on after one step
+pub one_step : (plain : ℕ → Option End) (one left less : ℕ) → one ≡ min left 1 → less ≡ left - 1 → 0 < steps_of plain one
+    → less ≡ left - steps_of plain one
+one_step plain one left less is e moved = omega (arith, is, e, moved, steps_within plain one)
 
 -- ---- a run where nothing is watched, one of steps that are counted, and any other
 
-module _ (P : (ℕ → Option End) → Type 0) (g : Goal) (s : SessionState) where
-  by_heed : (st : Stops) (b : Bool) → heeds g ≡ b → P (λ n. if b then watched_ends st g s n else guarded_ends st.marks st.guards g s n)
-      → P (run_ends st g s)
-  by_heed st b e x = grind (arith, nat_tests)
+pub unwatched : (ms : List ℕ) (gs : List Guard) (ws : List Watched) (g : Goal) (s : SessionState) → length ws ≡ 0
+    → guarded_ends ms gs g s ≡ run_ends (record { guards = gs; watches = ws; marks = ms }) g s
+unwatched ms gs [] goal.Count s e = refl
+unwatched ms gs [] _ s e = refl
+unwatched ms gs (w ∷ ws) g s e = absurd (omega (arith, e))
 
-  by_none : (ms : List ℕ) (gs : List Guard) (b : Bool) → heeds g ≡ b → P (guarded_ends ms gs g s)
-      → P (run_ends (record { guards = gs; watches = []; marks = ms }) g s)
-  by_none ms gs b e x = grind (arith, nat_tests, by_heed)
+pub unheeded : (st : Stops) (g : Goal) (s : SessionState) → heeds g ≡ false
+    → guarded_ends st.marks st.guards g s ≡ run_ends st g s
+unheeded st g s e = search rules
 
-  by_length : (ms : List ℕ) (gs : List Guard) (ws : List Watched) → length ws ≡ 0 → P (guarded_ends ms gs g s)
-      → P (run_ends (record { guards = gs; watches = ws; marks = ms }) g s)
-  by_length ms gs [] e x = by_none ms gs (heeds g) refl x
-  by_length ms gs (w ∷ ws) e x = absurd (omega (arith, e))
+pub heeded : (st : Stops) (g : Goal) (s : SessionState) → heeds g ≡ true → watched_ends st g s ≡ run_ends st g s
+heeded st g s e = search rules
 
-module _ {E : Type 0} (r : Result End E) (ms : List ℕ) (gs : List Guard) (ws : List Watched) (g : Goal) (n : ℕ) (s t : SessionState) where
-  abbrev all : Stops
-  all = record { guards = gs; watches = ws; marks = ms }
+module _ {E : Type 0} (r : Result End E) (e f : ℕ → Option End) (n : ℕ) (s t : SessionState) (same : e ≡ f) where
+  pub ran_as : IfOk r (HasRun e n s t) → IfOk r (HasRun f n s t)
+  ran_as h = rw (← same) h
 
-  pub ran_unwatched : length ws ≡ 0 → IfOk r (HasRun (guarded_ends ms gs g s) n s t) → IfOk r (HasRun (run_ends all g s) n s t)
-  ran_unwatched e h = by_length (λ (f : ℕ → Option End). IfOk r (HasRun f n s t)) g s ms gs ws e h
-
-  pub refused_unwatched : length ws ≡ 0 → OnErr r (IsRefusedIn (guarded_ends ms gs g s) n s t)
-      → OnErr r (IsRefusedIn (run_ends all g s) n s t)
-  refused_unwatched e h = by_length (λ (f : ℕ → Option End). OnErr r (IsRefusedIn f n s t)) g s ms gs ws e h
-
-  pub ran_unheeded : heeds g ≡ false → IfOk r (HasRun (guarded_ends ms gs g s) n s t) → IfOk r (HasRun (run_ends all g s) n s t)
-  ran_unheeded e h = by_heed (λ (f : ℕ → Option End). IfOk r (HasRun f n s t)) g s all false e h
-
-  pub refused_unheeded : heeds g ≡ false → OnErr r (IsRefusedIn (guarded_ends ms gs g s) n s t)
-      → OnErr r (IsRefusedIn (run_ends all g s) n s t)
-  refused_unheeded e h = by_heed (λ (f : ℕ → Option End). OnErr r (IsRefusedIn f n s t)) g s all false e h
-
-  pub ran_heeded : heeds g ≡ true → IfOk r (HasRun (watched_ends all g s) n s t) → IfOk r (HasRun (run_ends all g s) n s t)
-  ran_heeded e h = by_heed (λ (f : ℕ → Option End). IfOk r (HasRun f n s t)) g s all true e h
-
-  pub refused_heeded : heeds g ≡ true → OnErr r (IsRefusedIn (watched_ends all g s) n s t)
-      → OnErr r (IsRefusedIn (run_ends all g s) n s t)
-  refused_heeded e h = by_heed (λ (f : ℕ → Option End). OnErr r (IsRefusedIn f n s t)) g s all true e h
+  pub refused_as : OnErr r (IsRefusedIn e n s t) → OnErr r (IsRefusedIn f n s t)
+  refused_as h = rw (← same) h

@@ -154,7 +154,7 @@ fn run_watching(
 }
 
 /// Takes steps of a run, up to where it is over.
-#[tactic(auto, using(crate::proofs::Watching::ran_unwatched, crate::proofs::Watching::refused_unwatched, crate::proofs::Watching::ran_unheeded, crate::proofs::Watching::refused_unheeded, crate::proofs::Watching::ran_heeded, crate::proofs::Watching::refused_heeded))]
+#[tactic(auto, using(crate::proofs::Watching::ran_as, crate::proofs::Watching::refused_as, crate::proofs::Watching::unwatched, crate::proofs::Watching::unheeded, crate::proofs::Watching::heeded))]
 pub fn run_all(
     recording: &mut Recording,
     guards: &mut Vec<Guard>,
