@@ -19,15 +19,11 @@ use Rattle.clap.proofs.SimpleLemmas.{plain_fields}
 use Rattle.rv_options.specs.Board.{board_app, source_rule}
 use Rattle.rv_options.specs.Support.Arguments.{IsParseBy, number_rule}
 use Rattle.rv_options.specs.Support.Parse.{HasNumber, IsBoardParse}
-use Rattle.rv_options.proofs.Defaults.{HasDefaultAt, IsParseOf, are_simple_free, has_value, reads}
-
-board_simple_free : are_simple_free board_app.top.rules ≡ true
-unfolding board_app
-board_simple_free = refl
+use Rattle.rv_options.proofs.Defaults.{HasDefaultAt, IsParseOf, has_value, reads}
 
 parse_of : (c : Command) (m : ArgMatches) → app_of c ≡ board_app → IsParsedFrom c m → IsParseOf board_app.top.rules c m
 unfolding board_app
-parse_of c m is parsed = search (rules, arith, plain_fields, board_simple_free)
+parse_of c m is parsed = search (rules, arith, plain_fields)
 
 number : (c : Command) (m : ArgMatches) (k : ℕ) (name default : Text) (low high : ℕ) → IsParseOf board_app.top.rules c m
     → HasDefaultAt board_app.top.rules k (number_rule name default low high) → HasNumber m name low high
