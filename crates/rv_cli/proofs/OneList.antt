@@ -1,13 +1,13 @@
 -- A text of timed inputs has one list, or one first refused line.
-use Rattle.std.proofs.Common.{rules, ◌≡◌, ◌∙◌, ℕ, zero, suc, ◌+◌, ◌<◌, ◌≤◌, ◌⊎◌, inl, inr, true, List, ◌∷◌, ◌++◌, length, take, drop, refl, sym, ap, subst, arith, below_more, ⊎_elim}
+use Rattle.std.proofs.Common.{rules, ◌≡◌, ◌∙◌, ℕ, zero, suc, ◌+◌, ◌<◌, ◌⊎◌, inl, inr, true, List, ◌∷◌, ◌++◌, length, take, drop, refl, sym, ap, subst, arith, ⊎_elim}
 use Rattle.std.specs.Prelude.{Option, Some, None, is_some}
 use Rattle.std.proofs.Math.Seq.{take-length}
-use Rattle.std.proofs.lemmas.Bool.{false≢true}
+use Rattle.std.proofs.lemmas.Bool.{cases_lt, false≢true}
 use Rattle.std.proofs.lemmas.List.{take-append-drop}
 use Rattle.rv_timeline.specs.declared.input.TimedInput.{TimedInput}
 use Rattle.rv_timeline.specs.Support.Reading.{IsFirstRefused}
 use Rattle.rv_timeline.specs.Timed.{never_falls, timed}
-use Rattle.rv_timeline.proofs.Whole.{all_of_append, begun}
+use Rattle.rv_timeline.proofs.Whole.{all_of_append}
 
 -- ---- lines that have a list: so have those before them
 
@@ -38,39 +38,33 @@ one_line texts n m first other = search (rules, arith)
 
 -- ---- at least one
 
-abbrev AllListed : List (List ℕ) → ℕ → Type 0
-AllListed texts n = (k : ℕ) → k < n → is_some (timed (take k texts)) ≡ true
+-- the first number below a bound for which something holds, if it does for any: else the other
+pub first_below : (P Q : ℕ → Type 0) → ((k : ℕ) → P k ⊎ Q k) → (n : ℕ)
+    → ((k : ℕ) → k < n → P k) ⊎ ((k : ℕ) × (k < n) × Q k × ((i : ℕ) → i < k → P i))
+first_below P Q either zero = inl (λ k less. absurd (omega (arith, less)))
+first_below P Q either (suc n) = elim (first_below P Q either n) [
+  | inr found ↦ inr (found.0, omega (arith, found.1), found.2, found.3)
+  | inl none ↦ elim (either n) [
+    | inr here ↦ inr (n, omega arith, here, none)
+    | inl not ↦ inl (λ k less. elim (cases_lt k n) [
+      | inl before ↦ none k before
+      | inr last ↦ let same : n ≡ k = omega (arith, less, last) in subst P same not
+    ])
+  ]
+]
 
-searched_by : (texts : List (List ℕ)) (m : ℕ) (found : Option (List TimedInput))
-    → timed (take (m + 1) texts) ≡ found → m + 1 ≤ length texts → AllListed texts (m + 1)
-    → AllListed texts (m + 1 + 1) ⊎ ((n : ℕ) × IsFirstRefused texts n)
-searched_by texts m None is le all =
-    inr (m + 1, (is, all))
-searched_by texts m (Some inputs) is le all =
-    inl (below_more (λ k. is_some (timed (take k texts)) ≡ true) (m + 1) all (ap is_some is))
+pub either : {X : Type 0} (o : Option X) → (o ≡ None) ⊎ (is_some o ≡ true)
+either None = inl refl
+either (Some x) = inr refl
 
-searched : (texts : List (List ℕ)) (m : ℕ) → m ≤ length texts
-    → AllListed texts (m + 1) ⊎ ((n : ℕ) × IsFirstRefused texts n)
-searched texts zero le = inl (begun texts).taken
-searched texts (suc m) le =
-    ⊎_elim (λ all. next all) (λ found. inr found) (searched texts m (omega arith))
-  where
-    at : m + 1 ≡ suc m
-    at = omega arith
-
-    next : AllListed texts (m + 1) → AllListed texts (suc m + 1) ⊎ ((n : ℕ) × IsFirstRefused texts n)
-    next all =
-        subst (λ j. AllListed texts (j + 1) ⊎ ((n : ℕ) × IsFirstRefused texts n)) at
-        (searched_by texts m (timed (take (m + 1) texts)) refl (omega arith) all)
-
-listed_by : (texts : List (List ℕ)) (found : Option (List TimedInput)) → timed texts ≡ found
-    → is_some found ≡ true → (inputs : List TimedInput) × (timed texts ≡ Some inputs)
-listed_by texts found is some = search (rules, arith)
+listed : (o : Option (List TimedInput)) → is_some o ≡ true → (inputs : List TimedInput) × (o ≡ Some inputs)
+listed (Some inputs) some = (inputs, refl)
+listed None some = absurd (false≢true some)
 
 pub list_or_line : (texts : List (List ℕ))
     → ((inputs : List TimedInput) × (timed texts ≡ Some inputs)) ⊎ ((n : ℕ) × IsFirstRefused texts n)
-list_or_line texts =
-    ⊎_elim
-    (λ all. inl (listed_by texts (timed texts) refl
-    (ap (λ ts. is_some (timed ts)) (sym (take-length texts)) ∙ all (length texts) (omega arith))))
-    (λ found. inr found) (searched texts (length texts) (omega arith))
+list_or_line texts = elim (first_below (λ k. is_some (timed (take k texts)) ≡ true) (λ k. timed (take k texts) ≡ None)
+    (λ k. ⊎_elim (λ none. inr none) (λ some. inl some) (either (timed (take k texts)))) (length texts + 1)) [
+      | inl all ↦ inl (listed (timed texts) (ap (λ ts. is_some (timed ts)) (sym (take-length texts)) ∙ all (length texts) (omega arith)))
+      | inr found ↦ inr (found.0, (found.2, found.3))
+    ]

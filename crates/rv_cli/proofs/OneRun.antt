@@ -1,6 +1,6 @@
 -- A command leaves one session, and commands one text.
-use Rattle.std.proofs.Common.{rules, ◌≡◌, ℕ, zero, suc, ◌+◌, ◌<◌, ◌≤◌, ◌⊎◌, inl, inr, List, [], ◌∷◌, ◌++◌, Option, Some, None, refl, sym, ap, subst, arith, below_more, ⊎_elim}
-use Rattle.std.specs.Prelude.{IsSome, is_some}
+use Rattle.std.proofs.Common.{rules, ◌≡◌, ℕ, ◌<◌, ◌≤◌, inl, inr, List, [], ◌∷◌, ◌++◌, Option, Some, None, refl, sym, arith}
+use Rattle.std.specs.Prelude.{IsSome}
 use Rattle.std.specs.FinSet as set
 use Rattle.std.proofs.lemmas.Bool.{cases_lt}
 use Rattle.rv_commands.specs.declared.command.Command.{Command}
@@ -16,6 +16,7 @@ use Rattle.rv_monitor.specs.declared.command.Next.TheVariants.{More, Quit}
 use Rattle.rv_monitor.specs.declared.stop.Stop.{Stop}
 use Rattle.rv_base.specs.Lines.{lines}
 use Rattle.rv_cli.specs.Output.{Does, Obeys, goes_on, none, quits}
+use Rattle.rv_cli.proofs.OneList.{either, first_below}
 
 -- ---- steps
 
@@ -39,24 +40,12 @@ module _ (breakpoints : Addresses) (n : ℕ) (old : SessionState) where
     record { count = k; within = within; going = going; least = least; state = refl },
   )
 
-  counted_by : (k : ℕ) (stop : Option Stop) → stop_at k ≡ stop → k ≤ most_of old n → GoesOn k
-      → GoesOn (k + 1) ⊎ Taken
-  counted_by k None is le going = inl (below_more (λ i. stop_at i ≡ None) k going is)
-  counted_by k (Some stop) is le going = inr (taken k le going (λ less. ap is_some is))
-
-  counted : (k : ℕ) → k ≤ most_of old n + 1 → GoesOn k ⊎ Taken
-  counted zero le = inl (λ i less. absurd (omega arith))
-  counted (suc k) le =
-      let next : k + 1 ≡ suc k = omega arith in
-      ⊎_elim
-      (λ going. subst (λ m. GoesOn m ⊎ Taken) next (counted_by k (stop_at k) refl (omega arith) going))
-      (λ found. inr found) (counted k (omega arith))
-
   -- which there is
   took_some : Taken
-  took_some =
-      ⊎_elim (λ going. taken (most_of old n) (omega arith) going (λ less. absurd (omega arith))) (λ found. found)
-      (counted (most_of old n) (omega arith))
+  took_some = elim (first_below (λ i. stop_at i ≡ None) (λ i. IsSome (stop_at i)) (λ i. either (stop_at i)) (most_of old n)) [
+    | inl going ↦ taken (most_of old n) (omega arith) going (λ less. absurd (omega (arith, less)))
+    | inr found ↦ taken found.0 (omega (arith, found.1)) found.3 (λ less. found.2)
+  ]
 
 -- ---- commands
 
