@@ -1,17 +1,209 @@
--- States that a board comes to by its inputs and its steps: what calls leave is one.
-use Rattle.std.proofs.Common.{rules, ◌≡◌, ◌∙◌, ℕ, zero, suc, ◌+◌, ◌-◌, ◌<◌, true, List, sym, ap, subst, arith, inl, inr, ⊎_elim}
-use Rattle.std.specs.Prelude.{◌⊎◌, None}
-use Rattle.std.proofs.lemmas.Bool.{cases_lt}
+-- Inputs that are given by hand, and states that a board comes to by its inputs and its steps: what calls leave is one.
+use Rattle.std.proofs.Common.{rules, ◌≡◌, ◌∙◌, ℕ, zero, suc, ◌+◌, ◌<◌, ◌≤◌, Bool, true, false, List, [], ◌∷◌, ◌++◌, length, drop, refl, sym, ap, subst, arith, ◌-◌, inl, inr, ⊎_elim, get_or}
+use Rattle.std.specs.Prelude.{◌⊎◌, nat_le, nat_lt, filter, None, map, IsSome}
+use Rattle.std.proofs.lemmas.Bool.{and_from, and_parts, eq-eqb, le-leb, le-ltb, lt-ltb, ltb-false, ltb-true, ne_eqb, cases_lt, eqb-true, false≢true}
+use Rattle.std.proofs.lemmas.List.{map-append}
 use Rattle.rv_board.specs.Support.State.{BoardState, halted_of}
+use Rattle.rv_board.specs.Move.{run}
+use Rattle.rv_board.proofs.Runs.{run_append}
+use Rattle.rv_timeline.specs.declared.input.Input.{Input}
 use Rattle.rv_timeline.specs.declared.input.TimedInput.{TimedInput}
-use Rattle.rv_timeline.specs.Timed.{never_falls}
-use Rattle.rv_monitor.specs.State.{Addresses, TimedState, IsInTime, begun, after, with_due}
-use Rattle.rv_monitor.specs.Stops.{stop_after}
+use Rattle.rv_timeline.specs.Timed.{never_falls, inserted}
+use Rattle.rv_timeline.proofs.Inserted.{rises}
+use Rattle.rv_monitor.specs.Events.{inputs_at, events_of, event_of}
+use Rattle.rv_monitor.specs.Support.TimedCalls.{IsRefused}
+use Rattle.rv_monitor.specs.State.{Addresses, TimedState, IsInTime, rest, count_before, begun, after, with_due, given}
 use Rattle.rv_monitor.specs.Laws.{IsReached}
-use Rattle.rv_monitor.proofs.Times.{from_first}
-use Rattle.rv_monitor.proofs.Steps.{after_none, after_more, after_due, after_rises, halted_due, in_time_due, in_time_after}
-use Rattle.rv_monitor.proofs.Stopping.{running}
-use Rattle.rv_monitor.proofs.Given.{reached_steps, reached_due, due_twice}
+use Rattle.rv_monitor.proofs.Times.{from, of, from_earlier, tail_from, tail_rises, all_from, drop_from, late_from, late_count, none_of, none_before, from_first, from_place, late_of, count_most}
+use Rattle.rv_monitor.proofs.Steps.{inputs_late, none_due, same, after_none, due_after, again, halted_due, in_time_due, in_time_after, after_more}
+use Rattle.rv_monitor.specs.Stops.{stop_after}
+use Rattle.rv_monitor.proofs.Stopping.{running, no_reason}
+use Rattle.std.specs.FinSet as set
+use Rattle.rv_monitor.specs.Resumed.{resumed}
+use Rattle.rv_monitor.proofs.Sets.{no_member}
+
+-- ---- a list with one input more
+
+left_out : (p : TimedInput → Bool) (xs : List TimedInput) (x : TimedInput) → p x ≡ false
+    → filter p (inserted xs x) ≡ filter p xs
+unfolding inserted
+left_out p [] x out = rw out refl
+left_out p (y ∷ ys) x out = search (rules, arith, left_out p ys x out)
+
+length_inserted : (xs : List TimedInput) (x : TimedInput) → length (inserted xs x) ≡ length xs + 1
+unfolding inserted
+length_inserted [] x = omega arith
+length_inserted (y ∷ ys) x = search (rules, arith, length_inserted ys x)
+
+inserted_from : (t : ℕ) (xs : List TimedInput) (x : TimedInput) (n : ℕ) → t ≤ x.step → never_falls xs ≡ true
+    → from t (drop n xs) ≡ true → from t (drop n (inserted xs x)) ≡ true
+unfolding inserted
+inserted_from t [] x zero k h all = and_from (nat_le t x.step) true (le-leb t x.step k) refl
+inserted_from t [] x (suc zero) k h all = refl
+inserted_from t [] x (suc (suc n)) k h all = refl
+inserted_from t (y ∷ ys) x zero k h all = search (rules, arith, and_from, le-leb, and_parts, from, tail_rises, tail_from, inserted_from t ys x zero k)
+inserted_from t (y ∷ ys) x (suc n) k h all = search (rules, arith, ltb-true, drop_from, all_from, tail_rises, inserted_from t ys x n k)
+
+-- the list with the input is in time as well
+pub inserted_in_time : (b : BoardState) (xs : List TimedInput) (place t : ℕ) (x : TimedInput) → t ≤ x.step
+    → IsInTime (record { board = b; inputs = xs; place = place; taken = t })
+    → IsInTime (record { board = b; inputs = inserted xs x; place = place; taken = t })
+inserted_in_time b xs place t x at h = record {
+  within = omega (arith, h.within, length_inserted xs x);
+  rising = rises xs x h.rising;
+  ahead = inserted_from t xs x place at h.rising h.ahead;
+}
+
+-- ---- the inputs of a step, with one more
+
+module _ (t : ℕ) (input : Input) where
+  abbrev by_hand : TimedInput
+  by_hand = record { step = t; input = input }
+
+  -- it stands after the others of its step, and before all later ones
+  here_by : (y : TimedInput) (ys : List TimedInput) (b : Bool) → nat_lt t y.step ≡ b → never_falls (y ∷ ys) ≡ true
+      → drop (count_before (t + 1) ys) (inserted ys by_hand) ≡ by_hand ∷ drop (count_before (t + 1) ys) ys
+      → drop (count_before (t + 1) (y ∷ ys)) (inserted (y ∷ ys) by_hand)
+      ≡ by_hand ∷ drop (count_before (t + 1) (y ∷ ys)) (y ∷ ys)
+  unfolding inserted
+  here_by y ys true e h more =
+      let l : t < y.step = ltb-true t y.step e in
+      let none : count_before (t + 1) (y ∷ ys) ≡ 0 =
+      none_before (t + 1) (y ∷ ys) (all_from (t + 1) y ys h (omega arith)) in
+      rw (none, e) refl
+  here_by y ys false e h more = search (rules, arith, ltb-false, lt-ltb)
+
+  here : (xs : List TimedInput) → never_falls xs ≡ true
+      → drop (count_before (t + 1) xs) (inserted xs by_hand) ≡ by_hand ∷ drop (count_before (t + 1) xs) xs
+  unfolding inserted
+  here [] h = refl
+  here (y ∷ ys) h = here_by y ys (nat_lt t y.step) refl h (here ys (tail_rises y ys h))
+
+  last : (xs : List TimedInput) → never_falls xs ≡ true → of t (inserted xs by_hand) ≡ of t xs ++ by_hand ∷ []
+  unfolding inserted
+  last [] h = rw (eq-eqb t t refl) refl
+  last (y ∷ ys) h = search (rules, arith, ltb-true, none_of, all_from, eq-eqb, tail_rises, last ys (tail_rises y ys h))
+
+  count_more : (xs : List TimedInput) → count_before (t + 1) (inserted xs by_hand) ≡ count_before (t + 1) xs + 1
+  unfolding inserted
+  count_more [] = rw (lt-ltb t (t + 1) (omega arith)) refl
+  count_more (y ∷ ys) = search (rules, arith, lt-ltb, ltb-false, count_more ys)
+
+  module _ (xs : List TimedInput) (rising : never_falls xs ≡ true) where
+    pub events_before : (k : ℕ) → k ≤ t → events_of (inserted xs by_hand) 0 k ≡ events_of xs 0 k
+    unfolding events_of inputs_at
+    events_before zero h = refl
+    events_before (suc k) h = search (rules, arith, left_out, ne_eqb, same, events_before k)
+
+-- ---- states that are reached
+
+-- a board with timed inputs after its first steps, by its fields
+module _ (board : BoardState) (xs : List TimedInput) where
+  abbrev after_steps : ℕ → TimedState
+  after_steps k = record { board = run board (events_of xs 0 k); inputs = xs; place = count_before k xs; taken = k }
+
+  abbrev after_inputs : ℕ → TimedState
+  after_inputs k = record {
+    board = run (run board (events_of xs 0 k)) (inputs_at xs k);
+    inputs = xs;
+    place = count_before (k + 1) xs;
+    taken = k;
+  }
+
+  pub after_begun : (k : ℕ) → after (begun board xs) k ≡ after_steps k
+  unfolding after
+  after_begun k = search (rules, arith, same)
+
+  module _ (rising : never_falls xs ≡ true) (k : ℕ) where
+    pub due_begun : with_due (after (begun board xs) k) ≡ after_inputs k
+    unfolding with_due
+    due_begun = search (rules, arith, after_begun, same, inputs_late, late_count)
+
+    -- inputs are given once
+    pub due_twice : with_due (with_due (after (begun board xs) k)) ≡ with_due (after (begun board xs) k)
+    unfolding with_due
+    due_twice = search (rules, arith, due_begun, none_before, late_from, same, none_due)
+
+-- ---- an input by hand
+
+module _ (board : BoardState) (xs : List TimedInput) (rising : never_falls xs ≡ true) (t : ℕ) (input : Input) where
+  abbrev longer : List TimedInput
+  longer = inserted xs (by_hand t input)
+
+  with_longer : TimedState → TimedState
+  with_longer s = record s { inputs = longer }
+
+  -- before the other inputs of its step
+  steps_before : (k : ℕ) → k ≤ t → with_longer (after_steps board xs k) ≡ after_steps board longer k
+  unfolding with_longer
+  steps_before k h = search (rules, arith, same, events_before, left_out, le-ltb)
+
+  running_before : (k : ℕ) → k ≤ t
+      → halted_of (after (begun board longer) k).board ≡ halted_of (after (begun board xs) k).board
+  unfolding with_longer
+  running_before k h = search (rules, arith, after_begun, steps_before)
+
+-- a state by its inputs and steps
+pub reached_steps : (board : BoardState) (xs : List TimedInput) (k : ℕ) (s : TimedState)
+    → never_falls xs ≡ true → s ≡ after (begun board xs) k
+    → ((i : ℕ) → i < k → halted_of (after (begun board xs) i).board ≡ None) → IsReached board s
+unfolding after
+reached_steps board xs k s h e goes = search (rules, arith)
+
+pub reached_due : (board : BoardState) (xs : List TimedInput) (k : ℕ) (s : TimedState)
+    → never_falls xs ≡ true → s ≡ with_due (after (begun board xs) k)
+    → ((i : ℕ) → i < k → halted_of (after (begun board xs) i).board ≡ None) → IsReached board s
+unfolding after with_due
+reached_due board xs k s h e goes = search (rules, arith)
+
+pub given_listed : (board : BoardState) (s : TimedState) (input : Input) → never_falls s.inputs ≡ true
+    → (s ≡ after (begun board s.inputs) s.taken) ⊎ (s ≡ with_due (after (begun board s.inputs) s.taken))
+    → given s input ≡ with_due (after (begun board (inserted s.inputs (by_hand s.taken input))) s.taken)
+unfolding with_longer with_due inputs_at
+given_listed board s input h is = search (rules, arith, after_begun, steps_before, due_begun, same, here, eq-eqb, none_of, late_from, run_append, last, map-append, events_before, none_before, lt-ltb, count_more, rises)
+
+pub given_stands : (board : BoardState) (s : TimedState) (input : Input) → IsReached board s
+    → IsReached board (given s input)
+given_stands board s input r = reached_due board (inserted s.inputs (by_hand s.taken input)) s.taken (given s input)
+    (rises s.inputs (by_hand s.taken input) r.rising) (given_listed board s input r.rising r.state)
+    (λ i l. running_before board s.inputs r.rising s.taken input i (omega arith) ∙ r.running i l)
+
+-- ---- the calls that give an input, take a step and resume, by their fields
+
+pub grown_in_time : (b : BoardState) (xs ys : List TimedInput) (place t : ℕ) (x : TimedInput)
+    → ys ≡ inserted xs x → t ≤ x.step → IsInTime (record { board = b; inputs = xs; place = place; taken = t })
+    → IsInTime (record { board = b; inputs = ys; place = place; taken = t }) × (from t (drop place ys) ≡ true)
+grown_in_time b xs ys place t x is le h =
+    let grown = inserted_in_time b xs place t x le h in (
+      subst (λ zs. IsInTime (record { board = b; inputs = zs; place = place; taken = t })) (sym is) grown,
+      ap (λ zs. from t (drop place zs)) is ∙ grown.ahead,
+    )
+
+pub stepped_in_time : (b c : BoardState) (xs : List TimedInput) (place t later : ℕ) (s : TimedState)
+    → record { board = b; inputs = xs; place = place; taken = t } ≡ s
+    → IsInTime (record { board = b; inputs = xs; place = place; taken = t }) → from later (rest s) ≡ true
+    → s.taken < later → IsInTime (record { board = c; inputs = xs; place = place; taken = t + 1 })
+stepped_in_time b c xs place t later s e h quiet after_now =
+    let time : t ≡ s.taken = ap (λ u. u.taken) e in
+    record {
+      within = h.within;
+      rising = h.rising;
+      ahead = from_earlier (t + 1) later (drop place xs) (ap (λ u. from later (rest u)) e ∙ quiet) (omega arith);
+    }
+
+pub restored : (b c : BoardState) (xs ys : List TimedInput) (place t n : ℕ) → ys ≡ xs
+    → IsInTime (record { board = b; inputs = xs; place = place; taken = t }) × (from n (drop place xs) ≡ true)
+    → IsInTime (record { board = c; inputs = ys; place = place; taken = t }) × (from n (drop place ys) ≡ true)
+restored b c xs ys place t n e h = search (rules, arith, from)
+
+pub restored_is : (b c : BoardState) (xs ys : List TimedInput) (place t : ℕ) (s : TimedState)
+    → record { board = b; inputs = xs; place = place; taken = t } ≡ s → c ≡ b → ys ≡ xs
+    → record { board = c; inputs = ys; place = place; taken = t } ≡ s
+restored_is b c xs ys place t s e f g = rw (f, g) e
+
+pub same_inputs : (a : Addresses) (most : ℕ) (old new : TimedState) → IsRefused a most old new → new.inputs ≡ old.inputs
+unfolding after with_due
+same_inputs a most old new r = ap (λ u. u.inputs) r.state
 
 -- ---- more steps
 
@@ -33,20 +225,21 @@ module _ (board : BoardState) (s : TimedState) (r : IsReached board s) where
   abbrev first : TimedState
   first = begun board s.inputs
 
-  more : s ≡ after first s.taken → (n : ℕ) → after s n ≡ after first (s.taken + n)
-  more e n = search (rules, arith, after_more, h)
+  -- with the inputs of the next step it is what the steps and these inputs make
+  due_is : (s ≡ after first s.taken) ⊎ (s ≡ with_due (after first s.taken)) → with_due s ≡ with_due (after first s.taken)
+  due_is (inl e) = ap with_due e
+  due_is (inr e) = ap with_due e ∙ due_twice board s.inputs r.rising s.taken
 
-  more_due : s ≡ with_due (after first s.taken) → (j : ℕ) → after s (1 + j) ≡ after first (s.taken + (1 + j))
-  more_due e j = search (rules, arith, after_due, after_rises, after_more)
+  more : (n : ℕ) → 0 < n → after s n ≡ after first (s.taken + n)
+  more n some = sym (due_after s n r.rising some) ∙ (ap (λ u. after u n) (due_is r.state)
+      ∙ again first (begun_in_time board s.inputs r.rising) s.taken n some)
 
-  halted_same : (s ≡ after first s.taken) ⊎ (s ≡ with_due (after first s.taken)) → (j : ℕ)
-      → halted_of (after s j).board ≡ halted_of (after first (s.taken + j)).board
-  halted_same (inl e) j = ap (λ u. halted_of u.board) (more e j)
-  halted_same (inr e) zero = search (rules, arith, after_none, h, halted_due)
-  halted_same (inr e) (suc j) =
-      let one : suc j ≡ 1 + j = omega arith in
-      ap (λ n. halted_of (after s n).board) one
-      ∙ (ap (λ u. halted_of u.board) (more_due e j) ∙ ap (λ n. halted_of (after first (s.taken + n)).board) (sym one))
+  halted_same : (n : ℕ) → halted_of (after s n).board ≡ halted_of (after first (s.taken + n)).board
+  halted_same zero =
+      let same_step : s.taken ≡ s.taken + 0 = omega arith in
+      ap (λ u. halted_of u.board) (after_none s h) ∙ (sym (halted_due s) ∙ (ap (λ u. halted_of u.board) (due_is r.state)
+      ∙ (halted_due (after first s.taken) ∙ ap (λ n. halted_of (after first n).board) same_step)))
+  halted_same (suc n) = ap (λ u. halted_of u.board) (more (suc n) (omega arith))
 
   module _ (n : ℕ) (goes : (j : ℕ) → j < n → halted_of (after s j).board ≡ None) where
     goes_on : (i : ℕ) → i < s.taken + n → halted_of (after first i).board ≡ None
@@ -54,27 +247,15 @@ module _ (board : BoardState) (s : TimedState) (r : IsReached board s) where
         (λ later.
         let sum : i ≡ s.taken + (i - s.taken) = omega arith in
         ap (λ k. halted_of (after first k).board) sum
-        ∙ (sym (halted_same r.state (i - s.taken)) ∙ goes (i - s.taken) (omega arith))) (cases_lt i s.taken)
-
-  after_stands_by : (s ≡ after first s.taken) ⊎ (s ≡ with_due (after first s.taken))
-      → (n : ℕ) → ((j : ℕ) → j < n → halted_of (after s j).board ≡ None) → IsReached board (after s n)
-  after_stands_by (inl e) n goes =
-      reached_steps board s.inputs (s.taken + n) (after s n) r.rising (more e n) (goes_on n goes)
-  after_stands_by (inr e) zero goes = search (rules, arith, reached_due, after_none, h)
-  after_stands_by (inr e) (suc j) goes =
-      let one : suc j ≡ 1 + j = omega arith in
-      reached_steps board s.inputs (s.taken + suc j) (after s (suc j)) r.rising
-      (ap (after s) one ∙ (more_due e j ∙ ap (λ n. after first (s.taken + n)) (sym one))) (goes_on (suc j) goes)
+        ∙ (sym (halted_same (i - s.taken)) ∙ goes (i - s.taken) (omega arith))) (cases_lt i s.taken)
 
   pub after_stands : (n : ℕ) → ((j : ℕ) → j < n → halted_of (after s j).board ≡ None) → IsReached board (after s n)
-  after_stands n goes = search (rules, arith, after_stands_by)
-
-  due_stands_by : (s ≡ after first s.taken) ⊎ (s ≡ with_due (after first s.taken)) → IsReached board (with_due s)
-  due_stands_by (inl e) = reached_due board s.inputs s.taken (with_due s) r.rising (ap with_due e) r.running
-  due_stands_by (inr e) = search (rules, arith, reached_due, due_twice)
+  after_stands zero goes = subst (IsReached board) (sym (after_none s h)) r
+  after_stands (suc n) goes = reached_steps board s.inputs (s.taken + suc n) (after s (suc n)) r.rising
+      (more (suc n) (omega arith)) (goes_on (suc n) goes)
 
   pub due_stands : IsReached board (with_due s)
-  due_stands = search (rules, arith, due_stands_by)
+  due_stands = reached_due board s.inputs s.taken (with_due s) r.rising (due_is r.state) r.running
 
 -- ---- what calls leave
 
@@ -97,3 +278,61 @@ module _ (board : BoardState) (old new : TimedState) (r : IsReached board old) w
 
   pub due_is_reached : new ≡ with_due old → IsReached board new
   due_is_reached is = subst (IsReached board) (sym is) (due_stands board old r)
+
+-- ---- the number of inputs before a step, one after another
+
+module _ (t : ℕ) where
+  pub counted_till : (xs : List TimedInput) (i : ℕ) (x d : TimedInput) → never_falls xs ≡ true → i < length xs
+      → x ≡ get_or xs i d → t ≤ x.step → i + count_before t (drop i xs) ≡ count_before t xs → i ≡ count_before t xs
+  counted_till xs i x d rising h e k more =
+      let none : count_before t (drop i xs) ≡ 0 = none_before t (drop i xs)
+      (from_earlier t (get_or xs i d).step (drop i xs) (from_place xs i d rising h)
+      (omega (arith, ap (λ y. y.step) e))) in
+      omega (arith, none, more)
+
+-- ---- a board that goes on is in time
+
+pub resumed_in_time : (b : BoardState) (xs : List TimedInput) (t place : ℕ) → never_falls xs ≡ true
+    → place ≡ count_before t xs
+    → IsInTime (record { board = b; inputs = xs; place = place; taken = t }) × (from 0 (drop place xs) ≡ true)
+resumed_in_time b xs t place rising e = (
+  record {
+    within = omega (arith, e, count_most t xs);
+    rising = rising;
+    ahead = ap (λ n. from t (drop n xs)) e ∙ late_from t xs rising;
+  },
+  from_first (drop place xs),
+)
+
+-- ---- where no input of the next step was given, the board is what the steps taken left
+
+none_counted : (t : ℕ) (xs : List TimedInput) → count_before (t + 1) xs ≡ 0 → of t xs ≡ []
+none_counted t [] h = refl
+none_counted t (x ∷ xs) h = search (rules, arith, lt-ltb, eqb-true, none_counted t xs)
+
+none_at : (t : ℕ) (xs : List TimedInput) → never_falls xs ≡ true → count_before (t + 1) xs ≡ count_before t xs
+    → inputs_at xs t ≡ []
+unfolding inputs_at
+none_at t xs rising e =
+    let late = drop (count_before t xs) xs in
+    let none : count_before (t + 1) late ≡ 0 = omega (arith, late_count t (t + 1) (omega arith) xs rising, e) in
+    ap (map (λ x. event_of x.input)) (sym (late_of t t (omega arith) xs rising) ∙ none_counted t late none)
+
+module _ (first : BoardState) (s : TimedState) (r : IsReached first s) where
+  abbrev from_reset_on : TimedState
+  from_reset_on = begun first s.inputs
+
+  pub left_by_steps : s.place ≡ count_before s.taken s.inputs → s.board ≡ run first (events_of s.inputs 0 s.taken)
+  left_by_steps h = search (rules, arith, after_begun, due_begun, none_at)
+
+  -- ---- the steps that are left are taken again
+
+  module _ (b : BoardState) (k n : ℕ) (new : TimedState) (h : b ≡ run first (events_of s.inputs 0 k))
+      (below : k ≤ n) (within : n ≤ s.taken) (count : ℕ) (most : count ≤ n - k)
+      (least : count < n - k → IsSome (stop_after set.empty new.board count))
+      (state : new ≡ after (resumed b s.inputs k) count) where
+    resumed_is : resumed b s.inputs k ≡ after from_reset_on k
+    resumed_is = search (rules, arith, after_begun)
+
+    pub resumed_back : new ≡ after from_reset_on n
+    resumed_back = search (rules, arith, resumed_is, after_more, no_reason, no_member, false≢true, cases_lt)

@@ -1,11 +1,15 @@
--- Lists of addresses, seen as sets.
-use Rattle.std.proofs.Common.{rules, ◌≡◌, ◌∙◌, ℕ, Bool, true, false, cond, List, [], ◌∷◌, length, sym, refl, ap, arith}
-use Rattle.std.specs.Prelude.{nat_eq, nat_le, ◌≤◌, ◌||◌, ◌&&◌, not}
+-- Lists of addresses, seen as sets; the filter of their flags, and the room for more of them.
+use Rattle.std.proofs.Common.{rules, ◌≡◌, ◌∙◌, ℕ, ◌-◌, ◌<◌, Bool, true, false, cond, List, [], ◌∷◌, length, get_or, set, sym, refl, ap, arith, true≢false}
+use Rattle.std.specs.Prelude.{nat_eq, ◌||◌, ◌&&◌, ◌==◌, not, if◌then◌else◌}
 use Rattle.std.specs.List.{list_any}
+use Rattle.std.proofs.lemmas.Bool.{cases_eq, cond-false, cond-true, le-ltb, lt-ltb}
+use Rattle.std.proofs.lemmas.List.{get_or-set_same, get_or-set_other}
 use Rattle.std.specs.Ordering.{nat_cmp}
 use Rattle.std.specs.Cmp.{nat_cmp_total, unsigned_tied, nat_eq_equiv}
-use Rattle.std.specs.FinSet as set
-use Rattle.std.specs.FinSet.{from_list, insert, remove, contains, same_set, contains-empty, contains-insert, contains-remove, nat_cmp-IsAntisymmetric}
+use Rattle.std.specs.FinSet.{FinSet, empty, from_list, insert, remove, contains, same_set, contains-empty, contains-insert, contains-remove, nat_cmp-IsAntisymmetric, len-insert, len-remove}
+use Rattle.rv_monitor.specs.Breaks.{Breaks, room_after}
+use Rattle.rv_monitor.specs.declared.filter.BreakpointFilter.{BreakpointFilter}
+use Rattle.rv_monitor.specs.Support.Filter.{may_contain, MayContainAll}
 
 abbrev is_in : List ℕ → ℕ → Bool
 is_in xs q = list_any (nat_eq q) xs
@@ -30,12 +34,12 @@ inserted xs ys x each = same_set nat_cmp_total nat_cmp-IsAntisymmetric _ _ (λ q
     ∙ ap (λ b. nat_eq x q || b) (has xs q))))))
 
 -- an address that is there already, inserted again
-with_same : (s : set.FinSet nat_cmp) (x q : ℕ) (b : Bool) → nat_eq x q ≡ b → contains s x ≡ true →
+with_same : (s : FinSet nat_cmp) (x q : ℕ) (b : Bool) → nat_eq x q ≡ b → contains s x ≡ true →
     (nat_eq x q || contains s q) ≡ contains s q
 with_same s x q b e h = search (rules, arith)
 
 -- so inserting it changes nothing
-pub there : (s : set.FinSet nat_cmp) (x : ℕ) → contains s x ≡ true → s ≡ insert s x
+pub there : (s : FinSet nat_cmp) (x : ℕ) → contains s x ≡ true → s ≡ insert s x
 there s x h = same_set nat_cmp_total nat_cmp-IsAntisymmetric _ _ (λ q.
     sym (contains-insert nat_cmp_total s x q ∙ (ap (λ b. b || contains s q)
     (unsigned_tied q x ∙ nat_eq_equiv.symm q x) ∙ with_same s x q (nat_eq x q) refl h)))
@@ -49,10 +53,51 @@ removed xs ys x each = same_set nat_cmp_total nat_cmp-IsAntisymmetric _ _ (λ q.
     (unsigned_tied q x ∙ nat_eq_equiv.symm q x) ∙ ap (λ b. not (nat_eq x q) && b) (has xs q))))))
 
 -- the set of the empty list is empty
-pub none_listed : (xs : List ℕ) → length xs ≡ 0 → set.empty {R = nat_cmp} ≡ from_list {R = nat_cmp} xs
+pub none_listed : (xs : List ℕ) → length xs ≡ 0 → empty {R = nat_cmp} ≡ from_list {R = nat_cmp} xs
 none_listed [] e = refl
 none_listed (x ∷ xs) e = absurd (omega arith)
 
 -- the empty set has no member
-pub no_member : (q : ℕ) → false ≡ contains (set.empty {R = nat_cmp}) q
+pub no_member : (q : ℕ) → false ≡ contains (empty {R = nat_cmp}) q
 no_member q = search (rules, arith, contains-empty)
+
+-- ---- the filter after an address is added or removed
+
+-- a flag that is on stays on when another is turned on
+pub flag_stays : (flags : List Bool) (i j : ℕ) → i < length flags → get_or flags j false ≡ true →
+    get_or (set flags i true) j false ≡ true
+flag_stays flags i j lt h = grind (arith, get_or-set_same, get_or-set_other, cases_eq j i)
+
+-- the filter fits the list with one address less
+pub filter_after_remove : (old new : List ℕ) (x : ℕ) (filter : BreakpointFilter) → MayContainAll old filter
+    → ((q : ℕ) → list_any (nat_eq q) new ≡ cond (nat_eq x q) false (list_any (nat_eq q) old)) → MayContainAll new filter
+filter_after_remove old new x filter was each q h = go (nat_eq x q) (each q) where
+  go : (b : Bool) → list_any (nat_eq q) new ≡ cond b false (list_any (nat_eq q) old) → may_contain filter q ≡ true
+  go true f = absurd (true≢false (sym h ∙ f))
+  go false f = was q (sym f ∙ h)
+
+-- an address whose flag is off is not in the list
+pub none_outside : (addresses : List ℕ) (filter : BreakpointFilter) (x : ℕ) → MayContainAll addresses filter →
+    may_contain filter x ≡ false → list_any (nat_eq x) addresses ≡ false
+none_outside addresses filter x was none = go (list_any (nat_eq x) addresses) refl where
+  go : (b : Bool) → list_any (nat_eq x) addresses ≡ b → list_any (nat_eq x) addresses ≡ false
+  go true e = absurd (true≢false (sym (was x e) ∙ none))
+  go false e = e
+
+-- ---- the room after an address is added or removed
+
+-- an address that was there already takes no place
+pub one_there : (b : Breaks) (x : ℕ) → contains b.addresses x ≡ true → b.room ≡ room_after b (insert b.addresses x)
+unfolding room_after
+one_there b x h = search (rules, arith, len-insert, nat_cmp_total, cond-false, le-ltb)
+
+-- another takes one, of nine that were made where there was none
+pub one_more : (b : Breaks) (x : ℕ) → contains b.addresses x ≡ false
+    → room_after b (insert b.addresses x) ≡ (if b.room == 0 then 9 else b.room) - 1
+unfolding room_after
+one_more b x h = search (rules, arith, len-insert, nat_cmp_total, cond-true, lt-ltb)
+
+-- and to remove one gives none back
+pub one_less : (b : Breaks) (x : ℕ) → room_after b (remove b.addresses x) ≡ b.room
+unfolding room_after
+one_less b x = search (rules, arith, len-remove, nat_cmp_total, cond-false, le-ltb)

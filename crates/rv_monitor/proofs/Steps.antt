@@ -1,11 +1,7 @@
 -- Steps with the inputs of their times.
-use Rattle.std.proofs.lemmas.Bool.Decides.{nat_tests}
-use Rattle.std.proofs.lemmas.Grind.{common_steps}
-use Rattle.std.proofs.Common.{rules, ◌≡◌, ◌∙◌, ℕ, zero, suc, ◌+◌, ◌<◌, ◌≤◌, true, false, List, [], ◌∷◌, ◌++◌, length, get_or, take, drop, replicate, refl, sym, ap, arith, append-nil, append_assoc, add_assoc}
-use Rattle.std.specs.Prelude.{nat_eq, map}
-use Rattle.std.proofs.lemmas.List.{map-append, length-drop, drop-drop, replicate_more}
-use Rattle.std.proofs.lemmas.List.Elements.{filter_more}
-use Rattle.std.proofs.lemmas.List.Filters.{length-filter_more}
+use Rattle.std.proofs.Common.{rules, ◌≡◌, ◌∙◌, ℕ, zero, suc, ◌+◌, ◌-◌, ◌<◌, ◌≤◌, true, false, List, [], ◌∷◌, ◌++◌, length, get_or, drop, replicate, refl, ap, arith, append-nil, append_assoc, add_assoc}
+use Rattle.std.specs.Prelude.{map}
+use Rattle.std.proofs.lemmas.List.{length-drop, drop-drop, drop_more, replicate_more}
 use Rattle.std.proofs.lemmas.Bool.{eq-eqb, lt-ltb}
 use Rattle.rv_board.specs.Support.State.{BoardState, halted_of}
 use Rattle.rv_board.specs.Move.{moved, run, writes}
@@ -17,7 +13,7 @@ use Rattle.rv_timeline.specs.declared.input.TimedInput.{TimedInput}
 use Rattle.rv_timeline.specs.Timed.{never_falls}
 use Rattle.rv_monitor.specs.Events.{event_of, inputs_at, events_of}
 use Rattle.rv_monitor.specs.State.{TimedState, IsInTime, rest, count_before, after, with_due}
-use Rattle.rv_monitor.proofs.Times.{from, from_earlier, late_from, late_of, late_count, drop_rises, drop_from, none_before, due_step, later_of, later_count, none_of, count_most}
+use Rattle.rv_monitor.proofs.Times.{from, from_earlier, late_from, late_of, late_count, drop_rises, drop_from, none_before, head_from, tail_from, all_from, none_of, count_most}
 
 -- ---- no input runs out of memory
 
@@ -57,11 +53,14 @@ pub run_step : (b : BoardState) (xs : List TimedInput) (t : ℕ) →
 unfolding events_of
 run_step b xs t = search (rules, arith, run_more)
 
--- steps after inputs that were given ahead of them
+-- where all inputs are later none comes, as after those that were given ahead of a step
+pub none_come : (xs : List TimedInput) (t : ℕ) → from (t + 1) xs ≡ true → inputs_at xs t ≡ []
+unfolding inputs_at
+none_come xs t h = search (rules, arith, none_of)
+
 pub none_due : (xs : List TimedInput) (t : ℕ) → never_falls xs ≡ true →
     inputs_at (drop (count_before (t + 1) xs) xs) t ≡ []
-unfolding inputs_at
-none_due xs t h = search (rules, arith, none_of, late_from)
+none_due xs t h = search (rules, arith, none_come, late_from)
 
 -- ---- states
 
@@ -161,61 +160,49 @@ module _ (b : BoardState) (xs : List TimedInput) (place t later : ℕ)
   none_is_due = search (rules, arith, none_before, from_earlier, same, none_of)
 
 -- a state whose next n inputs were given, by its fields
-module _ (b : BoardState) (xs more : List TimedInput) (place t n : ℕ) (is : more ≡ drop place xs)
-    (count : n ≡ count_before (t + 1) more) where
-  abbrev pub old : TimedState
-  old = record { board = b; inputs = xs; place = place; taken = t }
+module _ (xs more : List TimedInput) (place n p : ℕ) (is : more ≡ drop place xs) (at : p ≡ place + n) where
+  pub left_from : (u : ℕ) → from u (drop n more) ≡ true → from u (drop p xs) ≡ true
+  left_from u h = rw (at, ← drop-drop, ← is) h
 
-  number : n ≡ count_before (t + 1) (rest old)
-  number = search (rules, arith)
+  module _ (b c : BoardState) (t : ℕ) where
+    abbrev pub old : TimedState
+    old = record { board = b; inputs = xs; place = place; taken = t }
 
-  pub given_in_time : (c : BoardState) (p : ℕ) → IsInTime old → p ≡ place + n →
-      IsInTime (record { board = c; inputs = xs; place = p; taken = t })
-  unfolding with_due
-  given_in_time c p h at = rw (at, number) (let g = in_time_due old h
-      in record { within = g.within; rising = g.rising; ahead = g.ahead })
+    pub given_in_time : IsInTime old → n ≤ length more → from (t + 1) (drop n more) ≡ true
+        → IsInTime (record { board = c; inputs = xs; place = p; taken = t })
+    given_in_time h le left = let left_over = ap length is ∙ length-drop place xs in record {
+      within = omega (arith, h.within, left_over);
+      rising = h.rising;
+      ahead = from_earlier t (t + 1) (drop p xs) (left_from (t + 1) left) (omega arith);
+    }
 
-  pub given_all : (p : ℕ) → IsInTime old → p ≡ place + n → from (t + 1) (drop p xs) ≡ true
-  given_all p h at = ap (λ i. from (t + 1) (drop i xs)) (at ∙ ap (λ i. place + i) number)
-      ∙ (ap (from (t + 1)) (rest_late old (t + 1)) ∙ late_from (t + 1) (rest old) (drop_rises place xs h.rising))
-
-  pub given_is_due : (c : BoardState) (p : ℕ) → c ≡ run b (inputs_at more t) → p ≡ place + n →
-      ◌≡◌ {A = TimedState} (record { board = c; inputs = xs; place = p; taken = t }) (with_due old)
-  unfolding with_due
-  given_is_due c p ran at = search (rules, arith, same, number)
+    pub given_is_due : n ≡ count_before (t + 1) more → c ≡ run b (inputs_at more t)
+        → ◌≡◌ {A = TimedState} (record { board = c; inputs = xs; place = p; taken = t }) (with_due old)
+    unfolding with_due
+    given_is_due count ran = search (rules, arith, same)
 
 -- ---- the inputs of a time are given one after another
 
-inputs_more : (xs : List TimedInput) (t i : ℕ) (d : TimedInput) → i < length xs → nat_eq (get_or xs i d).step t ≡ true
-    → inputs_at (take (i + 1) xs) t ≡ inputs_at (take i xs) t ++ event_of (get_or xs i d).input ∷ []
-unfolding inputs_at
-inputs_more xs t i d lt e = rw (filter_more (λ x. nat_eq x.step t) xs i d lt, e, map-append) refl
+module _ (xs : List TimedInput) (t i : ℕ) (x d : TimedInput) (lt : i < length xs) (at : x ≡ get_or xs i d) where
+  first_left : drop i xs ≡ x ∷ drop (i + 1) xs
+  first_left = rw (at) (drop_more xs i d lt)
 
--- one more input is given
-pub ran_more : (b s new : BoardState) (xs : List TimedInput) (t i : ℕ) (x d : TimedInput) → from t xs ≡ true →
-    i < length xs → x ≡ get_or xs i d → x.step ≤ t → s ≡ run b (inputs_at (take i xs) t) →
-    new ≡ moved s (event_of x.input) → new ≡ run b (inputs_at (take (i + 1) xs) t)
-ran_more b s new xs t i x d h lt at le was is =
-    let here : (get_or xs i d).step ≤ t = rw (← at) le in
-    let reached = due_step t xs i d h lt in
-    let due = eq-eqb (get_or xs i d).step t (omega (arith, here, reached)) in
-    is ∙ (ap (λ y. moved s (event_of y.input)) at ∙ (ap (λ c. moved c (event_of (get_or xs i d).input)) was
-    ∙ (sym (run_more b (inputs_at (take i xs) t) (event_of (get_or xs i d).input))
-    ∙ ap (run b) (sym (inputs_more xs t i d lt due)))))
+  -- one more input is given
+  module _ (le : x.step ≤ t) (ahead : from t (drop i xs) ≡ true) where
+    pub ran_more : (b new : BoardState) → new ≡ moved b (event_of x.input)
+        → run new (inputs_at (drop (i + 1) xs) t) ≡ run b (inputs_at (drop i xs) t)
+    unfolding inputs_at
+    ran_more b new is = search (rules, arith, first_left, eq-eqb, head_from)
 
-pub count_more : (xs : List TimedInput) (t i : ℕ) (x d : TimedInput) → i < length xs → x ≡ get_or xs i d → x.step ≤ t
-    → count_before (t + 1) (take i xs) ≡ i → count_before (t + 1) (take (i + 1) xs) ≡ i + 1
-count_more xs t i x d lt at le was = grind (arith, nat_tests, common_steps, length-filter_more, lt-ltb)
+    pub count_more : count_before (t + 1) (drop i xs) ≡ suc (count_before (t + 1) (drop (i + 1) xs))
+    count_more = rw (first_left, lt-ltb x.step (t + 1) (omega arith)) refl
 
--- at an input of a later time all inputs of this time are given
-pub ran_all : (b s : BoardState) (xs : List TimedInput) (t i : ℕ) (x d : TimedInput) → never_falls xs ≡ true →
-    i < length xs → x ≡ get_or xs i d → t < x.step → s ≡ run b (inputs_at (take i xs) t) → s ≡ run b (inputs_at xs t)
-unfolding inputs_at
-ran_all b s xs t i x d h lt at later was = search (rules, arith, later_of)
+    pub ahead_more : from t (drop (i + 1) xs) ≡ true
+    ahead_more = search (rules, arith, first_left, tail_from)
 
-pub count_all : (xs : List TimedInput) (t i : ℕ) (x d : TimedInput) → never_falls xs ≡ true → i < length xs
-    → x ≡ get_or xs i d → t < x.step → count_before (t + 1) (take i xs) ≡ i → i ≡ count_before (t + 1) xs
-count_all xs t i x d h lt at later was = search (rules, arith, later_count)
+  -- at an input of a later time all inputs of this time are given
+  pub none_left : never_falls xs ≡ true → t < x.step → from (t + 1) (drop i xs) ≡ true
+  none_left rising later = search (rules, arith, first_left, all_from, drop_rises)
 
 -- ---- the laws
 
@@ -224,5 +211,8 @@ pub runs_join : (b : BoardState) (timed : List TimedInput) (k j : ℕ) → never
     ≡ run b (events_of timed 0 (k + j))
 runs_join b timed k j h = search (rules, arith, events_late, run_append, events_join)
 
-pub again : (s : TimedState) → IsInTime s → (k j : ℕ) → after (with_due (after s k)) (1 + j) ≡ after s (k + (1 + j))
-again s h k j = search (rules, arith, after_due, after_rises, after_more)
+pub due_after : (s : TimedState) (j : ℕ) → never_falls s.inputs ≡ true → 0 < j → after (with_due s) j ≡ after s j
+due_after s j h some = let e : 1 + (j - 1) ≡ j = omega arith in rw (← e) (after_due s (j - 1) h)
+
+pub again : (s : TimedState) → IsInTime s → (k j : ℕ) → 0 < j → after (with_due (after s k)) j ≡ after s (k + j)
+again s h k j some = due_after (after s k) j (after_rises s k h.rising) some ∙ after_more s k j h.rising

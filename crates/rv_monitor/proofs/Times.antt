@@ -1,7 +1,8 @@
 -- Lists of inputs whose times never fall.
-use Rattle.std.proofs.Common.{rules, ◌≡◌, ℕ, suc, ◌+◌, ◌<◌, ◌≤◌, Bool, true, false, List, [], ◌∷◌, length, get_or, take, drop, refl, arith, zero-add, zero}
+use Rattle.std.proofs.Common.{rules, ◌≡◌, ◌∙◌, ℕ, suc, ◌+◌, ◌<◌, ◌≤◌, Bool, true, false, List, [], ◌∷◌, length, get_or, drop, refl, sym, ap, arith, zero-add}
 use Rattle.std.specs.Prelude.{nat_le, nat_lt, ◌==◌, filter}
 use Rattle.std.specs.List.{list_all}
+use Rattle.std.proofs.lemmas.List.{drop_all, drop_more}
 use Rattle.std.proofs.lemmas.List.Sums.{length-filter, count_by-le-length}
 use Rattle.std.proofs.lemmas.Bool.{and_parts, leb-true, ltb-true, ltb-false, le-leb, le-ltb, lt-ltb, ne_eqb}
 use Rattle.rv_timeline.specs.declared.input.TimedInput.{TimedInput}
@@ -41,19 +42,16 @@ drop_rises n xs h = h
 -- the time of the input at an index is the least from there on, and after the last there is none
 pub from_place : (xs : List TimedInput) (n : ℕ) (d : TimedInput) → never_falls xs ≡ true → n < length xs →
     from (get_or xs n d).step (drop n xs) ≡ true
-from_place (x ∷ xs) (suc n) d h k = from_place xs n d (tail_rises x xs h) (omega arith)
-from_place xs n d h k = search (rules, arith, all_from)
+from_place xs n d h k = rw (drop_more xs n d k) (all_from _ (get_or xs n d) (drop (n + 1) xs)
+    (rw (← drop_more xs n d k) (drop_rises n xs h)) (omega arith))
 
 pub from_end : (t n : ℕ) (xs : List TimedInput) → length xs ≤ n → from t (drop n xs) ≡ true
-from_end t zero (x ∷ xs) h = absurd (omega arith)
-from_end t (suc n) (x ∷ xs) h = from_end t n xs (omega arith)
-from_end t n xs h = refl
+from_end t n xs h = rw (drop_all n xs h) refl
 
 -- a time that all inputs have reached is at most the time of the first
 pub place_from : (xs : List TimedInput) (n : ℕ) (d : TimedInput) (t : ℕ) → n < length xs →
     from t (drop n xs) ≡ true → t ≤ (get_or xs n d).step
-place_from (x ∷ xs) (suc n) d t k h = place_from xs n d t (omega arith) h
-place_from xs n d t k h = search (rules, arith, head_from)
+place_from xs n d t k h = head_from t (get_or xs n d) (drop (n + 1) xs) (ap (from t) (sym (drop_more xs n d k)) ∙ h)
 
 -- and all of them have reached each earlier time
 pub from_earlier : (t u : ℕ) (xs : List TimedInput) → from u xs ≡ true → t ≤ u → from t xs ≡ true
@@ -100,28 +98,7 @@ module _ (t : ℕ) where
     late_count [] h = refl
     late_count (x ∷ xs) h = search (rules, arith, ltb-true, lt-ltb, late_all, zero-add, tail_rises, late_count xs (tail_rises x xs h))
 
--- ---- the inputs of a time that all have reached, one after another
-
--- each input has reached that time
-pub due_step : (t : ℕ) (xs : List TimedInput) (i : ℕ) (d : TimedInput) → from t xs ≡ true → i < length xs →
-    t ≤ (get_or xs i d).step
-due_step t (x ∷ xs) (suc i) d h k = search (rules, arith, tail_from, due_step t xs i d)
-due_step t xs i d h k = search (rules, arith, head_from)
-
 -- no input after one of a later time is of time t
-module _ (t : ℕ) where
-  pub none_of : (xs : List TimedInput) → from (t + 1) xs ≡ true → of t xs ≡ []
-  none_of [] h = refl
-  none_of (x ∷ xs) h = search (rules, arith, head_from, ne_eqb, tail_from, none_of xs)
-
-  pub later_of : (xs : List TimedInput) (i : ℕ) (d : TimedInput) → never_falls xs ≡ true → i < length xs →
-      t < (get_or xs i d).step → of t xs ≡ of t (take i xs)
-  later_of [] i d h k l = absurd (omega arith)
-  later_of (x ∷ xs) zero d h k l = none_of (x ∷ xs) (all_from (t + 1) x xs h (omega arith))
-  later_of (x ∷ xs) (suc i) d h k l = search (rules, arith, tail_rises, later_of xs i d)
-
-  pub later_count : (xs : List TimedInput) (i : ℕ) (d : TimedInput) → never_falls xs ≡ true → i < length xs →
-      t < (get_or xs i d).step → count_before (t + 1) xs ≡ count_before (t + 1) (take i xs)
-  later_count [] i d h k l = absurd (omega arith)
-  later_count (x ∷ xs) zero d h k l = none_before (t + 1) (x ∷ xs) (all_from (t + 1) x xs h (omega arith))
-  later_count (x ∷ xs) (suc i) d h k l = search (rules, arith, tail_rises, later_count xs i d)
+pub none_of : (t : ℕ) (xs : List TimedInput) → from (t + 1) xs ≡ true → of t xs ≡ []
+none_of t [] h = refl
+none_of t (x ∷ xs) h = search (rules, arith, head_from, ne_eqb, tail_from, none_of t xs)

@@ -39,7 +39,7 @@ impl BreakpointFilter {
     }
 
     /// Turns an address's flag on.
-    #[tactic(auto, using(crate::proofs::Filters::flag_stays))]
+    #[tactic(auto, using(crate::proofs::Sets::flag_stays))]
     pub(crate) fn add(&mut self, address: u32)
         ensures now { may_contain self.new address ≡ true }
         ensures others { (a : ℕ) → may_contain self.old a ≡ true → may_contain self.new a ≡ true }

@@ -11,8 +11,7 @@ use Rattle.rv_timeline.specs.declared.input.TimedInput.{TimedInput}
 use Rattle.rv_monitor.specs.Events.{events_of}
 use Rattle.rv_monitor.specs.Laws.{IsReached}
 use Rattle.rv_monitor.specs.State.{TimedState, count_before}
-use Rattle.rv_monitor.proofs.Given.{events_before}
-use Rattle.rv_monitor.proofs.Resumed.{left_by_steps}
+use Rattle.rv_monitor.proofs.Reached.{events_before, left_by_steps}
 use Rattle.rv_recording.specs.Support.Kept.{KeptBoard, AreKept, AreWithin}
 
 pub kept_inserted : {E : Type 0} (r : Result Unit E) (first : BoardState) (s : TimedState)

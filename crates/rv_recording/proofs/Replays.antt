@@ -9,7 +9,7 @@ use Rattle.rv_monitor.specs.Laws.{IsReached}
 use Rattle.rv_monitor.specs.State.{SessionState, after}
 use Rattle.rv_monitor.specs.Stops.{Took}
 use Rattle.rv_monitor.specs.Resumed.{resumed, resumed_at}
-use Rattle.rv_monitor.proofs.Resumed.{resumed_back}
+use Rattle.rv_monitor.proofs.Reached.{resumed_back}
 use Rattle.rv_recording.specs.Recording.{RecordingState, first_board, gone_back}
 
 pub replayed : (r : RecordingState) (old new : SessionState) (board : BoardState) (k n m : ℕ) → m ≡ n - k

@@ -20,9 +20,7 @@ use Rattle.rv_monitor.specs.Resumed.{resumed_at}
 use Rattle.rv_monitor.specs.State.{Addresses, SessionState, TimedState, begun, after, with_due, given, with_break, without_break}
 use Rattle.rv_monitor.specs.Stops.{Took, WasRefused, TakesStep}
 use Rattle.rv_monitor.specs.declared.stop.Stop.{Stop}
-use Rattle.rv_monitor.proofs.Given.{given_stands, reached_steps}
-use Rattle.rv_monitor.proofs.Resumed.{resumed_back}
-use Rattle.rv_monitor.proofs.Reached.{begun_stands, stopped_stands, refused_stands, step_stands, due_is_reached}
+use Rattle.rv_monitor.proofs.Reached.{given_stands, reached_steps, resumed_back, begun_stands, stopped_stands, refused_stands, step_stands, due_is_reached}
 use Rattle.rv_monitor.specs.Opening.{Opens}
 use Rattle.rv_recording.specs.Recording.{RecordingState, gone_back}
 use Rattle.rv_recording.specs.Support.Recorded.{IsRecorded}

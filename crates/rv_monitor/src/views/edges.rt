@@ -14,7 +14,7 @@ use rv_ram::ByteMemory;
 const LINE_BYTES: usize = 27;
 
 /// Appends the line of a source's number and how many of its edges are pending.
-#[tactic(auto, using(crate::proofs::Decimals::two_at_most), unfolding(crate::specs::Views::edges_text))]
+#[tactic(auto, using(crate::proofs::Pieces::two_at_most), unfolding(crate::specs::Views::edges_text))]
 pub fn write_edges<M: ByteMemory, C: Decoded>(
     board: &Board<M, C>,
     source: Source,

@@ -37,7 +37,6 @@ fn append_trap(trap: TrapRecord, text: &mut Vec<u8>)
 }
 
 /// Appends a line for each trap that the board keeps, oldest first.
-#[tactic(auto, using(crate::proofs::Traps::no_trap, crate::proofs::Traps::one_more_trap, crate::proofs::Traps::all_traps))]
 pub fn write_traps<M: ByteMemory, C: Decoded>(
     board: &Board<M, C>,
     text: &mut Vec<u8>,

@@ -1,4 +1,4 @@
-use Rattle.rv_monitor.proofs.Given.{given_listed, given_stands}
+use Rattle.rv_monitor.proofs.Reached.{given_listed, given_stands}
 use Rattle.rv_monitor.proofs.session.given_as_listed.Goals as goal
 
 pub returns-clause-reached : goal.returns-clause-reached
