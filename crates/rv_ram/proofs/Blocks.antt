@@ -92,145 +92,146 @@ place_is : (block biases : List ℕ) (off : ℕ) → AreStarts block (starts_fro
     → place_of biases off ≡ slice_index (starts_from biases 0) (off / 4096) + off % 4096
 place_is block biases off a l = search (rules, start_at, length_starts, count_at_most)
 
-pub length_paged : (block biases : List ℕ) → IsPaged block biases
-    → length (all_bytes (pages_in block biases)) ≡ 4096 * length biases
-unfolding IsPaged pages_in
-length_paged block biases a = length_bytes block (starts_from biases 0) (whole_pages block _ a.inside)
-    ∙ ap (λ n. 4096 * n) (length_starts biases 0)
+start_place : (s p r : ℕ) → p ≡ s + r → s % 4096 ≡ 0 → r < 4096 → leb 4096 p ≡ is_behind s
+start_place zero p r e w l = lt-leb 4096 p (omega arith)
+start_place (suc s) p r e w l = le-leb 4096 p (omega arith)
 
-pub some_pages : (block biases : List ℕ) → IsPaged block biases → 1 ≤ length biases
-unfolding IsPaged
-some_pages block biases a = omega (arith, a.some, length_starts biases 0)
-
-pub most_pages : (block biases : List ℕ) → IsPaged block biases → length biases ≤ 4096
-unfolding IsPaged
-most_pages block biases a = omega (arith, a.most, length_starts biases 0)
-
-pub block_small : (block biases : List ℕ) → IsPaged block biases → length block < 2 ^ 32
-unfolding IsPaged
-block_small block biases a = search (rules, count_at_most)
-
-pub index_in : (block biases : List ℕ) (off : ℕ) → IsPaged block biases
-    → off < length (all_bytes (pages_in block biases)) → off / 4096 < length biases
-index_in block biases off a l = omega (arith, length_paged block biases a)
+there : (block biases : List ℕ) (off : ℕ) → is_made (made_of (pages_at block (starts_from biases 0))) off ≡ true
+    → 0 < slice_index (starts_from biases 0) (off / 4096)
+there block biases off u = search (rules, is_made_at, false≢true)
 
 pub range_in : (w : Width) (off n : ℕ) → off + bytes_of w ≤ n → off < n
 range_in w off n l = search rules
-
-pub place_in : (block biases : List ℕ) (off n : ℕ) → IsPaged block biases
-    → off / 4096 < length biases → off % 4096 + n ≤ 4096 → place_of biases off + n ≤ length block
-unfolding IsPaged
-place_in block biases off n a l m = search (rules, length_starts, place_is)
-
-pub byte_in : (block biases : List ℕ) (off : ℕ) → IsPaged block biases
-    → off < length (all_bytes (pages_in block biases)) → place_of biases off < length block
-byte_in block biases off a l =
-    omega (arith, place_in block biases off 1 a (index_in block biases off a l) (omega arith))
-
-pub word_in : (block biases : List ℕ) (off : ℕ) → IsPaged block biases
-    → off + 4 ≤ length (all_bytes (pages_in block biases)) → off % 4 ≡ 0 → place_of biases off + 4 ≤ length block
-word_in block biases off a l m = place_in block biases off 4 a (index_in block biases off a (omega arith)) (omega arith)
 
 -- an aligned access stays in its page
 in_page : (w : Width) (off : ℕ) → off % bytes_of w ≡ 0 → off % 4096 + bytes_of w ≤ 4096
 in_page w off a = search rules
 
-pub range_at : (block biases : List ℕ) (off : ℕ) (w : Width) → IsPaged block biases
-    → off + bytes_of w ≤ length (all_bytes (pages_in block biases)) → off % bytes_of w ≡ 0
-    → place_of biases off + bytes_of w ≤ length block
-range_at block biases off w a l m = search (rules, place_in, index_in, range_in, in_page)
+abbrev memory : List ℕ → List ℕ → List ℕ
+memory block biases = all_bytes (pages_in block biases)
 
--- each byte of the memory is one of the block
-pub byte_of : (block biases : List ℕ) (off k : ℕ) → IsPaged block biases
-    → off < length (all_bytes (pages_in block biases)) → k ≡ place_of biases off
-    → slice_index block k ≡ slice_index (all_bytes (pages_in block biases)) off
-unfolding IsPaged pages_in
-byte_of block biases off k a l e =
-    let ss = starts_from biases 0 in
-    let i = index_in block biases off a l in
-    let q : 4096 * (off / 4096) + off % 4096 ≡ off = omega arith in
-    ap (slice_index block) (e ∙ place_is block biases off a i)
-    ∙ sym (byte_at block ss (off / 4096) (off % 4096) (whole_pages block ss a.inside)
-    (omega (arith, i, length_starts biases 0)) (omega arith)) ∙ ap (slice_index (all_bytes (pages_at block ss))) q
+abbrev has : List ℕ → List ℕ → ℕ → Bool
+has block biases off = is_made (made_of (pages_in block biases)) off
 
--- memories with the same bytes
-same_bytes : (block biases xs : List ℕ) → IsPaged block biases → length xs ≡ 4096 * length biases
-    → ((j : ℕ) → j < length xs → slice_index block (place_of biases j) ≡ slice_index xs j)
-    → all_bytes (pages_in block biases) ≡ xs
-same_bytes block biases xs a n h =
-    let m = length_paged block biases a in
-    ext_get_or 0 _ xs (m ∙ sym n)
-    (λ j l. sym (byte_of block biases j (place_of biases j) a l refl) ∙ h j (omega (arith, l, m, n)))
+module _ (block biases : List ℕ) (a : IsPaged block biases) where
+  pub length_paged : length (memory block biases) ≡ 4096 * length biases
+  unfolding IsPaged pages_in
+  length_paged = length_bytes block (starts_from biases 0) (whole_pages block _ a.inside)
+      ∙ ap (λ n. 4096 * n) (length_starts biases 0)
 
--- the bytes of a page are neighbours in the block too
-near : (block biases : List ℕ) (off j : ℕ) → IsPaged block biases → off / 4096 < length biases
-    → j / 4096 ≡ off / 4096 → place_of biases j + off ≡ place_of biases off + j
-unfolding IsPaged
-near block biases off j a l e =
-    omega (
-      arith,
-      place_is block biases off a l,
-      place_is block biases j a (omega arith),
-      ap (slice_index (starts_from biases 0)) e,
-    )
+  pub some_pages : 1 ≤ length biases
+  unfolding IsPaged
+  some_pages = omega (arith, a.some, length_starts biases 0)
 
-place_rest : (block biases : List ℕ) (off : ℕ) → IsPaged block biases → off / 4096 < length biases
-    → place_of biases off % 4096 ≡ off % 4096
-unfolding IsPaged
-place_rest block biases off a l =
-    omega (arith, place_is block biases off a l, a.whole (off / 4096) (omega (arith, l, length_starts biases 0)))
+  pub most_pages : length biases ≤ 4096
+  unfolding IsPaged
+  most_pages = omega (arith, a.most, length_starts biases 0)
 
-pub word_of : (block biases : List ℕ) (off k : ℕ) → IsPaged block biases
-    → off + 4 ≤ length (all_bytes (pages_in block biases)) → off % 4 ≡ 0 → k ≡ place_of biases off
-    → value_at block k 4 ≡ value_at (all_bytes (pages_in block biases)) off 4
-word_of block biases off k a l m e = same_value block (all_bytes (pages_in block biases)) k off 4
-    (λ j less. byte_of block biases (off + j) (k + j) a (omega arith)
-    (omega (arith, e, near block biases off (off + j) a (index_in block biases off a (omega arith)) (omega arith))))
+  pub block_small : length block < 2 ^ 32
+  unfolding IsPaged
+  block_small = search (rules, count_at_most)
 
--- ---- which pages exist
-pub made_place : (block biases : List ℕ) (off : ℕ) → IsPaged block biases → off / 4096 < length biases
-    → leb 4096 (place_of biases off) ≡ is_made (made_of (pages_in block biases)) off
-unfolding IsPaged pages_in
-made_place block biases off a l =
-    let ss = starts_from biases 0 in
-    by_start (slice_index ss (off / 4096)) (place_of biases off) (off % 4096) (place_is block biases off a l)
-    (a.whole (off / 4096) (omega (arith, length_starts biases 0))) (omega arith) ∙ sym (is_made_at block ss (off / 4096))
-  where
-    by_start : (s p r : ℕ) → p ≡ s + r → s % 4096 ≡ 0 → r < 4096 → leb 4096 p ≡ is_behind s
-    by_start zero p r e w l = lt-leb 4096 p (omega arith)
-    by_start (suc s) p r e w l = le-leb 4096 p (omega arith)
+  pub index_in : (off : ℕ) → off < length (memory block biases) → off / 4096 < length biases
+  index_in off l = omega (arith, length_paged)
 
-start_is : (block ss : List ℕ) (i : ℕ) (b : Bool) → slice_index_or (made_of (pages_at block ss)) i false ≡ b
-    → is_behind (slice_index ss i) ≡ b
-start_is block ss i b e = sym (is_made_at block ss i) ∙ e
+  place_in : (off n : ℕ) → off / 4096 < length biases → off % 4096 + n ≤ 4096 → place_of biases off + n ≤ length block
+  unfolding IsPaged
+  place_in off n l m = search (rules, length_starts, place_is)
 
--- a page that doesn't exist lies at the zeros
-unmade : (s : ℕ) → is_behind s ≡ false → s ≡ 0
-unmade s e = search (rules, false≢true)
+  pub byte_in : (off : ℕ) → off < length (memory block biases) → place_of biases off < length block
+  byte_in off l = omega (arith, place_in off 1 (index_in off l) (omega arith))
 
-zero_byte : (block biases : List ℕ) (off : ℕ) → IsPaged block biases
-    → off < length (all_bytes (pages_in block biases)) → is_made (made_of (pages_in block biases)) off ≡ false
-    → slice_index (all_bytes (pages_in block biases)) off ≡ 0
-unfolding IsPaged
-zero_byte block biases off a l u =
-    let p = place_of biases off in
-    sym (byte_of block biases off p a l refl)
-    ∙ sym (get_or-take 4096 block p 0 (leb-false 4096 p (made_place block biases off a (index_in block biases off a l) ∙ u)))
-    ∙ ap (λ xs. slice_index xs p) a.blank ∙ zero_of 4096 p
+  pub word_in : (off : ℕ) → off + 4 ≤ length (memory block biases) → off % 4 ≡ 0 → place_of biases off + 4 ≤ length block
+  word_in off l m = place_in off 4 (index_in off (omega arith)) (omega arith)
 
-pub blank : (block biases : List ℕ) (off : ℕ) → IsPaged block biases → off < length (all_bytes (pages_in block biases))
-    → is_made (made_of (pages_in block biases)) off ≡ false
-    → is_zero_page (all_bytes (pages_in block biases)) off ≡ true
-unfolding is_zero_page
-blank block biases off a l u =
-    let bs = all_bytes (pages_in block biases) in
-    let s = 4096 * (off / 4096) in
-    list_all-from_AllPass (λ byte. byte == 0) (take 4096 (drop s bs)) (λ k d h.
-    let m : k < 4096 = omega (arith, h, length-take 4096 (drop s bs)) in
-    let q : (s + k) / 4096 ≡ off / 4096 = omega arith in
-    ap (λ b. b == 0) (get_or_default_zero (take 4096 (drop s bs)) k d h ∙ get_or-take 4096 (drop s bs) k 0 m
-    ∙ get_or-drop s bs k 0 ∙ zero_byte block biases (s + k) a (omega (arith, h, length-take 4096 (drop s bs), length-drop s bs))
-    (ap (λ i. slice_index_or (made_of (pages_in block biases)) i false) q ∙ u)))
+  pub range_at : (off : ℕ) (w : Width) → off + bytes_of w ≤ length (memory block biases) → off % bytes_of w ≡ 0
+      → place_of biases off + bytes_of w ≤ length block
+  range_at off w l m = place_in off (bytes_of w) (index_in off (range_in w off _ l)) (in_page w off m)
+
+  -- each byte of the memory is one of the block
+  pub byte_of : (off k : ℕ) → off < length (memory block biases) → k ≡ place_of biases off → slice_index block k ≡ slice_index (memory block biases) off
+  unfolding IsPaged pages_in
+  byte_of off k l e =
+      let ss = starts_from biases 0 in
+      let i = index_in off l in
+      let q : 4096 * (off / 4096) + off % 4096 ≡ off = omega arith in
+      ap (slice_index block) (e ∙ place_is block biases off a i)
+      ∙ sym (byte_at block ss (off / 4096) (off % 4096) (whole_pages block ss a.inside)
+      (omega (arith, i, length_starts biases 0)) (omega arith)) ∙ ap (slice_index (all_bytes (pages_at block ss))) q
+
+  -- memories with the same bytes
+  same_bytes : (xs : List ℕ) → length xs ≡ 4096 * length biases
+      → ((j : ℕ) → j < length xs → slice_index block (place_of biases j) ≡ slice_index xs j) → memory block biases ≡ xs
+  same_bytes xs n h = ext_get_or 0 _ xs (length_paged ∙ sym n)
+      (λ j l. sym (byte_of j (place_of biases j) l refl) ∙ h j (omega (arith, l, length_paged, n)))
+
+  -- the bytes of a page are neighbours in the block too
+  near : (off j : ℕ) → off / 4096 < length biases → j / 4096 ≡ off / 4096
+      → place_of biases j + off ≡ place_of biases off + j
+  unfolding IsPaged
+  near off j l e = omega (arith, place_is block biases off a l, place_is block biases j a (omega arith), ap (slice_index (starts_from biases 0)) e)
+
+  place_rest : (off : ℕ) → off / 4096 < length biases → place_of biases off % 4096 ≡ off % 4096
+  unfolding IsPaged
+  place_rest off l =
+      omega (arith, place_is block biases off a l, a.whole (off / 4096) (omega (arith, l, length_starts biases 0)))
+
+  pub word_of : (off k : ℕ) → off + 4 ≤ length (memory block biases) → off % 4 ≡ 0 → k ≡ place_of biases off
+      → value_at block k 4 ≡ value_at (memory block biases) off 4
+  word_of off k l m e = same_value block (memory block biases) k off 4 (λ j less. byte_of (off + j) (k + j) (omega arith)
+      (omega (arith, e, near off (off + j) (index_in off (omega arith)) (omega arith))))
+
+  -- ---- which pages exist
+  pub made_place : (off : ℕ) → off / 4096 < length biases → leb 4096 (place_of biases off) ≡ has block biases off
+  unfolding IsPaged pages_in
+  made_place off l = start_place _ _ (off % 4096) (place_is block biases off a l)
+      (a.whole (off / 4096) (omega (arith, length_starts biases 0))) (omega arith)
+      ∙ sym (is_made_at block (starts_from biases 0) (off / 4096))
+
+  -- a page that doesn't exist lies at the zeros
+  zero_byte : (off : ℕ) → off < length (memory block biases) → has block biases off ≡ false → slice_index (memory block biases) off ≡ 0
+  unfolding IsPaged
+  zero_byte off l u =
+      let p = place_of biases off in
+      sym (byte_of off p l refl)
+      ∙ sym (get_or-take 4096 block p 0 (leb-false 4096 p (made_place off (index_in off l) ∙ u)))
+      ∙ ap (λ xs. slice_index xs p) a.blank ∙ zero_of 4096 p
+
+  pub blank : (off : ℕ) → off < length (memory block biases) → has block biases off ≡ false → is_zero_page (memory block biases) off ≡ true
+  unfolding is_zero_page
+  blank off l u =
+      let s = 4096 * (off / 4096) in
+      list_all-from_AllPass (λ byte. byte == 0) (take 4096 (drop s (memory block biases))) (λ k d h.
+      let m : k < 4096 = omega (arith, h, length-take 4096 (drop s (memory block biases))) in
+      let q : (s + k) / 4096 ≡ off / 4096 = omega arith in
+      ap (λ b. b == 0) (get_or_default_zero (take 4096 (drop s (memory block biases))) k d h ∙ get_or-take 4096 (drop s (memory block biases)) k 0 m
+      ∙ get_or-drop s (memory block biases) k 0
+      ∙ zero_byte (s + k) (omega (arith, h, length-take 4096 (drop s (memory block biases)), length-drop s (memory block biases)))
+      (ap (λ i. slice_index_or (made_of (pages_in block biases)) i false) q ∙ u)))
+
+  -- what lies in the block where a page that exists does is of that page
+  one_page : (off j : ℕ) → off / 4096 < length biases → j / 4096 < length biases → has block biases off ≡ true
+      → place_of biases j / 4096 ≡ place_of biases off / 4096 → j / 4096 ≡ off / 4096
+  unfolding IsPaged pages_in
+  one_page off j l m u e =
+      let n = length_starts biases 0 in
+      let same : slice_index (starts_from biases 0) (j / 4096) ≡ slice_index (starts_from biases 0) (off / 4096) =
+      omega (
+        arith,
+        e,
+        place_is block biases off a l,
+        place_is block biases j a m,
+        a.whole (off / 4096) (omega (arith, n, l)),
+        a.whole (j / 4096) (omega (arith, n, m)),
+      ) in
+      let some = there block biases off u in
+      elim (cases_lt (j / 4096) (off / 4096)) [
+        | inl before ↦ absurd (omega (arith, some, same, a.apart (j / 4096) (off / 4096) before (omega (arith, n, l)) same))
+        | inr after ↦ elim (cases_lt (off / 4096) (j / 4096)) [
+          | inl behind ↦ absurd (omega (arith, some, a.apart (off / 4096) (j / 4096) behind (omega (arith, n, m)) (sym same)))
+          | inr same ↦ omega arith
+        ]
+      ]
 
 -- zeros that are written in a page of zeros change nothing
 zero_at : (bs : List ℕ) (off j : ℕ) → off / 4096 ≡ j / 4096 → j < length bs → is_zero_page bs off ≡ true
@@ -249,34 +250,9 @@ pub zeros_put : (bs : List ℕ) (off v : ℕ) (w : Width) → off + bytes_of w �
 zeros_put bs off v w l a z e = search (rules, put_zeros, zero_at, in_page)
 
 -- ---- writes in a page that exists
-there : (block biases : List ℕ) (off : ℕ) → is_made (made_of (pages_at block (starts_from biases 0))) off ≡ true
-    → 0 < slice_index (starts_from biases 0) (off / 4096)
-there block biases off u = search (rules, is_made_at, false≢true)
-
--- what lies in the block where a page that exists does is of that page
-one_page : (block biases : List ℕ) (off j : ℕ) → IsPaged block biases → off / 4096 < length biases
-    → j / 4096 < length biases → is_made (made_of (pages_in block biases)) off ≡ true
-    → place_of biases j / 4096 ≡ place_of biases off / 4096 → j / 4096 ≡ off / 4096
-unfolding IsPaged pages_in
-one_page block biases off j a l m u e =
-    let n = length_starts biases 0 in
-    let same : slice_index (starts_from biases 0) (j / 4096) ≡ slice_index (starts_from biases 0) (off / 4096) =
-    omega (
-      arith,
-      e,
-      place_is block biases off a l,
-      place_is block biases j a m,
-      a.whole (off / 4096) (omega (arith, n, l)),
-      a.whole (j / 4096) (omega (arith, n, m)),
-    ) in
-    let some = there block biases off u in
-    elim (cases_lt (j / 4096) (off / 4096)) [
-      | inl before ↦ absurd (omega (arith, some, same, a.apart (j / 4096) (off / 4096) before (omega (arith, n, l)) same))
-      | inr after ↦ elim (cases_lt (off / 4096) (j / 4096)) [
-        | inl behind ↦ absurd (omega (arith, some, a.apart (off / 4096) (j / 4096) behind (omega (arith, n, m)) (sym same)))
-        | inr same ↦ omega arith
-      ]
-    ]
+pub made_put : (xs ys biases : List ℕ) → made_of (pages_in xs biases) ≡ made_of (pages_in ys biases)
+unfolding pages_in
+made_put xs ys biases = same_pages xs ys (starts_from biases 0)
 
 take_before : (xs : List ℕ) (m at n v : ℕ) → m ≤ at → take m (put xs at n v) ≡ take m xs
 unfolding put
@@ -286,42 +262,26 @@ take_before xs m at (suc n) v l = search (rules, take-set-le, take_before xs m a
 starts_put : (block ss : List ℕ) (at n v : ℕ) → AreStarts block ss → 4096 ≤ at → AreStarts (put block at n v) ss
 starts_put block ss at n v a l = search (rules, length_put, take_before)
 
-pub paged_put : (block biases : List ℕ) (off k v : ℕ) (w : Width) → IsPaged block biases
-    → off + bytes_of w ≤ length (all_bytes (pages_in block biases))
-    → is_made (made_of (pages_in block biases)) off ≡ true → k ≡ place_of biases off
-    → IsPaged (put block k (bytes_of w) v) biases
-unfolding IsPaged
-paged_put block biases off k v w a l u e = starts_put block (starts_from biases 0) k (bytes_of w) v a
-    (omega (
-      arith,
-      e,
-      leb-true 4096 _ (made_place block biases off a
-          (index_in block biases off a (range_in w off _ l)) ∙ u),
-    ))
+module _ (block biases : List ℕ) (off k v : ℕ) (w : Width) (a : IsPaged block biases)
+    (l : off + bytes_of w ≤ length (memory block biases)) (u : has block biases off ≡ true) (e : k ≡ place_of biases off) where
+  pub paged_put : IsPaged (put block k (bytes_of w) v) biases
+  unfolding IsPaged
+  paged_put = starts_put block (starts_from biases 0) k (bytes_of w) v a
+      (omega (arith, e, leb-true 4096 _ (made_place block biases a off (index_in block biases a off (range_in w off _ l)) ∙ u)))
 
-pub bytes_put : (block biases : List ℕ) (off k v : ℕ) (w : Width) → IsPaged block biases
-    → off + bytes_of w ≤ length (all_bytes (pages_in block biases)) → off % bytes_of w ≡ 0
-    → is_made (made_of (pages_in block biases)) off ≡ true → k ≡ place_of biases off
-    → all_bytes (pages_in (put block k (bytes_of w) v) biases)
-    ≡ put (all_bytes (pages_in block biases)) off (bytes_of w) v
-bytes_put block biases off k v w a l m u e =
-    let bs = all_bytes (pages_in block biases) in
-    let n = length_put bs off (bytes_of w) v in
-    let i = index_in block biases off a (range_in w off (length bs) l) in
-    same_bytes (put block k (bytes_of w) v) biases (put bs off (bytes_of w) v) (paged_put block biases off k v w a l u e)
-    (n ∙ length_paged block biases a) (λ j h.
-    let g : j < length bs = omega (arith, h, n) in
-    put_moved block bs k off (bytes_of w) v (place_of biases j) j
-    (omega (arith, e, range_at block biases off w a l m)) l (λ d less q.
-    let p = one_page block biases off j a i (index_in block biases j a g) u
-    (omega (arith, e, q, place_rest block biases off a i, in_page w off m)) in
-    omega (arith, e, q, near block biases off j a i p)) (λ d less q.
-    omega (arith, e, q, near block biases off j a i (omega (arith, q, less, in_page w off m))))
-    (byte_of block biases j (place_of biases j) a g refl))
-
-pub made_put : (xs ys biases : List ℕ) → made_of (pages_in xs biases) ≡ made_of (pages_in ys biases)
-unfolding pages_in
-made_put xs ys biases = same_pages xs ys (starts_from biases 0)
+  pub bytes_put : off % bytes_of w ≡ 0 → all_bytes (pages_in (put block k (bytes_of w) v) biases)
+      ≡ put (memory block biases) off (bytes_of w) v
+  bytes_put m =
+      let n = length_put (memory block biases) off (bytes_of w) v in
+      let i = index_in block biases a off (range_in w off _ l) in
+      same_bytes (put block k (bytes_of w) v) biases paged_put (put (memory block biases) off (bytes_of w) v) (n ∙ length_paged block biases a) (λ j h.
+      let g : j < length (memory block biases) = omega (arith, h, n) in
+      put_moved block (memory block biases) k off (bytes_of w) v (place_of biases j) j (omega (arith, e, range_at block biases a off w l m)) l
+      (λ d less q.
+      let p = one_page block biases a off j i (index_in block biases a j g) u (omega (arith, e, q, place_rest block biases a off i, in_page w off m)) in
+      omega (arith, e, q, near block biases a off j i p))
+      (λ d less q. omega (arith, e, q, near block biases a off j i (omega (arith, q, less, in_page w off m))))
+      (byte_of block biases a j (place_of biases j) g refl))
 
 -- ---- a page is made
 length_more : (block : List ℕ) → length (block ++ zeros 4096) ≡ length block + 4096
@@ -384,66 +344,61 @@ set_starts biases i n b e = starts_set biases 0 i b ∙ ap (set (starts_from bia
 exists : (n : ℕ) → 4096 ≤ n → is_behind n ≡ true
 exists n l = search rules
 
-pub paged_made : (block biases : List ℕ) (off b : ℕ) → IsPaged block biases
-    → off < length (all_bytes (pages_in block biases)) → is_made (made_of (pages_in block biases)) off ≡ false
-    → (4096 * (0 + off / 4096) + b) % 2 ^ 32 ≡ length block → IsPaged (block ++ zeros 4096) (set biases (off / 4096) b)
-unfolding IsPaged pages_in
-paged_made block biases off b a l u e =
-    let i = index_in block biases off a l in
-    rw (set_starts biases (off / 4096) (length block) b e)
-    (starts_made block (starts_from biases 0) (off / 4096) a (omega (arith, length_starts biases 0))
-    (unmade _ (start_is block (starts_from biases 0) (off / 4096) false u)))
+start_is : (block ss : List ℕ) (i : ℕ) (b : Bool) → slice_index_or (made_of (pages_at block ss)) i false ≡ b
+    → is_behind (slice_index ss i) ≡ b
+start_is block ss i b e = sym (is_made_at block ss i) ∙ e
 
-pub bytes_made : (block biases : List ℕ) (off b : ℕ) → IsPaged block biases
-    → off < length (all_bytes (pages_in block biases)) → is_made (made_of (pages_in block biases)) off ≡ false
-    → (4096 * (0 + off / 4096) + b) % 2 ^ 32 ≡ length block
-    → all_bytes (pages_in (block ++ zeros 4096) (set biases (off / 4096) b)) ≡ all_bytes (pages_in block biases)
-unfolding IsPaged
-bytes_made block biases off b a l u e =
-    let bs = all_bytes (pages_in block biases) in
-    let i = index_in block biases off a l in
-    same_bytes (block ++ zeros 4096) (set biases (off / 4096) b) bs (paged_made block biases off b a l u e)
-    (length_paged block biases a ∙ ap (λ n. 4096 * n) (sym (length-set biases (off / 4096) b))) (λ j h.
-    elim (cases_eq (j / 4096) (off / 4096)) [
-      | inl q ↦
-          (let p : place_of (set biases (off / 4096) b) j ≡ length block + j % 4096 =
-          omega (arith, q, e, get_or-set_at biases (off / 4096) (j / 4096) b 0 q i, a.size, block_small block biases a) in
-          ap (slice_index (block ++ zeros 4096)) p ∙ get_or-append-add block (zeros 4096) (j % 4096) 0
-          ∙ zero_of 4096 (j % 4096) ∙ sym (zero_byte block biases j a h
-          (ap (λ k. slice_index_or (made_of (pages_in block biases)) k false) q ∙ u)))
-      | inr d ↦
-          ap (λ c. slice_index (block ++ zeros 4096) ((j + c) % 2 ^ 32))
-          (get_or-set_other biases (off / 4096) (j / 4096) b 0 d)
-          ∙ get_or_append_left block (zeros 4096) 0 (place_of biases j) (byte_in block biases j a h)
-          ∙ byte_of block biases j (place_of biases j) a h refl
-    ])
+-- a page that doesn't exist lies at the zeros
+unmade : (s : ℕ) → is_behind s ≡ false → s ≡ 0
+unmade s e = search (rules, false≢true)
 
-pub made_made : (block biases : List ℕ) (off b : ℕ) → IsPaged block biases
-    → (4096 * (0 + off / 4096) + b) % 2 ^ 32 ≡ length block
-    → made_of (pages_in (block ++ zeros 4096) (set biases (off / 4096) b))
-    ≡ set (made_of (pages_in block biases)) (off / 4096) true
-unfolding IsPaged pages_in
-made_made block biases off b a e =
-    let ss = starts_from biases 0 in
-    rw (
-      set_starts biases (off / 4096) (length block) b e,
-      made_set (block ++ zeros 4096) block ss (off / 4096) (length block),
-      exists (length block) (omega (arith, a.size)),
-    ) refl
+module _ (block biases : List ℕ) (off b : ℕ) (a : IsPaged block biases) (l : off < length (memory block biases))
+    (e : (4096 * (0 + off / 4096) + b) % 2 ^ 32 ≡ length block) where
+  pub paged_made : has block biases off ≡ false → IsPaged (block ++ zeros 4096) (set biases (off / 4096) b)
+  unfolding IsPaged pages_in
+  paged_made u = rw (set_starts biases (off / 4096) (length block) b e)
+      (starts_made block (starts_from biases 0) (off / 4096) a (omega (arith, index_in block biases a off l, length_starts biases 0))
+      (unmade _ (start_is block (starts_from biases 0) (off / 4096) false u)))
 
-pub made_there : (block biases : List ℕ) (off b : ℕ) → IsPaged block biases
-    → off < length (all_bytes (pages_in block biases)) → (4096 * (0 + off / 4096) + b) % 2 ^ 32 ≡ length block
-    → is_made (made_of (pages_in (block ++ zeros 4096) (set biases (off / 4096) b))) off ≡ true
-unfolding IsPaged pages_in
-made_there block biases off b a l e =
-    let ss = starts_from biases 0 in
-    let i = index_in block biases off a l in
-    rw (
-      set_starts biases (off / 4096) (length block) b e,
-      is_made_at (block ++ zeros 4096) (set ss (off / 4096) (length block)) (off / 4096),
-      get_or-set_same ss (off / 4096) (length block) 0 (omega (arith, i, length_starts biases 0)),
-    )
-    (exists (length block) (omega (arith, a.size)))
+  pub bytes_made : has block biases off ≡ false
+      → all_bytes (pages_in (block ++ zeros 4096) (set biases (off / 4096) b)) ≡ memory block biases
+  unfolding IsPaged
+  bytes_made u = same_bytes (block ++ zeros 4096) (set biases (off / 4096) b) (paged_made u) (memory block biases)
+      (length_paged block biases a ∙ ap (λ n. 4096 * n) (sym (length-set biases (off / 4096) b)))
+      (λ j h. elim (cases_eq (j / 4096) (off / 4096)) [
+        | inl q ↦
+            (let x = get_or-set_at biases (off / 4096) (j / 4096) b 0 q (index_in block biases a off l) in
+            let p : place_of (set biases (off / 4096) b) j ≡ length block + j % 4096 =
+            omega (arith, q, e, x, a.size, block_small block biases a) in
+            ap (slice_index (block ++ zeros 4096)) p ∙ get_or-append-add block (zeros 4096) (j % 4096) 0
+            ∙ zero_of 4096 (j % 4096)
+            ∙ sym (zero_byte block biases a j h (ap (λ k. slice_index_or (made_of (pages_in block biases)) k false) q ∙ u)))
+        | inr d ↦
+            ap (λ c. slice_index (block ++ zeros 4096) ((j + c) % 2 ^ 32))
+            (get_or-set_other biases (off / 4096) (j / 4096) b 0 d)
+            ∙ get_or_append_left block (zeros 4096) 0 (place_of biases j) (byte_in block biases a j h)
+            ∙ byte_of block biases a j (place_of biases j) h refl
+      ])
+
+  pub made_made : made_of (pages_in (block ++ zeros 4096) (set biases (off / 4096) b))
+      ≡ set (made_of (pages_in block biases)) (off / 4096) true
+  unfolding IsPaged pages_in
+  made_made = rw (
+    set_starts biases (off / 4096) (length block) b e,
+    made_set (block ++ zeros 4096) block (starts_from biases 0) (off / 4096) (length block),
+    exists (length block) (omega (arith, a.size)),
+  ) refl
+
+  pub made_there : is_made (made_of (pages_in (block ++ zeros 4096) (set biases (off / 4096) b))) off ≡ true
+  unfolding IsPaged pages_in
+  made_there =
+      let ss = starts_from biases 0 in
+      rw (
+        set_starts biases (off / 4096) (length block) b e,
+        is_made_at (block ++ zeros 4096) (set ss (off / 4096) (length block)) (off / 4096),
+        get_or-set_same ss (off / 4096) (length block) 0 (omega (arith, index_in block biases a off l, length_starts biases 0)),
+      )
+      (exists (length block) (omega (arith, a.size)))
 
 -- ---- which pages exist after a write
 pub made_after_put : (made : List Bool) (off v : ℕ) (w : Width) → is_made made off ≡ true
@@ -517,9 +472,10 @@ paged_new block biases n z e l m = rw (z, e, blank_starts n m) (starts_new n l m
 
 pub bytes_new : (block biases : List ℕ) (n : ℕ) → block ≡ zeros 4096 → biases ≡ blank_biases n → 1 ≤ n → n ≤ 4096
     → all_bytes (pages_in block biases) ≡ zeros (4096 * n)
-bytes_new block biases n z e l m = same_bytes block biases (zeros (4096 * n)) (paged_new block biases n z e l m)
+bytes_new block biases n z e l m = same_bytes block biases (paged_new block biases n z e l m) (zeros (4096 * n))
     (length_zeros (4096 * n) ∙ ap (λ k. 4096 * k) (sym (ap length e ∙ length_blank n)))
-    (λ j h. ap (λ xs. slice_index xs (place_of biases j)) z ∙ zero_of 4096 (place_of biases j) ∙ sym (zero_of (4096 * n) j))
+    (λ j h. ap (λ xs. slice_index xs (place_of biases j)) z ∙ zero_of 4096 (place_of biases j)
+    ∙ sym (zero_of (4096 * n) j))
 
 pub made_new : (block biases : List ℕ) (n : ℕ) → biases ≡ blank_biases n → n ≤ 4096
     → made_of (pages_in block biases) ≡ none_made n
