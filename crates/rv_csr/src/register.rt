@@ -45,6 +45,7 @@ pub enum Register {
 
 impl Register {
     /// Returns the register at address `addr`, or None if there is none or it is one of protection.
+    #[inline(always)]
     #[tactic(auto, unfolding(crate::specs::Support::RegisterCases::register_at))]
     pub(crate) fn at(addr: u16) -> Option<Register>
         ensures { result ≡ register_at addr }

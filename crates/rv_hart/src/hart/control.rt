@@ -106,7 +106,8 @@ impl<M: ByteMemory, C: Decoded> Hart<M, C> {
     }
 
     /// Writes a control register, and computes the shortcuts anew. Returns None, and changes nothing, if the
-    /// mode may not write it.
+    /// mode may not write it. Out of line, so that an instruction that only reads one pays nothing for it.
+    #[inline(never)]
     fn write_csr(&mut self, addr: u16, value: u32) -> Option<()>
         ensures written { WritesOrRefuses
             (registers.write self.old.machine.csrs addr self.old.machine.mode value)
