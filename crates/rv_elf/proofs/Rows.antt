@@ -1,13 +1,13 @@
 -- The rows that are read back from a line table.
-use Rattle.std.proofs.Common.{rules, ◌≡◌, ◌∙◌, ℕ, zero, suc, ◌+◌, ◌-◌, ◌*◌, ◌/◌, ◌%◌, ◌^◌, ◌<◌, ◌≤◌, List, [], ◌∷◌, ◌++◌, drop, length, pos, negsuc, Some, refl, sym, ap, ap₂, arith, append_assoc, length-append, ⊎_elim}
+use Rattle.std.proofs.Common.{rules, ◌≡◌, ◌∙◌, ℕ, zero, suc, ◌+◌, ◌-◌, ◌*◌, ◌/◌, ◌%◌, ◌^◌, ◌<◌, ◌≤◌, List, [], ◌∷◌, ◌++◌, drop, length, pos, negsuc, Some, refl, ap, arith, append_assoc, length-append, ⊎_elim}
 use Rattle.std.specs.Prelude.{◌+ℤ◌}
 use Rattle.std.proofs.lemmas.Bool.{cases_lt}
 use Rattle.std.proofs.lemmas.Bool.Decides.{nat_tests}
 use Rattle.std.proofs.lemmas.Nat.{from_le_bytes-to_le_bytes_4}
-use Rattle.std.proofs.lemmas.List.{drop-drop}
-use Rattle.std.proofs.Math.Seq.{drop-append_seam, take-length}
+use Rattle.std.proofs.Math.Seq.{take-length}
+use Rattle.rv_elf.proofs.Reading.{after_part}
 use Rattle.rv_elf.specs.Elf.{word_at}
-use Rattle.rv_elf.specs.LineNumbers.{Leb, leb, Registers, initial, Row, row, end_row, Header, header, program, effect, run, rows, Rises, row_of, rows_after}
+use Rattle.rv_elf.specs.LineNumbers.{Leb, leb, Registers, initial, row, end_row, Header, program, effect, run, rows, Rises, row_of, rows_after}
 use Rattle.rv_elf.specs.declared.lines.PlacedLine.{PlacedLine}
 use Rattle.rv_elf.specs.Support.LineBytes.{leb_bytes, line_step, set_address, row_bytes, rows_bytes, end_bytes, program_bytes, header_bytes, table_bytes, AreSmall}
 use Rattle.rv_elf.proofs.Leb.{top, last, next}
@@ -29,19 +29,12 @@ record IsBack (n : ℕ) (after : List ℕ) (l : Leb) : Type 0 where
   half : n < l.half
   rest : l.rest ≡ after
 
-one_back : (n : ℕ) (rest bytes : List ℕ) → n < 64 → bytes ≡ n ∷ [] → IsBack n rest (leb (bytes ++ rest))
-one_back n rest bytes below is = rw (is, leb_last n rest (omega arith)) (record { value = refl; half = below; rest = refl })
-
-more_back : (n : ℕ) (rest bytes more : List ℕ) → bytes ≡ (n % 128 + 128) ∷ more → IsBack (n / 128) rest (leb (more ++ rest))
-    → IsBack n rest (leb (bytes ++ rest))
-more_back n rest bytes more is h = search (rules, leb_next)
-
 number_back : (k n : ℕ) (rest : List ℕ) → n < top k 64 → IsBack n rest (leb (leb_bytes k 64 n ++ rest))
 unfolding leb_bytes
-number_back zero n rest below = one_back n rest (n ∷ []) below refl
-number_back (suc k) n rest below = ⊎_elim (λ l. one_back n rest (leb_bytes (suc k) 64 n) l (last k 64 n l))
-    (λ l. more_back n rest (leb_bytes (suc k) 64 n) (leb_bytes k 64 (n / 128)) (next k 64 n l) (number_back k (n / 128) rest (omega arith)))
-    (cases_lt n 64)
+number_back zero n rest below = rw (leb_last n rest (omega arith)) record { value = refl; half = below; rest = refl }
+number_back (suc k) n rest below = ⊎_elim
+    (λ l. rw (last k 64 n l, leb_last n rest (omega arith)) record { value = refl; half = l; rest = refl })
+    (λ l. let back = number_back k (n / 128) rest (omega arith) in search (rules, leb_next, next)) (cases_lt n 64)
 
 -- ---- opcodes
 
@@ -90,10 +83,7 @@ rows_run m a from end [] rises small low =
     ∙ address_runs (suc m) end (at_line a from) (0 ∷ 1 ∷ 1 ∷ []) low ∙ end_runs m (at_line end from)
 rows_run m a from end (l ∷ ls) rises small low =
     let more : 3 * length (l ∷ ls) + (2 + m) ≡ suc (suc (suc (3 * length ls + (2 + m)))) = omega arith in
-    ap₂ (λ (n : ℕ) (x : List ℕ). run n head (at_line a from) x) more
-    (append_assoc (row_bytes from l) (rows_bytes l.line ls) (end_bytes end))
-    ∙ row_runs (3 * length ls + (2 + m)) a from l (rows_bytes l.line ls ++ end_bytes end) rises.0 small.0 small.1
-    ∙ ap (λ (x : List Row). row_of l ∷ x) (rows_run m l.address l.line end ls rises.1 small.2 low)
+    search (rules, append_assoc, row_runs, rows_run m l.address l.line end ls)
 
 rows_length : (from : ℕ) (ls : List PlacedLine) → 3 * length ls ≤ length (rows_bytes from ls)
 rows_length from [] = omega arith
@@ -105,13 +95,9 @@ program_runs end ls rises small low =
     let m = length (program_bytes end ls) - (3 * length ls + 2) in
     let e : length (program_bytes end ls) ≡ 3 * length ls + (2 + m) =
     omega (arith, length-append (rows_bytes 1 ls) (end_bytes end), rows_length 1 ls) in
-    ap (λ (n : ℕ). run n head initial (program_bytes end ls)) e ∙ rows_run m 0 1 end ls rises small low
+    search (rules, rows_run)
 
 -- ---- a whole table
-
-header_back : (name : List ℕ) (end : ℕ) (ls : List PlacedLine) → header (table_bytes name end ls) ≡ head
-unfolding table_bytes
-header_back name end ls = refl
 
 sizes_back : (name : List ℕ) (end : ℕ) (ls : List PlacedLine) → length (table_bytes name end ls) < 4 + 2 ^ 32 →
     (word_at (table_bytes name end ls) 6 ≡ length (header_bytes name))
@@ -132,22 +118,13 @@ program_back : (name : List ℕ) (end : ℕ) (ls : List PlacedLine) → length (
     program (table_bytes name end ls) ≡ program_bytes end ls
 program_back name end ls low =
     let s = sizes_back name end ls low in
-    let hs = header_bytes name in
-    let t = table_bytes name end ls in
-    let ps = program_bytes end ls in
-    let size : 4 + (6 + length hs + length ps) - (10 + length hs) ≡ length ps = omega arith in
-    let rest : drop (10 + length hs) t ≡ ps = sym (drop-drop (length hs) 10 t)
-    ∙ ap (λ (x : List ℕ). drop (length hs) x) (after_sizes name end ls) ∙ drop-append_seam hs ps in
-    rw (s.0, s.1, size, rest) (take-length ps)
-
-table_back : (name : List ℕ) (end : ℕ) (ls : List PlacedLine) → length (table_bytes name end ls) < 4 + 2 ^ 32 →
-    rows (table_bytes name end ls)
-    ≡ Some (run (length (program (table_bytes name end ls))) (header (table_bytes name end ls)) initial (program (table_bytes name end ls)))
-unfolding rows table_bytes
-table_back name end ls low = refl
+    let after = after_part 10 (table_bytes name end ls) (header_bytes name) (program_bytes end ls) (after_sizes name end ls) in
+    let size : 4 + (6 + length (header_bytes name) + length (program_bytes end ls)) - (10 + length (header_bytes name))
+        ≡ length (program_bytes end ls) = omega arith in
+    search (rules, take-length)
 
 pub table_read : (table name : List ℕ) (end : ℕ) (ls : List PlacedLine) → table ≡ table_bytes name end ls →
     Rises 1 ls → AreSmall ls → end < 2 ^ 32 → length (table_bytes name end ls) < 4 + 2 ^ 32 →
     rows table ≡ Some (rows_after 1 ls end)
-table_read table name end ls is rises small low within =
-    search (rules, table_back, ap₂, header_back, program_back, program_runs)
+unfolding rows table_bytes
+table_read table name end ls is rises small low within = search (rules, program_back, program_runs)

@@ -1,16 +1,11 @@
 -- How many bytes are written.
-use Rattle.std.proofs.lemmas.Grind.{common_steps}
-use Rattle.std.proofs.lemmas.Bool.Decides.{nat_tests}
-use Rattle.std.proofs.Common.{rules, ◌≡◌, ◌∙◌, ℕ, ◌+◌, ◌*◌, ◌^◌, ◌<◌, ◌≤◌, List, [], ◌∷◌, length, map, refl, ap, arith, length-append}
+use Rattle.std.proofs.Common.{rules, ◌≡◌, ℕ, ◌+◌, ◌*◌, ◌^◌, ◌<◌, ◌≤◌, List, [], ◌∷◌, length, map, refl, arith, length-append}
 use Rattle.std.proofs.lemmas.Bool.{cases_lt}
-use Rattle.std.proofs.lemmas.List.Concat.{length-flat_map}
 use Rattle.rv_elf.specs.Elf.{Section, sections}
 use Rattle.rv_elf.specs.Symbols.{Symbol}
-use Rattle.rv_elf.specs.Size.{step_size, rows_size, lines_size, symbols_size, info_size, file_size}
+use Rattle.rv_elf.specs.Size.{step_size, rows_size, lines_size, symbols_size, file_size}
 use Rattle.rv_elf.specs.declared.lines.PlacedLine.{PlacedLine}
 use Rattle.rv_elf.specs.Support.LineBytes.{leb_bytes, line_step, rows_bytes, table_bytes}
-use Rattle.rv_elf.specs.declared.object.Tables.{Tables}
-use Rattle.rv_elf.specs.Support.Sections.{Parts, parts, sections_of}
 use Rattle.rv_elf.specs.Support.Tables.{names, table_of, strings_of}
 use Rattle.rv_elf.specs.Support.Written.{AreSmall, bodies, bodies_from, file_header, program_header, file_of}
 use Rattle.rv_elf.proofs.Named.{length_entries}
@@ -26,17 +21,9 @@ rows_have : (from : ℕ) (ls : List PlacedLine) → length (rows_bytes from ls) 
 rows_have from [] = refl
 rows_have from (l ∷ ls) = search (rules, length-append, step_has, rows_have l.line ls)
 
-table_size : (name : List ℕ) (end : ℕ) (ls : List PlacedLine) → length (table_bytes name end ls) ≡ lines_size name ls
+pub table_has : (name : List ℕ) (end : ℕ) (ls : List PlacedLine) → length (table_bytes name end ls) ≡ lines_size name ls
 unfolding table_bytes
-table_size name end ls = search (rules, length-append, [], rows_have)
-
-pub table_has : (table name : List ℕ) (end : ℕ) (ls : List PlacedLine) → table ≡ table_bytes name end ls →
-    length table ≡ lines_size name ls
-table_has table name end ls is = ap length is ∙ table_size name end ls
-
-pub table_exceeds : (name : List ℕ) (end : ℕ) (ls : List PlacedLine) → 4 + 2 ^ 32 ≤ length (table_bytes name end ls) →
-    4 + 2 ^ 32 ≤ lines_size name ls
-table_exceeds name end ls h = rw (← table_size name end ls) h
+table_has name end ls = search (rules, length-append, [], rows_have)
 
 -- ---- the symbols
 
@@ -66,20 +53,6 @@ pub file_has : (k : ℕ) (ss : List Section) → AreSmall ss → length ss < 0xf
     bodies_from (length ss) + length (bodies ss) < 2 ^ 32 → length (file_of k ss)
     ≡ 84 + 40 * length (sections (file_of k ss)) + length (bodies (sections (file_of k ss)))
 file_has k ss small few low = rw (file_sections k ss small few low) (file_length k ss)
-
-parts_are : (p : Parts) (count : ℕ) → length (bodies (sections_of p count)) ≡ length p.table + length p.image
-    + length p.strings + length p.attributes + length p.abbreviations + length p.info + length p.lines + length p.ranges + length p.frames + length p.macros + 130
-parts_are p count = search (rules, length-flat_map)
-
-pub object_has : (file attributes abbreviations image : List ℕ) (t : Tables) (frames macros : List ℕ) (count : ℕ) (names : List (List ℕ))
-    (symbols : List Symbol) (lines : List PlacedLine) (name folder : List ℕ) → sections file ≡ sections_of (parts attributes abbreviations image t frames macros) count →
-    length file ≡ 84 + 40 * length (sections file) + length (bodies (sections file)) →
-    length attributes ≡ 52 → length abbreviations ≡ 58 →
-    length t.symbols.table.items + length t.symbols.strings.items ≡ 17 + symbols_size names →
-    length t.info.items ≡ info_size name folder symbols → length t.lines.items ≡ lines_size name lines →
-    length t.ranges.items ≡ 32 → length file ≡ file_size image names lines name + info_size name folder symbols + length frames + length macros
-object_has file attributes abbreviations image t frames macros count names symbols lines name folder is h a b =
-    grind (arith, nat_tests, common_steps, parts_are)
 
 -- each symbol has 17 bytes at least
 pub symbols_have : (ss : List Symbol) → 17 * length ss ≤ symbols_size (map (λ (s : Symbol). s.name) ss)

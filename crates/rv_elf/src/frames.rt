@@ -98,7 +98,7 @@ fn table_of(alloc: Global, functions: &[Function]) -> Result<Vec<u8>, ElfFault>
 ///
 /// - `TooLarge` if an entry would have 4 GiB or more.
 /// - `OutOfMemory` if memory runs out.
-#[tactic(auto, using(crate::proofs::Described::frames_read, crate::proofs::Described::frames_have, crate::proofs::Described::frames_exceed))]
+#[tactic(auto, using(crate::proofs::Described::frames_read, crate::proofs::Described::table_has))]
 pub fn write_frames(alloc: Global, functions: &[Function]) -> Result<Vec<u8>, ElfFault>
     ensures frames { IfOk result (λ t. spec.descriptions t.items ≡ map description_of functions.now) }
     ensures size { IfOk result (λ t. length t.items ≡ frames_size functions.now) }

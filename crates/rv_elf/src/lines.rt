@@ -148,7 +148,7 @@ fn table_of(alloc: Global, name: &[u8], lines: &[PlacedLine], end: u32) -> Resul
 ///
 /// - `TooLarge` if the table would have 4 bytes more than 4 GiB, or more than that.
 /// - `OutOfMemory` if memory runs out.
-#[tactic(auto, using(crate::proofs::Rows::table_read, crate::proofs::Sizes::table_has, crate::proofs::Sizes::table_exceeds))]
+#[tactic(auto, using(crate::proofs::Rows::table_read, crate::proofs::Sizes::table_has))]
 pub fn write_lines(
     alloc: Global,
     name: &[u8],

@@ -2,14 +2,14 @@
 ghost use Rattle.std.specs.Prelude.{◌≡◌, ◌+◌, ◌*◌, ◌^◌, ◌<◌, ◌≤◌, ◌∷◌, IfErr, IfOk, OnOk, Some, SomeIff, codes, length, map};
 ghost use Rattle.rv_elf.specs.declared.fault.ElfFault.TheVariants.{TooLarge};
 ghost use Rattle.rv_base.specs.Limits.{ram_base};
-ghost use Rattle.rv_elf.specs.Elf.{contents, half_at, image_at};
+ghost use Rattle.rv_elf.specs.Elf.{contents, image_at};
 ghost use Rattle.rv_elf.specs.Elf as elf;
 ghost use Rattle.rv_elf.specs.LineNumbers.{rows, rows_after, Rises};
 ghost use Rattle.rv_elf.specs.Object.{lines_of, symbols_of};
 ghost use Rattle.rv_elf.specs.Size.{file_size, info_size, lines_size, symbols_size};
 ghost use Rattle.std.specs.Option.{option_map};
 ghost use Rattle.rv_elf.specs.Symbols.{named, null_symbol, symbols};
-ghost use Rattle.rv_elf.specs.Support.Sections.{parts, sections_of};
+ghost use Rattle.rv_elf.specs.Support.Sections.{parts, sections_of, AreFound};
 ghost use Rattle.rv_elf.specs.Support.Written.{bodies};
 ghost use Rattle.rv_elf.specs.Support.Sections as spec;
 
@@ -115,11 +115,9 @@ fn write_sections(
     tables: &Tables,
     count: u32,
 ) -> Result<Vec<u8>, ElfFault>
-    ensures sections { IfOk result (λ f. elf.sections f.items ≡ sections_of (parts ATTRIBUTES.now ABBREVIATIONS.now object.now.image.now tables.now object.now.frames.now object.now.macros.now) count) }
-    ensures names { IfOk result (λ f. half_at f.items 50 ≡ 11) }
+    ensures found { IfOk result (λ f. AreFound (parts ATTRIBUTES.now ABBREVIATIONS.now object.now.image.now tables.now object.now.frames.now object.now.macros.now) f.items) }
     ensures loaded { IfOk result (λ f. elf.loaded f.items ≡ Some (image_at object.now.image.now)) }
-    ensures size { IfOk result (λ f. length f.items
-        ≡ 84 + 40 * length (elf.sections f.items) + length (bodies (elf.sections f.items))) }
+    ensures size { IfOk result (λ f. length f.items ≡ 564 + length (bodies (sections_of (parts ATTRIBUTES.now ABBREVIATIONS.now object.now.image.now tables.now object.now.frames.now object.now.macros.now) count))) }
     ensures within { IfOk result (λ f. length f.items < 2 ^ 32) }
     ensures large { IfErr result (λ e. e ≡ TooLarge → 2 ^ 32 ≤ 564 + length (bodies (sections_of (parts ATTRIBUTES.now ABBREVIATIONS.now object.now.image.now tables.now object.now.frames.now object.now.macros.now) count))) }
 {

@@ -1,8 +1,8 @@
 -- The sections that the code writes.
 -- Private contracts cite this; public ones say what is read of them.
-use Rattle.std.specs.Prelude.{ℕ, List, [], ◌∷◌, ◌++◌, codes}
+use Rattle.std.specs.Prelude.{ℕ, List, [], ◌∷◌, ◌++◌, codes, ◌≡◌, Some}
 use Rattle.rv_base.specs.Limits.{ram_base}
-use Rattle.rv_elf.specs.Elf.{Section, no_section}
+use Rattle.rv_elf.specs.Elf.{Section, no_section, contents}
 use Rattle.rv_elf.specs.declared.object.Tables.{Tables}
 
 -- the names of the sections
@@ -69,3 +69,12 @@ sections_of p count = no_section
     ∷ plain 107 1 p.macros
     ∷ plain 120 3 section_names
     ∷ []
+
+-- the parts that are tables are found by the names of their sections
+pub record AreFound (p : Parts) (file : List ℕ) : Type 0 where
+  pub table : contents file (codes ".symtab") ≡ Some p.table
+  pub strings : contents file (codes ".strtab") ≡ Some p.strings
+  pub info : contents file (codes ".debug_info") ≡ Some p.info
+  pub lines : contents file (codes ".debug_line") ≡ Some p.lines
+  pub frames : contents file (codes ".debug_frame") ≡ Some p.frames
+  pub macros : contents file (codes ".debug_macro") ≡ Some p.macros
