@@ -1,22 +1,17 @@
 -- The longest prefix of a text that spells something.
-use Rattle.std.proofs.Common.{rules, ◌≡◌, ℕ, zero, suc, ◌+◌, ◌-◌, ◌<◌, ◌≤◌, refl, ap, ◌∙◌, arith, add-suc}
+use Rattle.std.proofs.Common.{⊎_elim, rules, ◌≡◌, ℕ, zero, suc, ◌-◌, ◌<◌, ◌≤◌, refl, ◌∙◌, arith}
 use Rattle.std.specs.Prelude.{Option, None, Some}
 use Rattle.std.proofs.lemmas.Bool.{cases_lt}
 use Rattle.rv_tokens.specs.Literals.{longest}
 
-none_above : {A : Type 0} (spells : ℕ → Option A) (n d : ℕ) → ((m : ℕ) → n < m → m ≤ n + d → spells m ≡ None)
-    → longest spells (n + d) ≡ longest spells n
-unfolding longest
-none_above spells n zero h = ap (longest spells) (omega arith)
-none_above spells n (suc d) h =
-    let e : spells (suc (n + d)) ≡ None = h (suc (n + d)) (omega arith) (omega arith) in
-    rw (add-suc n d, e) (none_above spells n d (λ m p q. h m p (omega arith)))
-
 -- if no longer prefix spells anything
 pub longest_above : {A : Type 0} (spells : ℕ → Option A) (n k : ℕ) → n ≤ k
     → ((m : ℕ) → n < m → m ≤ k → spells m ≡ None) → longest spells k ≡ longest spells n
-longest_above spells n k le h =
-    rw (← none_above spells n (k - n) (λ m p q. h m p (omega arith))) (ap (longest spells) (omega arith))
+unfolding longest
+longest_above spells n zero le h = let e : n ≡ 0 = omega arith in rw e refl
+longest_above spells n (suc k) le h = ⊎_elim
+    (λ l. rw (h (suc k) l (omega arith)) (longest_above spells n k (omega arith) (λ m p q. h m p (omega arith))))
+    (λ l. let e : n ≡ suc k = omega arith in rw e refl) (cases_lt n (suc k))
 
 pub longest_zero : {A : Type 0} (spells : ℕ → Option A) → longest spells 0 ≡ None
 unfolding longest
@@ -60,17 +55,11 @@ unfolding longest
 longest_over spells zero m p q = absurd (omega arith)
 longest_over spells (suc k) m p q = search (rules, cases_lt, longest_over spells k m)
 
-read : {A : Type 0} (spells : ℕ → Option A) (k n : ℕ) (x : A) → longest spells k ≡ Some (x, n)
-    → (0 < n) × (n ≤ k) × (spells n ≡ Some x)
-unfolding longest
-read spells zero n x h = cc
-read spells (suc k) n x h = search (rules, read spells k n x)
-
 pub longest_found : {A : Type 0} (spells : ℕ → Option A) (k n : ℕ) (x : A) → longest spells k ≡ Some (x, n)
     → IsLongest spells k n x
-longest_found spells k n x h =
-    let l = read spells k n x h in
-    record { some = l.0; within = l.1; is = l.2; above = λ m p q. longest_over spells k m (rw h p) q }
+unfolding longest
+longest_found spells zero n x h = cc
+longest_found spells (suc k) n x h = search (rules, cases_lt, longest_found spells k n x)
 
 pub longest_same : {A : Type 0} (f g : ℕ → Option A) (k : ℕ) → ((m : ℕ) → m ≤ k → f m ≡ g m) → longest f k ≡ longest g k
 unfolding longest

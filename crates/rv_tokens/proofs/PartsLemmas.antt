@@ -1,8 +1,7 @@
 -- The tokens of a line are its only parts in the sense of Parts.antt.
 use Rattle.std.proofs.lemmas.Grind.{common_steps}
-use Rattle.std.proofs.Common.{rules, ◌≡◌, ℕ, zero, suc, ◌<◌, ◌≤◌, Bool, true, false, cond, List, [], ◌∷◌, length, take, drop, get_or, refl, ap, ◌∙◌, arith, length-drop}
+use Rattle.std.proofs.Common.{cond, rules, ◌≡◌, ℕ, zero, suc, ◌<◌, ◌≤◌, Bool, true, false, List, [], ◌∷◌, length, take, drop, get_or, refl, sym, ap, ◌∙◌, arith, length-drop}
 use Rattle.std.specs.Prelude.{Option, None, Some, Result, Ok, Err, ◌↔◌}
-use Rattle.std.specs.Bool.{◌==◌}
 use Rattle.std.proofs.lemmas.Bool.Decides.{nat_tests}
 use Rattle.rv_tokens.specs.declared.token.Token.{Token}
 use Rattle.rv_tokens.specs.declared.fault.LineFault.{LineFault}
@@ -13,20 +12,17 @@ use Rattle.rv_tokens.specs.Tokens.{token_of, token_in, is_comment}
 use Rattle.rv_tokens.specs.Parts.{IsCut, Ended, Comment, Blank, Longest, Nothing, IsCutInto}
 use Rattle.rv_tokens.proofs.Front.{none_in}
 use Rattle.rv_tokens.proofs.Longest.{longest_is, longest_found, longest_none, longest_over}
-use Rattle.rv_tokens.proofs.Signs.{token_is, no_token, swapped}
+use Rattle.rv_tokens.proofs.Signs.{token_is, token_by, no_token}
 use Rattle.rv_tokens.proofs.Cutting.{cut_blank, cut_comment, cut_token, cut_none, cut_end}
 
 -- ---- neither a blank nor a comment begins where a token does
 
-differs : (n : ℕ) → ((bs : List ℕ) → token_of (n ∷ bs) ≡ None) → (b : ℕ) (bs : List ℕ) (t : Token)
-    → token_of (b ∷ bs) ≡ Some t → (b == n) ≡ false
-differs n none b bs t h = search rules
+apart : (b : ℕ) (bs cs : List ℕ) (t : Token) → token_by b cs ≡ Some t
+    → (is_blank b ≡ false) × (is_comment (b ∷ bs) ≡ false)
+apart b bs cs t h = search rules
 
-comment_not : (b : ℕ) (bs : List ℕ) → (b == 35) ≡ false → (b == 47) ≡ false → is_comment (b ∷ bs) ≡ false
-comment_not b bs h s = rw (swapped 35 b, swapped 47 b, h, s) refl
-
-token_by : (b : Bool) (o : Option Token) (t : Token) → cond b None o ≡ Some t → o ≡ Some t
-token_by b o t h = search rules
+spelled : (b : Bool) (o : Option Token) (t : Token) → cond b None o ≡ Some t → o ≡ Some t
+spelled b o t h = search rules
 
 -- a line that begins with a token
 begins : (line : List ℕ) (n : ℕ) (t : Token) → token_in line n ≡ Some t
@@ -35,11 +31,8 @@ unfolding token_in
 begins line zero t h = let f = none_in line 0 no_token in cc
 begins [] (suc n) t h = let f = none_in [] (suc n) no_token in cc
 begins (b ∷ bs) (suc n) t h =
-    let is = token_by _ (token_of (b ∷ take n bs)) t h in
-    let apart = λ (k : ℕ) (none : (xs : List ℕ) → token_of (k ∷ xs) ≡ None). differs k none b (take n bs) t is in
-    let space : (b == 32) ≡ false = apart 32 (token_is 32) in
-    let tab : (b == 9) ≡ false = apart 9 (token_is 9) in
-    (omega arith, rw (space, tab) refl, comment_not b bs (apart 35 (token_is 35)) (apart 47 (token_is 47)))
+    let is = sym (token_is b (take n bs)) ∙ spelled _ (token_of (b ∷ take n bs)) t h in
+    let at = apart b bs (take n bs) t is in (omega arith, at.0, at.1)
 
 comment_ends : (line : List ℕ) → is_comment line ≡ true → tokens_after line 0 ≡ Ok []
 comment_ends line h = search (rules, cut_comment, cut_blank)

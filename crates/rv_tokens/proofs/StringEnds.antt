@@ -1,7 +1,7 @@
 -- The end of a string.
 use Rattle.std.proofs.lemmas.Grind.{common_steps}
 use Rattle.std.proofs.Common.{rules, ◌≡◌, ℕ, zero, suc, ◌+◌, ◌-◌, ◌<◌, ◌≤◌, Bool, true, false, cond, leb, List, [], ◌∷◌, length, take, drop, get_or, refl, sym, ap, ◌∙◌, arith, length-take, length-drop, get_or-take, get_or-drop}
-use Rattle.std.specs.Prelude.{Option, None, Some, is_some, ◌&&◌}
+use Rattle.std.specs.Prelude.{None, Some, is_some, ◌&&◌}
 use Rattle.std.specs.Bool.{◌==◌}
 use Rattle.std.specs.Option.{option_map}
 use Rattle.std.proofs.lemmas.Bool.{le-leb, lt-leb, cases_lt}
@@ -54,13 +54,11 @@ cut_quote t b k j e some lt q =
 -- ---- the bytes of a text up to one of its quotes
 
 -- the first byte of a text is that of a prefix that has it whole
-first_byte_take : (t : List ℕ) (o : Option (ℕ × ℕ)) (j : ℕ) → first_byte t ≡ o → reach o ≤ j → j ≤ length t
-    → first_byte (take j t) ≡ o
-first_byte_take t o j e le within =
-    let len : length (take j t) ≡ j = omega (arith, length-take j t) in
-    rw len (longest_same (string_byte_in (take j t)) (string_byte_in t) j
-    (λ m p. ap (spelled 34) (take-take m j t p))) ∙ (sym (longest_above (string_byte_in t) j (length t) within
-    (λ m p q. longest_over (string_byte_in t) (length t) m (rw e (omega (arith, le, p))) q)) ∙ e)
+first_byte_take : (t : List ℕ) (j : ℕ) → reach (first_byte t) ≤ j → j ≤ length t → first_byte (take j t) ≡ first_byte t
+first_byte_take t j le within =
+    let same : first_byte (take j t) ≡ longest (string_byte_in t) j = search (rules, length-take, longest_same, take-take) in
+    same ∙ sym (longest_above (string_byte_in t) j (length t) within
+    (λ m p q. longest_over (string_byte_in t) (length t) m (omega (arith, le, p)) q))
 
 -- whether the first m bytes spell some
 abbrev pub spells : List ℕ → ℕ → Bool
@@ -75,7 +73,7 @@ drop_of_take k j t le = grind (arith, nat_tests, drop-take k (j - k) t)
 spells_next : (t : List ℕ) (b k j : ℕ) → first_byte t ≡ Some (b, k) → k ≤ j → j ≤ length t
     → spells t j ≡ spells (drop k t) (j - k)
 spells_next t b k j e le within =
-    rw (bytes_of_some (take j t) b k (first_byte_take t (Some (b, k)) j e le within), drop_of_take k j t le) (search rules)
+    rw (bytes_of_some (take j t) b k (first_byte_take t j (rw e le) within ∙ e), drop_of_take k j t le) (search rules)
 
 spells_step : (t : List ℕ) (b k j : ℕ) → first_byte t ≡ Some (b, k) → 0 < j → j < length t → get_or t j 0 ≡ 34
     → spells t j ≡ (leb k j && spells (drop k t) (j - k))
@@ -122,11 +120,7 @@ quoted_between ys n len = search rules
 
 string_of : (text : List ℕ) (m : ℕ) → m < length text → token_of (34 ∷ take (suc m) text)
     ≡ cond (get_or text m 0 == 34) (option_map (λ s. Text s) (string_bytes (take m text))) None
-string_of text m lt = token_is 34 (take (suc m) text) ∙ rw (
-  quoted_between (take (suc m) text) m (omega (arith, length-take (suc m) text)),
-  get_or-take (suc m) text m 0 (omega arith),
-  take-take m (suc m) text (omega arith),
-) (search rules)
+string_of text m lt = search (rules, token_is, quoted_between (take (suc m) text) m, length-take, get_or-take, take-take)
 
 string_in : (text : List ℕ) (m : ℕ) → m < length text → token_in (34 ∷ text) (suc (suc m))
     ≡ cond (get_or text m 0 == 34) (option_map (λ s. Text s) (string_bytes (take m text))) None
