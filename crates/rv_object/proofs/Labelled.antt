@@ -1,7 +1,9 @@
 -- The labels among the symbols of a file, and how many bytes it has.
 use Rattle.std.proofs.lemmas.Bool.Decides.{nat_tests}
-use Rattle.std.proofs.Common.{rules, ◌≡◌, ◌∙◌, ℕ, Bool, ◌+◌, ◌-◌, ◌*◌, ◌^◌, ◌≤◌, List, [], ◌∷◌, ◌++◌, map, drop, length, Some, refl, ap, arith}
-use Rattle.std.specs.Prelude.{Option, codes, nat_lt, if◌then◌else◌}
+use Rattle.std.proofs.Common.{rules, ◌≡◌, ◌∙◌, ℕ, ◌+◌, ◌-◌, ◌*◌, ◌^◌, ◌≤◌, List, [], ◌∷◌, ◌++◌, map, drop, length, Some, refl, sym, ap, arith}
+use Rattle.std.proofs.lemmas.List.{map-append}
+use Rattle.std.proofs.lemmas.Simd.{map-map}
+use Rattle.std.specs.Prelude.{Option, codes}
 use Rattle.std.specs.Option.{option_map, unwrap_or}
 use Rattle.rv_elf.specs.Elf.{contents}
 use Rattle.rv_elf.specs.Frames.{description_of, descriptions}
@@ -18,14 +20,10 @@ use Rattle.rv_object.specs.Placed.{all_labels, most_of, name_and_value, names_an
 -- one more symbol
 pub put : (old new : List Symbol) (s : Symbol) → new ≡ old ++ s ∷ [] →
     map name_and_value new ≡ map name_and_value old ++ name_and_value s ∷ []
-put old new s is = ap (λ (x : List Symbol). map name_and_value x) is ∙ after old s where
-  after : (xs : List Symbol) (s : Symbol) → map name_and_value (xs ++ s ∷ []) ≡ map name_and_value xs ++ name_and_value s ∷ []
-  after [] s = refl
-  after (x ∷ xs) s = ap (λ (r : List (List ℕ × ℕ)). name_and_value x ∷ r) (after xs s)
+put old new s is = rw is (map-append name_and_value old (s ∷ []))
 
 each : (ss : List Symbol) → map name_and_value (map named ss) ≡ texts (map name_and_value ss)
-each [] = refl
-each (s ∷ ss) = ap (λ (x : List (List ℕ × ℕ)). name_and_value (named s) ∷ x) (each ss)
+each ss = simp map-map
 
 after_first : (ss : List Symbol) (p : List ℕ × ℕ) (ls : List (List ℕ × ℕ)) → map name_and_value ss ≡ p ∷ ls →
     map name_and_value (drop 1 (map named ss)) ≡ texts ls
@@ -39,15 +37,11 @@ labelled file symbols name ls is e = search (rules, arith, nat_tests, after_firs
 
 -- ---- sizes
 
-firsts : (ss : List Symbol) → map (λ (s : Symbol). s.name) ss ≡ map (λ (p : List ℕ × ℕ). p.0) (map name_and_value ss)
-firsts [] = refl
-firsts (s ∷ ss) = ap (λ (x : List (List ℕ)). s.name ∷ x) (firsts ss)
-
 -- the names of the symbols
 names_are : (symbols : List Symbol) (name : List ℕ) (ls : List (List ℕ × ℕ)) →
     map name_and_value symbols ≡ (name, 0) ∷ ls →
     map (λ (s : Symbol). s.name) symbols ≡ name ∷ map (λ (p : List ℕ × ℕ). p.0) ls
-names_are symbols name ls is = search (rules, arith, nat_tests, firsts)
+names_are symbols name ls is = sym (map-map (λ (p : List ℕ × ℕ). p.0) name_and_value symbols) ∙ rw is refl
 
 sizes_are : (image : List ℕ) (symbols : List Symbol) (lines : List PlacedLine) (name : List ℕ) (l : Listed) →
     image ≡ l.assembly.bytes → map name_and_value symbols ≡ (name, 0) ∷ all_labels l →
@@ -56,12 +50,9 @@ sizes_are : (image : List ℕ) (symbols : List Symbol) (lines : List PlacedLine)
 sizes_are image symbols lines name l i s p = search (rules, arith, nat_tests, names_are)
 
 -- the compilation unit has no more for its functions than the table of symbols
-one_function : (b : Bool) (n : ℕ) → (if b then 10 + n else 0) ≤ 17 + n
-one_function b n = search (rules, arith, nat_tests)
-
 functions_few : (ss : List Symbol) → functions_size ss ≤ symbols_size (map (λ (s : Symbol). s.name) ss)
 functions_few [] = omega arith
-functions_few (s ∷ ss) = omega (arith, one_function (nat_lt 0 s.size) (length s.name), functions_few ss)
+functions_few (s ∷ ss) = search (rules, arith, nat_tests, functions_few ss)
 
 info_few : (symbols : List Symbol) (name folder : List ℕ) (l : Listed) →
     map name_and_value symbols ≡ (name, 0) ∷ all_labels l → info_size name folder symbols
