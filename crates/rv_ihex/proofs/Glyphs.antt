@@ -1,5 +1,7 @@
 -- Hexadecimal digits that are read back.
 use Rattle.std.proofs.Common.{rules, ◌≡◌, ℕ, ◌*◌, ◌<◌, List, [], ◌∷◌, ◌++◌, drop, length, Some, refl, arith}
+use Rattle.std.specs.List.{All}
+use Rattle.std.proofs.lemmas.List.Elements.{All-nil, All-cons, All-head, All-tail}
 use Rattle.std.proofs.lemmas.Str.{digit_value-digit_char}
 use Rattle.rv_base.specs.Digits.{digit, hex, hex_digit}
 use Rattle.rv_ihex.specs.Hex.{byte_at, bytes_of}
@@ -13,15 +15,12 @@ digit_back d small = search (rules, arith, digit_value-digit_char)
 digit_above : (d : ℕ) → 13 < digit d
 digit_above d = search (rules, arith)
 
--- bytes
-abbrev pub AreBytes : List ℕ → Type 0
-AreBytes [] = Unit
-AreBytes (b ∷ bs) = (b < 256) × AreBytes bs
+-- a byte, and one above the control characters
+abbrev pub IsByte : ℕ → Type 0
+IsByte b = b < 256
 
--- bytes above the control characters
-abbrev pub Above : List ℕ → Type 0
-Above [] = Unit
-Above (b ∷ bs) = (13 < b) × Above bs
+abbrev pub IsGlyph : ℕ → Type 0
+IsGlyph b = 13 < b
 
 byte_back : (b : ℕ) (rest : List ℕ) → b < 256 → byte_at (hex 2 b ++ rest) ≡ Some b
 unfolding hex
@@ -31,17 +30,17 @@ rest_after : (b : ℕ) (rest : List ℕ) → drop 2 (hex 2 b ++ rest) ≡ rest
 unfolding hex
 rest_after b rest = refl
 
-pub bytes_back : (bs : List ℕ) → AreBytes bs → bytes_of (length bs) (digits bs) ≡ Some bs
+pub bytes_back : (bs : List ℕ) → All IsByte bs → bytes_of (length bs) (digits bs) ≡ Some bs
 unfolding bytes_of
 bytes_back [] h = refl
-bytes_back (b ∷ bs) h = search (rules, arith, byte_back, rest_after, (bytes_back bs))
+bytes_back (b ∷ bs) h = search (rules, arith, All-head, All-tail, byte_back, rest_after, bytes_back bs)
 
 pub digits_length : (bs : List ℕ) → length (digits bs) ≡ 2 * length bs
 unfolding hex
 digits_length [] = refl
 digits_length (b ∷ bs) = omega (arith, digits_length bs)
 
-pub digits_above : (bs : List ℕ) → AreBytes bs → Above (digits bs)
+pub digits_above : (bs : List ℕ) → All IsGlyph (digits bs)
 unfolding hex
-digits_above [] h = tt
-digits_above (b ∷ bs) h = search (rules, digit_above, (digits_above bs))
+digits_above [] = All-nil IsGlyph
+digits_above (b ∷ bs) = search (rules, All-cons, digit_above, digits_above bs)

@@ -1,28 +1,25 @@
 -- The image that is read back from the lines of its records.
-use Rattle.std.proofs.Common.{rules, ◌≡◌, ◌∙◌, ℕ, zero, suc, ◌+◌, ◌-◌, ◌/◌, ◌%◌, ◌^◌, ◌<◌, ◌≤◌, List, [], ◌∷◌, ◌++◌, take, drop, get_or, length, Some, refl, sym, ap, ap₂, subst, arith, append_assoc, eq-eqb, ne_eqb, length-append, length-drop, length-take, ⊎_elim}
-use Rattle.std.specs.Prelude.{Option, option_and_then}
+use Rattle.std.proofs.Common.{Bool, true, false, rules, ◌≡◌, ℕ, zero, suc, ◌+◌, ◌-◌, ◌/◌, ◌%◌, ◌^◌, ◌<◌, ◌≤◌, List, [], ◌∷◌, ◌++◌, take, drop, length, Some, refl, ap, ap₂, arith, append_assoc, eq-eqb, length-append, length-drop, length-take}
+use Rattle.std.specs.Prelude.{if◌then◌else◌}
 use Rattle.std.specs.List.{All, sum}
 use Rattle.std.specs.Option.{option_map}
 use Rattle.std.specs.Str.Lines.{strip_carriage_return}
 use Rattle.std.proofs.lemmas.Bool.{cases_lt}
 use Rattle.std.proofs.lemmas.List.{take-append-drop}
+use Rattle.std.proofs.lemmas.List.Elements.{All-nil, All-cons, All-head, All-tail, All-append, All-push, All-take, All-drop}
 use Rattle.std.proofs.lemmas.List.Sums.{sum_by-append}
 use Rattle.std.proofs.Math.Seq.{take-append_seam}
 use Rattle.rv_base.specs.Limits.{ram_base, image_limit}
 use Rattle.rv_base.specs.Lines.{split, lines}
-use Rattle.rv_ihex.specs.Hex.{Record, record_in, record_of, placed, image_of, bytes_of}
+use Rattle.rv_ihex.specs.Hex.{Record, record_in, record_of, placed, image_of}
 use Rattle.rv_ihex.specs.Support.Written.{digits, fields, with_sum, line_of, end_line, upper_line, upper_lines, lines_from, text_of}
 use Rattle.rv_ihex.proofs.Blocks.{last_lines, more_lines}
-use Rattle.rv_ihex.proofs.Glyphs.{AreBytes, Above, bytes_back, digits_length, digits_above}
+use Rattle.rv_ihex.proofs.Glyphs.{IsByte, IsGlyph, bytes_back, digits_length, digits_above}
 
 -- ---- records
 
-joined_bytes : (xs ys : List ℕ) → AreBytes xs → AreBytes ys → AreBytes (xs ++ ys)
-joined_bytes [] ys h k = k
-joined_bytes (x ∷ xs) ys h k = (h.0, joined_bytes xs ys h.1 k)
-
-summed_bytes : (xs : List ℕ) → AreBytes xs → AreBytes (with_sum xs)
-summed_bytes xs h = search (rules, arith, joined_bytes)
+summed_bytes : (xs : List ℕ) → All IsByte xs → All IsByte (with_sum xs)
+summed_bytes xs h = All-push IsByte xs _ h (omega arith)
 
 sum_is : (xs : List ℕ) → sum (with_sum xs) % 256 ≡ 0
 sum_is xs = let e = sum_by-append (λ (x : ℕ). x) xs ((256 - sum xs % 256) % 256 ∷ []) in omega (arith, e)
@@ -43,24 +40,19 @@ record IsFit (k o : ℕ) (c : List ℕ) : Type 0 where
   kind : k < 256
   offset : o < 65536
   short : length c < 256
-  bytes : AreBytes c
+  bytes : All IsByte c
 
-fields_bytes : (kind offset : ℕ) (content : List ℕ) → IsFit kind offset content → AreBytes (fields kind offset content)
-fields_bytes kind offset content h = (h.short, (omega (arith, h.offset), (omega arith, (h.kind, h.bytes))))
+fields_bytes : (kind offset : ℕ) (content : List ℕ) → IsFit kind offset content → All IsByte (fields kind offset content)
+fields_bytes kind offset content h = search (rules, arith, All-cons)
 
 line_back : (kind offset : ℕ) (content : List ℕ) → IsFit kind offset content →
     record_of (line_of kind offset content) ≡ Some (record { offset = offset; kind = kind; content = content })
 unfolding record_of line_of
 line_back kind offset content h =
-    let bs = with_sum (fields kind offset content) in
-    let half : (length (58 ∷ digits bs) - 1) / 2 ≡ length bs = omega (arith, digits_length bs) in
-    ap (λ (n : ℕ). option_and_then record_in (bytes_of n (digits bs))) half
-    ∙ ap (λ (o : Option (List ℕ)). option_and_then record_in o) (bytes_back bs (summed_bytes (fields kind offset content) (fields_bytes kind offset content h)))
-    ∙ in_back kind offset content
-
-line_above : (kind offset : ℕ) (content : List ℕ) → IsFit kind offset content → Above (line_of kind offset content)
-unfolding line_of
-line_above kind offset content h = search (rules, digits_above, summed_bytes, fields_bytes)
+    let half : (length (58 ∷ digits (with_sum (fields kind offset content))) - 1) / 2
+        ≡ length (with_sum (fields kind offset content)) = omega (arith, digits_length (with_sum (fields kind offset content))) in
+    let back = bytes_back (with_sum (fields kind offset content)) (summed_bytes (fields kind offset content) (fields_bytes kind offset content h)) in
+    rw (half, back) (in_back kind offset content)
 
 -- ---- what records place
 
@@ -73,7 +65,7 @@ placed_upper : (upper next at : ℕ) (ls : List (List ℕ)) → at < 2 ^ 32 →
 unfolding placed
 placed_upper upper next at ls low = search (rules, line_back)
 
-placed_data : (at : ℕ) (content : List ℕ) (ls : List (List ℕ)) → length content < 256 → AreBytes content →
+placed_data : (at : ℕ) (content : List ℕ) (ls : List (List ℕ)) → length content < 256 → All IsByte content →
     placed (at / 65536) at (line_of 0 (at % 65536) content ∷ ls)
     ≡ option_map (λ (bs : List ℕ). content ++ bs) (placed (at / 65536) (at + length content) ls)
 unfolding placed
@@ -90,26 +82,16 @@ after_upper : (upper at : ℕ) (ls : List (List ℕ)) → at < 2 ^ 32 → (0 < a
     placed upper at (upper_lines at ++ ls) ≡ placed (at / 65536) at ls
 after_upper upper at ls low h = search (rules, arith, placed_upper)
 
-taken_bytes : (n : ℕ) (bs : List ℕ) → AreBytes bs → AreBytes (take n bs)
-taken_bytes zero bs h = tt
-taken_bytes (suc n) [] h = tt
-taken_bytes (suc n) (b ∷ bs) h = (h.0, taken_bytes n bs h.1)
-
-dropped_bytes : (n : ℕ) (bs : List ℕ) → AreBytes bs → AreBytes (drop n bs)
-dropped_bytes zero bs h = h
-dropped_bytes (suc n) [] h = tt
-dropped_bytes (suc n) (b ∷ bs) h = dropped_bytes n bs h.1
-
 no_bytes : (bs : List ℕ) → length bs ≡ 0 → Some [] ≡ Some bs
 no_bytes [] h = refl
 no_bytes (b ∷ bs) h = absurd (omega arith)
 
 -- what is to be shown of that many records at most
 abbrev PlacedBack : ℕ → Type 0
-PlacedBack most = (upper next at : ℕ) (bs : List ℕ) → length bs ≤ most → AreBytes bs → At upper next at bs →
+PlacedBack most = (upper next at : ℕ) (bs : List ℕ) → length bs ≤ most → All IsByte bs → At upper next at bs →
     placed upper next (lines_from most at bs) ≡ Some bs
 
-placed_step : (most upper at : ℕ) (bs : List ℕ) → length bs ≤ suc most → 0 < length bs → AreBytes bs →
+placed_step : (most upper at : ℕ) (bs : List ℕ) → length bs ≤ suc most → 0 < length bs → All IsByte bs →
     At upper at at bs → PlacedBack most → placed upper at (lines_from (suc most) at bs) ≡ Some bs
 placed_step most upper at bs short some bytes h others =
     let row = take 16 bs in
@@ -118,17 +100,19 @@ placed_step most upper at bs short some bytes h others =
     let size = length-take 16 bs in
     let left = length-drop 16 bs in
     let rest : placed (at / 65536) (at + length row) more ≡ Some (drop 16 bs) =
-    others (at / 65536) (at + length row) (at + 16) (drop 16 bs) (omega arith) (dropped_bytes 16 bs bytes) (record {
+    others (at / 65536) (at + length row) (at + 16) (drop 16 bs) (omega arith) (All-drop IsByte 16 bs bytes) (record {
       multiple = omega (arith, h.multiple);
       next = (λ p. omega arith);
       fits = (λ p. omega arith);
       upper = (λ p. omega (arith, h.multiple));
     }) in
-    ap (λ (x : List (List ℕ)). placed upper at x) (more_lines most at bs some)
-    ∙ after_upper upper at (line_of 0 (at % 65536) row ∷ more) (omega arith) h.upper
-    ∙ placed_data at row more (omega arith) (taken_bytes 16 bs bytes)
-    ∙ ap (λ (o : Option (List ℕ)). option_map (λ (x : List ℕ). row ++ x) o) rest
-    ∙ ap (λ (x : List ℕ). Some x) (take-append-drop 16 bs)
+    rw (
+      more_lines most at bs some,
+      after_upper upper at (line_of 0 (at % 65536) row ∷ more) (omega arith) h.upper,
+      placed_data at row more (omega arith) (All-take IsByte 16 bs bytes),
+      rest,
+    )
+    (ap (λ (x : List ℕ). Some x) (take-append-drop 16 bs))
 
 placed_back : (most : ℕ) → PlacedBack most
 placed_back zero upper next at bs short bytes h = search (rules, arith, last_lines, placed_end, no_bytes)
@@ -137,68 +121,45 @@ placed_back (suc most) upper next at bs short bytes h =
 
 -- ---- lines
 
-abbrev AreAbove : List (List ℕ) → Type 0
-AreAbove [] = Unit
-AreAbove (l ∷ ls) = (Above l) × (0 < length l) × AreAbove ls
+-- a line that is left as it is
+abbrev IsLine : List ℕ → Type 0
+IsLine l = All IsGlyph l × (0 < length l)
 
-split_line : (l rest : List ℕ) → Above l → split (l ++ 10 ∷ rest) ≡ l ∷ split rest
+split_line : (l rest : List ℕ) → All IsGlyph l → split (l ++ 10 ∷ rest) ≡ l ∷ split rest
 unfolding split
 split_line [] rest h = refl
-split_line (b ∷ bs) rest h = search (rules, arith, (split_line bs rest))
+split_line (b ∷ bs) rest h =
+    let above = All-head IsGlyph b bs h in search (rules, arith, split_line bs rest (All-tail IsGlyph b bs h))
 
-at_above : (l : List ℕ) (k : ℕ) → Above l → k < length l → 13 < get_or l k 0
-at_above [] k h below = absurd (omega arith)
-at_above (b ∷ bs) zero h below = h.0
-at_above (b ∷ bs) (suc k) h below = at_above bs k h.1 (omega arith)
+no_return : (l : List ℕ) → IsLine l → strip_carriage_return l ≡ l
+no_return l h = let last = h.0 (length l - 1) 0 (omega (arith, h.1)) in search (rules, arith)
 
-no_return : (l : List ℕ) → Above l → 0 < length l → strip_carriage_return l ≡ l
-no_return l h some = search (rules, arith, at_above)
-
-lines_back : (ls : List (List ℕ)) → AreAbove ls → lines (text_of ls) ≡ ls
+lines_back : (ls : List (List ℕ)) → All IsLine ls → lines (text_of ls) ≡ ls
 unfolding split
 lines_back [] h = refl
-lines_back (l ∷ ls) h = search (rules, arith, append_assoc, split_line, no_return, (lines_back ls))
+lines_back (l ∷ ls) h =
+    let one = All-head IsLine l ls h in
+    search (rules, arith, append_assoc, split_line, no_return, All-tail, lines_back ls)
 
-line_some : (kind offset : ℕ) (content : List ℕ) → 0 < length (line_of kind offset content)
+is_line : (kind offset : ℕ) (content : List ℕ) → IsLine (line_of kind offset content)
 unfolding line_of
-line_some kind offset content = omega arith
+is_line kind offset content = search (rules, arith, All-cons, digits_above)
 
-end_above : AreAbove (end_line ∷ [])
-end_above = search (rules, arith, line_above, line_some)
+either : (b : Bool) (xs ys : List (List ℕ)) → All IsLine xs → All IsLine ys → All IsLine (if b then xs else ys)
+either true xs ys h k = h
+either false xs ys h k = k
 
-joined_above : (xs ys : List (List ℕ)) → AreAbove xs → AreAbove ys → AreAbove (xs ++ ys)
-joined_above [] ys h k = k
-joined_above (x ∷ xs) ys h k = (h.0, h.1, joined_above xs ys h.2 k)
+end_is_line : All IsLine (end_line ∷ [])
+end_is_line = All-cons IsLine _ [] (is_line _ _ _) (All-nil IsLine)
 
-upper_above : (at : ℕ) → at < 2 ^ 32 → AreAbove (upper_lines at)
-upper_above at low = search (rules, eq-eqb, line_above, line_some, ne_eqb, cases_lt)
-
-last_zero : (at : ℕ) (bs : List ℕ) → lines_from zero at bs ≡ end_line ∷ []
+are_lines : (most at : ℕ) (bs : List ℕ) → All IsLine (lines_from most at bs)
 unfolding lines_from
-last_zero at bs = refl
-
-all_above : (most at : ℕ) (bs : List ℕ) → AreBytes bs → (0 < length bs → at + length bs ≤ 2 ^ 32) →
-    AreAbove (lines_from most at bs)
-all_above zero at bs bytes fits = subst AreAbove (sym (last_zero at bs)) end_above
-all_above (suc most) at bs bytes fits = ⊎_elim
-    (λ l. subst AreAbove (sym (last_lines (suc most) at bs (omega arith))) end_above)
-    (λ l.
-    let fit = fits (omega arith) in
-    let size = length-take 16 bs in
-    let left = length-drop 16 bs in
-    subst AreAbove (sym (more_lines most at bs (omega arith)))
-    (joined_above (upper_lines at) _ (upper_above at (omega arith)) (
-      line_above 0 (at % 65536) (take 16 bs) (record { kind = omega arith; offset = omega arith; short = omega arith; bytes = taken_bytes 16 bs bytes }),
-      line_some 0 (at % 65536) (take 16 bs),
-      all_above most (at + 16) (drop 16 bs) (dropped_bytes 16 bs bytes) (λ p. omega arith),
-    ))) (cases_lt (length bs) 1)
+are_lines zero at bs = end_is_line
+are_lines (suc most) at bs =
+    search (rules, either, end_is_line, All-cons, All-nil, All-append, is_line, are_lines most (at + 16) (drop 16 bs))
 
 -- ---- a whole file
 
-recursive : (bs : List ℕ) → All (λ (b : ℕ). b < 256) bs → AreBytes bs
-recursive [] h = tt
-recursive (b ∷ bs) h = (h zero 0 (omega arith), recursive bs (λ k d below. h (suc k) d (omega arith)))
-
 pub image_back : (text image : List ℕ) → text ≡ text_of (lines_from (length image) ram_base image) →
-    length image ≤ image_limit → All (λ (b : ℕ). b < 256) image → image_of text ≡ Some image
-image_back text image is short h = search (rules, recursive, lines_back, all_above, placed_back)
+    length image ≤ image_limit → All IsByte image → image_of text ≡ Some image
+image_back text image is short h = search (rules, lines_back, are_lines, placed_back)
