@@ -71,8 +71,7 @@ pub none_notified : (plic : PlicState) (above : Sources) → sources_above plic.
 unfolding is_notified sources
 none_notified plic above is none =
     none-range (λ s. is_waiting plic s && nat_lt plic.threshold (slice_index plic.priorities s)) 1 31
-    (λ q low high. with_range (is_waiting plic q) plic.priorities plic.threshold q low high
-    ∙ sym (in_notified plic above q is) ∙ ap (λ u. contains u q) none ∙ contains-empty nat_cmp q)
+    (λ q low high. search (rules, with_range, sym (in_notified plic above q is), contains-empty nat_cmp q))
 
 some_other : (plic : PlicState) (above : Sources) → sources_above plic.priorities plic.threshold ≡ above
     → is_notified plic ≡ false → intersection (intersection plic.pending plic.enabled) above ≡ empty

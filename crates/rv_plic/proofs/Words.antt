@@ -86,9 +86,8 @@ place_word s low high =
 pub insert_word : (a s : ℕ) → IsSourceWord a → 0 < s → s < 32
     → sources_of (bit_or a (1 * 2 ^ s % 2 ^ 32)) ≡ insert (sources_of a) s
 insert_word a s is low high =
-    let has = λ (q : ℕ). contains-sources_of _ q (or_word a _ is (place_word s low high)) in
-    inserted (sources_of a) _ s (has s ∙ ap (λ n. n == 1) (bit_at_set_same w32 a s high))
-    (λ q other. has q ∙ ap (λ n. n == 1) (bit_at_set_other w32 a s high q other) ∙ sym (contains-sources_of a q is))
+    let word = or_word a (1 * 2 ^ s % 2 ^ 32) is (place_word s low high) in
+    search (rules, inserted, contains-sources_of, bit_at_set_same w32, bit_at_set_other w32)
 
 cleared_bit : (a s q : ℕ) → IsSourceWord a → s < 32 → (q ≡ s → ⊥)
     → bit_at (bit_and a (bit_not w32 (1 * 2 ^ s % 2 ^ 32))) q ≡ bit_at a q
@@ -99,12 +98,9 @@ cleared_bit a s q is high other = elim (cases_lt q 32) [
 
 pub remove_word : (a s : ℕ) → IsSourceWord a → 0 < s → s < 32
     → sources_of (bit_and a (bit_not w32 (1 * 2 ^ s % 2 ^ 32))) ≡ remove (sources_of a) s
-remove_word a s is low high = removed (sources_of a) _ s (has s ∙ ap (λ n. n == 1) (bit_at_clear_same w32 a s high))
-    (λ q other. has q ∙ ap (λ n. n == 1) (cleared_bit a s q is high other) ∙ sym (contains-sources_of a q is))
-  where
-    has : (q : ℕ) → contains (sources_of (bit_and a (bit_not w32 (1 * 2 ^ s % 2 ^ 32)))) q
-        ≡ (bit_at (bit_and a (bit_not w32 (1 * 2 ^ s % 2 ^ 32))) q == 1)
-    has q = contains-sources_of _ q (and_word a _ is)
+remove_word a s is low high =
+    let word = and_word a (bit_not w32 (1 * 2 ^ s % 2 ^ 32)) is in
+    search (rules, removed, contains-sources_of, bit_at_clear_same w32, cleared_bit)
 
 filter-range : (p r : ℕ → Bool) (a n : ℕ) → ((s : ℕ) → a ≤ s → s < a + n → p s ≡ r s)
     → filter p (range_with_len a n) ≡ filter r (range_with_len a n)
