@@ -210,8 +210,8 @@ grants-off pmp mode access first count h off = search (rules, grants-none, decis
 
 pub grants-word : (pmp : PmpState) (access : Access) (first count : ℕ) → 0 < count
     → some_locked pmp.entries ≡ false → first % 4 + count ≤ 4 → grants pmp Machine access first count ≡ true
-grants-word pmp access first count h free within = sym (decision-grants pmp Machine access first count h)
-    ∙ decision-word access first (first + count) 0 pmp.entries free (omega arith) (omega arith)
+grants-word pmp access first count h free within =
+    search (rules, decision-grants pmp Machine access first count h, decision-word)
 
 -- so if no entry is locked, machine mode is granted every aligned access
 pub grants-aligned : (pmp : PmpState) (access : Access) (first : ℕ) (w : Width)
