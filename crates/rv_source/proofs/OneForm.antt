@@ -2,7 +2,7 @@
 use Rattle.std.proofs.Common.{◌≡◌, ◌∙◌, ℕ, ◌-◌, List, [], ◌∷◌, ◌++◌, length, take, drop, refl, ap, subst, append_assoc, length-append, rules}
 use Rattle.std.specs.Prelude.{◌↔◌, Option, Some, None, option_and_then, not}
 use Rattle.std.specs.Bool.{beq}
-use Rattle.std.specs.Option.{option_map, option_or}
+use Rattle.std.specs.Option.{option_map}
 use Rattle.std.proofs.lemmas.List.{take_at, drop_at, take-append-drop, map-append}
 use Rattle.rv_tokens.specs.declared.token.Token.{Token}
 use Rattle.rv_tokens.specs.declared.token.Token.TheVariants as t
@@ -122,11 +122,11 @@ value_of : (part : Part) (base : Option (List ℕ)) (o : Option (List Token)) (f
     → valued part base o ≡ Some form
     → ((ts : List Token) (e : List Term) → o ≡ Some ts → Spells ts e → P (f.Value part e base)) → P form
 value_of part base None form P is each = absurd cc
-value_of part base (Some ts) form P is each = by (expression ts) refl is where
-  by : (o : Option (List Term)) → expression ts ≡ o → option_map (λ (e : List Term). f.Value part e base) o ≡ Some form → P form
-  by None value is = absurd cc
-  by (Some e) value is =
-      let same : f.Value part e base ≡ form = cc in subst P same (each ts e refl ((has_one_value ts e).1 value))
+value_of part base (Some ts) form P is each =
+    by (expression ts) is (λ e value. each ts e refl ((has_one_value ts e).1 value)) where
+      by : (o : Option (List Term)) → option_map (λ (e : List Term). f.Value part e base) o ≡ Some form
+          → ((e : List Term) → o ≡ Some e → P (f.Value part e base)) → P form
+      by o is each = search rules
 
 no_base_is : (ts : List Token) (form : Form) → form_with None ts ≡ Some form → IsOperand ts form
 unfolding expression sum
@@ -160,16 +160,10 @@ based : (ts front last : List Token) (form : Form) (o : Option (List ℕ)) → f
     → option_and_then (λ name. form_with (Some name) front) o ≡ Some form → IsOperand ts form
 based ts front last form o whole b is = search (rules, bracketed_is, base_is)
 
-either : (ts : List Token) (form : Form) (o p : Option Form) → form_with None ts ≡ o
-    → (p ≡ Some form → IsOperand ts form) → option_or o p ≡ Some form → IsOperand ts form
-either ts form o p none other is = search (rules, no_base_is)
-
 is_operand : (ts : List Token) (form : Form) → form_of ts ≡ Some form → IsOperand ts form
 unfolding form_of
-is_operand ts form is =
-    let n = length ts - 3 in
-    either ts form (form_with None ts) _ refl
-    (based ts (take n ts) (drop n ts) form (base_of (drop n ts)) (take-append-drop n ts) refl) is
+is_operand ts form is = let n = length ts - 3 in
+    search (rules, no_base_is, based ts (take n ts) (drop n ts), take-append-drop)
 
 pub has_one_form : (ts : List Token) (form : Form) → IsOperand ts form ↔ (form_of ts ≡ Some form)
 has_one_form ts form = (reads ts form, is_operand ts form)
