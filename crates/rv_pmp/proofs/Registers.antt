@@ -1,6 +1,6 @@
 -- The registers by number are what the code reads and writes.
 use Rattle.std.proofs.lemmas.Grind.{common_steps}
-use Rattle.std.proofs.Common.{rules, ◌≡◌, ◌≢◌, ◌∙◌, ℕ, zero, suc, ◌+◌, ◌-◌, ◌*◌, ◌<◌, ◌==◌, true, List, [], ◌∷◌, length, map, get_or, Some, None, refl, sym, arith, add-zero, nat_lt}
+use Rattle.std.proofs.Common.{rules, ◌≡◌, ◌≢◌, ℕ, zero, suc, ◌+◌, ◌-◌, ◌*◌, ◌<◌, ◌==◌, true, List, [], ◌∷◌, length, map, get_or, Some, None, refl, arith, add-zero, nat_lt}
 use Rattle.std.specs.Prelude.{slice_get, if◌then◌else◌, ◌&&◌, not}
 use Rattle.std.specs.List.{range_with_len}
 use Rattle.std.specs.Option.{option_map, option_map_or}
@@ -116,22 +116,17 @@ unfolding write_register
 stored_entry pmp new addr word is n = grind (arith, nat_tests, common_steps, get_or-map-range_with_len, length-map-range_with_len, get_or-eq_default)
 
 module _ (pmp : PmpState) (addr word : ℕ) (sixteen : length pmp.entries ≡ 16) where
-  same : (new : List Entry) → length new ≡ length pmp.entries
-      → ((i : ℕ) → i < 16 → at new i ≡ written pmp addr word i)
-      → map (written pmp addr word) (range_with_len 0 (length pmp.entries)) ≡ new
-  same new long each = sym (fill_by_all (written pmp addr word) new (length pmp.entries) off_entry long
-      (λ k less. each k (omega arith)))
-
   configs_stored : is_config addr ≡ true → map (written pmp addr word) (range_with_len 0 (length pmp.entries))
       ≡ with_word pmp.entries (Config (4 * (addr - 0x3A0))) word
-  configs_stored is = same _ (configs-length pmp.entries (4 * (addr - 0x3A0)) word)
-      (λ i less. configs-at pmp.entries (4 * (addr - 0x3A0)) word i (omega arith)
-      ∙ config_written pmp addr word i is less)
+  configs_stored is =
+      let filled = fill_by_all (written pmp addr word) (with_word pmp.entries (Config (4 * (addr - 0x3A0))) word) in
+      search (rules, filled (length pmp.entries) off_entry, configs-length, configs-at, config_written)
 
   address_stored : is_address addr ≡ true → map (written pmp addr word) (range_with_len 0 (length pmp.entries))
       ≡ with_address pmp.entries (addr - 0x3B0) word
-  address_stored is = same _ (address-length pmp.entries (addr - 0x3B0) word)
-      (λ i less. address_written pmp addr word i is less (omega arith))
+  address_stored is =
+      let filled = fill_by_all (written pmp addr word) (with_address pmp.entries (addr - 0x3B0) word) in
+      search (rules, filled (length pmp.entries) off_entry, address-length, address_written)
 
   pub stores : write_register pmp addr word
       ≡ option_map (λ register. with_entries (with_word pmp.entries register word)) (register_at addr)

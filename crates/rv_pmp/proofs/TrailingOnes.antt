@@ -1,6 +1,6 @@
 -- The trailing ones of a number.
 use Rattle.std.proofs.lemmas.Grind.{common_steps}
-use Rattle.std.proofs.Common.{rules, ◌≡◌, ℕ, zero, suc, ◌+◌, ◌-◌, ◌/◌, ◌%◌, ◌^◌, ◌<◌, ◌≤◌, ◌==◌, ◌*◌, Bool, true, false, refl, ap, sym, ◌∙◌, arith, eqb-true, mul_assoc}
+use Rattle.std.proofs.Common.{rules, ◌≡◌, ℕ, zero, suc, ◌+◌, ◌-◌, ◌/◌, ◌%◌, ◌^◌, ◌<◌, ◌≤◌, ◌==◌, ◌*◌, refl, ap, ◌∙◌, arith, eqb-true, mul_assoc}
 use Rattle.std.specs.Prelude.{if◌then◌else◌}
 use Rattle.std.proofs.Math.Nat.{pow-suc}
 use Rattle.std.specs.Int.Count.{count_trailing_zeros}
@@ -50,21 +50,11 @@ first_by : (n p : ℕ) → p < 2 ^ n → 4 * (p + 1 - 2 ^ ones_in n p) ≡ p / 2
 unfolding ones_in
 first_by zero p small = let none : p ≡ 0 = omega arith in rw none refl
 first_by (suc n) p small =
-    go (p % 2 == 1) refl (ones_in n (p / 2)) (first_by n (p / 2) (omega (arith, pow-suc 2 n))) (ones_in-le n (p / 2))
-  where
-    go : (b : Bool) → (p % 2 == 1) ≡ b → (k : ℕ)
-        → 4 * (p / 2 + 1 - 2 ^ k) ≡ p / 2 / 2 ^ (k + 1) * 2 ^ (k + 3) → 2 ^ k ≤ p / 2 + 1
-        → 4 * (p + 1 - 2 ^ (if b then suc k else 0))
-        ≡ p / 2 ^ ((if b then suc k else 0) + 1) * 2 ^ ((if b then suc k else 0) + 3)
-    go true odd k rest least =
-        let index : 1 + (k + 1) ≡ suc k + 1 = omega arith in
-        let quotient : p / 2 ^ (suc k + 1) ≡ p / 2 / 2 ^ (k + 1)
-        = sym (shr-shr p 1 (k + 1) ∙ ap (λ (i : ℕ). p / 2 ^ i) index) in
-        let next : suc k + 3 ≡ suc (k + 3) = omega arith in
-        let power : 2 ^ (suc k + 3) ≡ 2 ^ (k + 3) * 2 = ap (λ (i : ℕ). 2 ^ i) next ∙ pow-suc 2 (k + 3) in
-        rw (quotient, power)
-        (omega (arith, rest, pow-suc 2 k, mul_assoc (p / 2 / 2 ^ (k + 1)) (2 ^ (k + 3)) 2, eqb-true (p % 2) 1 odd))
-    go false even k rest least = grind (arith, nat_tests)
+    let k = ones_in n (p / 2) in
+    let rest = first_by n (p / 2) (omega (arith, pow-suc 2 n)) in
+    let least = ones_in-le n (p / 2) in
+    let next = mul_assoc (p / 2 / 2 ^ (k + 1)) (2 ^ (k + 3)) 2 in
+    grind (arith, nat_tests, common_steps, rest, least, next, shr-shr p 1 (k + 1), pow-suc 2 k, pow-suc 2 (k + 3))
 
 pub block_first : (p : ℕ) → p < 2 ^ 32
     → 4 * (p + 1 - 2 ^ trailing_ones p) ≡ p / 2 ^ (trailing_ones p + 1) * 2 ^ (trailing_ones p + 3)
