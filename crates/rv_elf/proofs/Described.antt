@@ -31,7 +31,8 @@ one_entry : (k : ℕ) (body rest : List ℕ) → length body < 2 ^ 32 →
     entries_from (suc k) ((word (length body) ++ body) ++ rest) ≡ body ∷ entries_from k rest
 unfolding entries_from
 one_entry k body rest short =
-    search (rules, from_le_bytes-to_le_bytes_4, take-append_seam, after_part 4 ((word (length body) ++ body) ++ rest) body rest refl)
+    let over = after_part 4 ((word (length body) ++ body) ++ rest) body rest refl in
+    search (rules, from_le_bytes-to_le_bytes_4, take-append_seam)
 
 no_entries : (k : ℕ) → entries_from k [] ≡ []
 unfolding entries_from

@@ -25,7 +25,8 @@ sections_back : (at : ℕ) (ss : List Section) (rest file more : List ℕ) → A
 unfolding sections_from section_header
 sections_back at [] rest file more small low is = refl
 sections_back at (s ∷ ss) rest file more small low is =
-    search (rules, append_assoc, length-append, after_part, fields_back, take-append_seam, sections_back (at + length s.contents) ss rest file more)
+    let others = sections_back (at + length s.contents) ss rest file more in
+    search (rules, append_assoc, length-append, after_part, fields_back, take-append_seam, others)
 
 -- ---- a whole file
 
@@ -65,8 +66,9 @@ file_sections k ss small few low =
 part_at : (k : ℕ) (ss : List Section) → k < length ss → take (length (get_or ss k no_section).contents)
     (drop (offset_of k ss) (file_of k ss)) ≡ (get_or ss k no_section).contents
 part_at k ss below =
+    let parts = flat_map-append (λ (s : Section). s.contents) (take k ss) (drop k ss) in
     let is : bodies ss ≡ bodies (take k ss) ++ ((get_or ss k no_section).contents ++ bodies (drop (suc k) ss)) =
-    grind (arith, common_steps, take-append-drop k ss, flat_map-append (λ (s : Section). s.contents) (take k ss) (drop k ss), drop-cons ss k no_section below) in
+    grind (arith, common_steps, parts, take-append-drop k ss, drop-cons ss k no_section below) in
     search (rules, after_part, bodies_at, take-append_seam)
 
 pub file_loaded : (k : ℕ) (ss : List Section) → k < length ss →

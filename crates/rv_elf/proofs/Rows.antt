@@ -118,9 +118,10 @@ program_back : (name : List ℕ) (end : ℕ) (ls : List PlacedLine) → length (
     program (table_bytes name end ls) ≡ program_bytes end ls
 program_back name end ls low =
     let s = sizes_back name end ls low in
-    let after = after_part 10 (table_bytes name end ls) (header_bytes name) (program_bytes end ls) (after_sizes name end ls) in
-    let size : 4 + (6 + length (header_bytes name) + length (program_bytes end ls)) - (10 + length (header_bytes name))
-        ≡ length (program_bytes end ls) = omega arith in
+    let hs = header_bytes name in
+    let ps = program_bytes end ls in
+    let after = after_part 10 (table_bytes name end ls) hs ps (after_sizes name end ls) in
+    let size : 4 + (6 + length hs + length ps) - (10 + length hs) ≡ length ps = omega arith in
     search (rules, take-length)
 
 pub table_read : (table name : List ℕ) (end : ℕ) (ls : List PlacedLine) → table ≡ table_bytes name end ls →

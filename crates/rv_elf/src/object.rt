@@ -115,9 +115,11 @@ fn write_sections(
     tables: &Tables,
     count: u32,
 ) -> Result<Vec<u8>, ElfFault>
-    ensures found { IfOk result (λ f. AreFound (parts ATTRIBUTES.now ABBREVIATIONS.now object.now.image.now tables.now object.now.frames.now object.now.macros.now) f.items) }
+    ensures found { IfOk result (λ f. AreFound (parts ATTRIBUTES.now ABBREVIATIONS.now object.now.image.now tables.now
+        object.now.frames.now object.now.macros.now) f.items) }
     ensures loaded { IfOk result (λ f. elf.loaded f.items ≡ Some (image_at object.now.image.now)) }
-    ensures size { IfOk result (λ f. length f.items ≡ 564 + length (bodies (sections_of (parts ATTRIBUTES.now ABBREVIATIONS.now object.now.image.now tables.now object.now.frames.now object.now.macros.now) count))) }
+    ensures size { IfOk result (λ f. length f.items ≡ 564 + length (bodies (sections_of (parts ATTRIBUTES.now
+        ABBREVIATIONS.now object.now.image.now tables.now object.now.frames.now object.now.macros.now) count))) }
     ensures within { IfOk result (λ f. length f.items < 2 ^ 32) }
     ensures large { IfErr result (λ e. e ≡ TooLarge → 2 ^ 32 ≤ 564 + length (bodies (sections_of (parts ATTRIBUTES.now ABBREVIATIONS.now object.now.image.now tables.now object.now.frames.now object.now.macros.now) count))) }
 {

@@ -42,16 +42,17 @@ record IsFit (k o : ℕ) (c : List ℕ) : Type 0 where
   short : length c < 256
   bytes : All IsByte c
 
-fields_bytes : (kind offset : ℕ) (content : List ℕ) → IsFit kind offset content → All IsByte (fields kind offset content)
+fields_bytes : (kind offset : ℕ) (content : List ℕ) → IsFit kind offset content →
+    All IsByte (fields kind offset content)
 fields_bytes kind offset content h = search (rules, arith, All-cons)
 
 line_back : (kind offset : ℕ) (content : List ℕ) → IsFit kind offset content →
     record_of (line_of kind offset content) ≡ Some (record { offset = offset; kind = kind; content = content })
 unfolding record_of line_of
 line_back kind offset content h =
-    let half : (length (58 ∷ digits (with_sum (fields kind offset content))) - 1) / 2
-        ≡ length (with_sum (fields kind offset content)) = omega (arith, digits_length (with_sum (fields kind offset content))) in
-    let back = bytes_back (with_sum (fields kind offset content)) (summed_bytes (fields kind offset content) (fields_bytes kind offset content h)) in
+    let bs = with_sum (fields kind offset content) in
+    let half : (length (58 ∷ digits bs) - 1) / 2 ≡ length bs = omega (arith, digits_length bs) in
+    let back = bytes_back bs (summed_bytes (fields kind offset content) (fields_bytes kind offset content h)) in
     rw (half, back) (in_back kind offset content)
 
 -- ---- what records place

@@ -56,7 +56,8 @@ cut_quote t b k j e some lt q =
 -- the first byte of a text is that of a prefix that has it whole
 first_byte_take : (t : List ℕ) (j : ℕ) → reach (first_byte t) ≤ j → j ≤ length t → first_byte (take j t) ≡ first_byte t
 first_byte_take t j le within =
-    let same : first_byte (take j t) ≡ longest (string_byte_in t) j = search (rules, length-take, longest_same, take-take) in
+    let same : first_byte (take j t) ≡ longest (string_byte_in t) j =
+    search (rules, length-take, longest_same, take-take) in
     same ∙ sym (longest_above (string_byte_in t) j (length t) within
     (λ m p q. longest_over (string_byte_in t) (length t) m (omega (arith, le, p)) q))
 
