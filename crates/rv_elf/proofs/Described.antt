@@ -11,7 +11,7 @@ use Rattle.rv_elf.specs.Frames.{column_at, description, description_of, descript
 use Rattle.rv_elf.specs.LineNumbers.{leb}
 use Rattle.rv_elf.specs.Size.{frames_size}
 use Rattle.rv_elf.specs.declared.frames.Function.{Function}
-use Rattle.rv_elf.specs.Support.FrameBytes.{fields_bytes, common_bytes, body_bytes, entry_bytes, frames_bytes, AreShort}
+use Rattle.rv_elf.specs.Support.FrameBytes.{common_bytes, body_bytes, entry_bytes, frames_bytes, AreShort}
 use Rattle.rv_elf.specs.Support.Written.{word}
 
 -- ---- sizes
@@ -46,14 +46,9 @@ entries_back m (f ∷ fs) short =
     let n : length (f ∷ fs) + m ≡ suc (length fs + m) = omega arith in
     search (rules, one_entry, entries_back m fs)
 
--- the common information entries
-abbrev first : List ℕ
-first = fields_bytes ++ (1 ∷ 0x0c ∷ 2 ∷ 0 ∷ 0 ∷ 0 ∷ [])
-
-abbrev second : List ℕ
-second = fields_bytes ++ (0xc1 ∷ 0x26 ∷ 0x0c ∷ 2 ∷ 0 ∷ 0 ∷ [])
-
-common_back : (k : ℕ) (rest : List ℕ) → entries_from (suc (suc k)) (common_bytes ++ rest) ≡ first ∷ second ∷ entries_from k rest
+-- the common information entries come first
+common_back : (k : ℕ) (rest : List ℕ) → entries_from (suc (suc k)) (common_bytes ++ rest)
+    ≡ entries_from 2 common_bytes ++ entries_from k rest
 unfolding entries_from
 common_back k rest = refl
 
@@ -62,7 +57,7 @@ entries_length [] = omega arith
 entries_length (f ∷ fs) = omega (arith, length-append (entry_bytes f) (flat_map entry_bytes fs), entries_length fs)
 
 all_back : (fs : List Function) → AreShort fs →
-    entries_from (length (frames_bytes fs)) (frames_bytes fs) ≡ first ∷ second ∷ map body_bytes fs
+    entries_from (length (frames_bytes fs)) (frames_bytes fs) ≡ entries_from 2 common_bytes ++ map body_bytes fs
 all_back fs short =
     let m = length (frames_bytes fs) - (2 + length fs) in
     let n : length (frames_bytes fs) ≡ suc (suc (length fs + m)) =
@@ -84,5 +79,5 @@ each_back section (f ∷ fs) short one two = search (rules, each_back section fs
 
 pub frames_read : (table : List ℕ) (fs : List Function) → table ≡ frames_bytes fs → AreShort fs →
     descriptions table ≡ map description_of fs
-unfolding descriptions leb
+unfolding descriptions entries_from leb
 frames_read table fs is short = search (rules, all_back, own_entries, each_back)

@@ -6,7 +6,7 @@ use Rattle.rv_elf.proofs.Places.{part_fits}
 use Rattle.std.proofs.lemmas.Nat.{from_le_bytes-to_le_bytes_2}
 use Rattle.std.proofs.lemmas.List.{drop-drop, take-append-drop}
 use Rattle.std.proofs.Math.Seq.{drop-append_seam, take-append_seam}
-use Rattle.rv_elf.specs.Elf.{half_at, word_at, section, Section, sections_from, sections, segments_from, loaded, no_section, image_at}
+use Rattle.rv_elf.specs.Elf.{half_at, section, Section, sections_from, sections, segments_from, loaded, no_section, image_at}
 use Rattle.rv_elf.specs.Support.Written.{section_header, section_headers, bodies, IsSmall, AreSmall, file_of, file_header, program_header, bodies_from, offset_of}
 
 fields_back : (at : ℕ) (s : Section) (rest file : List ℕ) → IsSmall s → at < 2 ^ 32 → length s.contents < 2 ^ 32 →
@@ -30,9 +30,11 @@ sections_back at (s ∷ ss) rest file more small low is =
 
 -- ---- a whole file
 
-count_back : (k : ℕ) (ss : List Section) → length ss < 0xff00 → half_at (file_of k ss) 48 ≡ length ss
+-- the file has that many headers behind the two of its own
+headers_back : (k : ℕ) (ss : List Section) → length ss < 0xff00 →
+    sections (file_of k ss) ≡ sections_from (length ss) (file_of k ss) (drop 84 (file_of k ss))
 unfolding file_of file_header
-count_back k ss few = from_le_bytes-to_le_bytes_2 (length ss) (omega arith)
+headers_back k ss few = search rules
 
 pub names_back : (k : ℕ) (ss : List Section) → length ss < 0xff00 → half_at (file_of k ss) 50 ≡ length ss - 1
 unfolding file_of file_header
@@ -42,10 +44,6 @@ after_fields : (k : ℕ) (ss : List Section) →
     drop 84 (file_of k ss) ≡ section_headers (bodies_from (length ss)) ss ++ bodies ss
 unfolding file_of file_header program_header
 after_fields k ss = refl
-
-headers_from : (k : ℕ) (ss : List Section) → word_at (file_of k ss) 32 ≡ 84
-unfolding file_of file_header
-headers_from k ss = refl
 
 pub length_headers : (at : ℕ) (ss : List Section) → length (section_headers at ss) ≡ 40 * length ss
 unfolding section_header
@@ -60,7 +58,7 @@ pub file_sections : (k : ℕ) (ss : List Section) → AreSmall ss → length ss 
     bodies_from (length ss) + length (bodies ss) < 2 ^ 32 → sections (file_of k ss) ≡ ss
 file_sections k ss small few low =
     let at : drop (bodies_from (length ss)) (file_of k ss) ≡ bodies ss ++ [] = search (rules, bodies_at, append-nil) in
-    search (rules, count_back, headers_from, after_fields, sections_back)
+    search (rules, headers_back, after_fields, sections_back)
 
 -- the bytes of a section are where its offset says
 part_at : (k : ℕ) (ss : List Section) → k < length ss → take (length (get_or ss k no_section).contents)
