@@ -1,7 +1,7 @@
 -- Cutting a line, token by token; and where the tokens stand.
 use Rattle.std.proofs.lemmas.Grind.{common_steps}
 use Rattle.std.proofs.lemmas.Bool.Decides.{nat_tests}
-use Rattle.std.proofs.Common.{◌≡◌, ℕ, zero, suc, ◌-◌, ◌<◌, true, false, List, [], ◌∷◌, ◌++◌, length, drop, get_or, refl, ap, arith, append_assoc, append-nil, rules}
+use Rattle.std.proofs.Common.{sym, ◌+◌, ◌≤◌, length-append, length-drop, ◌≡◌, ℕ, zero, suc, ◌-◌, ◌<◌, true, false, List, [], ◌∷◌, ◌++◌, length, drop, get_or, refl, ap, arith, append_assoc, append-nil, rules}
 use Rattle.std.specs.Prelude.{None, Some, Result, Ok, Err, slice_get}
 use Rattle.rv_tokens.specs.declared.token.Token.{Token}
 use Rattle.rv_tokens.specs.declared.fault.LineFault.{LineFault}
@@ -9,7 +9,7 @@ use Rattle.rv_tokens.specs.Support.Partial.{Fails}
 use Rattle.rv_base.specs.Words.{is_blank}
 use Rattle.rv_tokens.specs.Literals.{longest}
 use Rattle.rv_tokens.specs.Support.Cuts.{front, tokens_after, with_tokens, places_after}
-use Rattle.rv_tokens.specs.Tokens.{is_comment, fault_at}
+use Rattle.rv_tokens.specs.Tokens.{is_comment, fault_at, token_in}
 use Rattle.rv_tokens.proofs.Longest.{longest_found}
 
 cut_drop : (line : List ℕ) (n : ℕ) → tokens_after line n ≡ tokens_after (drop n line) 0
@@ -61,6 +61,18 @@ more_tokens ts us r = search (rules, append_assoc)
 
 pub fails : (fault : LineFault) (meaning : Result (List Token) LineFault) → meaning ≡ Err fault → Fails fault meaning
 fails other meaning h = search rules
+
+-- what is cut and what is left, after one more token
+pub token_more : (line rest more : List ℕ) (out new : List Token) (t : Token) (n : ℕ)
+    → false ≡ is_blank (get_or rest 0 0) → false ≡ is_comment rest → Some (t, n) ≡ front rest
+    → new ≡ out ++ t ∷ [] → more ≡ drop n rest
+    → (with_tokens out (tokens_after rest 0) ≡ tokens_after line 0) × (length out + length rest ≤ length line)
+    → (with_tokens new (tokens_after more 0) ≡ tokens_after line 0) × (length new + length more ≤ length line)
+token_more line rest more out new t n b c f is left so =
+    let l = longest_found (token_in rest) (length rest) n t (sym f) in
+    let cut = cut_token rest t n (sym b) (sym c) (sym f) l.some in
+    let size = length-append out (t ∷ []) in
+    (search (rules, more_tokens), omega (arith, ap length is, ap length left, size, length-drop n rest, l))
 
 pub ruleset cut_steps = (cut_end, cut_blank, cut_comment, cut_token, cut_none, no_tokens, last_tokens, failed_tokens, more_tokens, fails, longest_found)
 
