@@ -320,7 +320,7 @@ fn byte_of(word: u32, place: u32) -> u8
 }
 
 /// Writes the configuration byte of the entry at `place`, if there is one.
-#[tactic(auto, using(crate::proofs::Writes::config_steps))]
+#[tactic(auto, unfolding(crate::specs::Support::Registers::with_config, crate::specs::Entry::configured), using(crate::proofs::Writes::entry_steps))]
 fn set_config(entries: &mut [Entry; ENTRIES], place: usize, byte: u8)
     requires { AllReadable entries.old }
     ensures written { entries.new ≡ with_config entries.old place byte }
@@ -333,7 +333,7 @@ fn set_config(entries: &mut [Entry; ENTRIES], place: usize, byte: u8)
 
 /// Writes the address register of the entry at `place`, if there is one, unless a locked region begins at
 /// that address.
-#[tactic(auto, using(crate::proofs::Writes::address_steps))]
+#[tactic(auto, unfolding(crate::specs::Support::Registers::with_address, crate::specs::Entry::addressed), using(crate::proofs::Writes::entry_steps))]
 fn set_address(entries: &mut [Entry; ENTRIES], place: usize, word: u32)
     requires small { place < 2 ^ 8 }
     requires readable { AllReadable entries.old }
