@@ -1,5 +1,5 @@
 -- The decision by spans is the one by number.
-use Rattle.std.proofs.Common.{rules, ◌≡◌, ℕ, zero, suc, ◌+◌, ◌-◌, ◌*◌, ◌%◌, ◌^◌, ◌<◌, ◌≤◌, ◌⊎◌, inl, Bool, true, false, List, [], ◌∷◌, length, drop, get_or, Option, Some, None, refl, ap, sym, ◌∙◌, arith, nat_lt, nat_le, ◌/◌, ◌==◌, eqb-true, mul_assoc, div-add-mod', add-sub_of_le}
+use Rattle.std.proofs.Common.{rules, ◌≡◌, ℕ, zero, suc, ◌+◌, ◌-◌, ◌*◌, ◌%◌, ◌^◌, ◌<◌, ◌≤◌, ◌⊎◌, inl, Bool, true, false, List, [], ◌∷◌, length, drop, Option, Some, None, refl, ap, sym, ◌∙◌, arith, nat_lt, nat_le, ◌/◌, ◌==◌, eqb-true, mul_assoc, div-add-mod', add-sub_of_le}
 use Rattle.std.specs.Prelude.{if◌then◌else◌, ◌&&◌, find, unwrap_or}
 use Rattle.std.specs.List.{list_any, list_all, range_with_len}
 use Rattle.std.proofs.lemmas.Bool.{and_parts, or_parts}
@@ -19,24 +19,11 @@ use Rattle.rv_pmp.specs.declared.active_entries.ActiveEntry.{ActiveEntry}
 use Rattle.rv_pmp.specs.declared.span.Span.{Span}
 use Rattle.rv_pmp.specs.Mode.{is_machine}
 use Rattle.rv_pmp.specs.Entry.{matched, permits, trailing_ones}
-use Rattle.rv_pmp.specs.Support.ActiveEntries.{entry_answer, decision, some_on, some_locked, active_of, actives_from}
+use Rattle.rv_pmp.specs.Support.ActiveEntries.{decision, some_on, some_locked, active_of, actives_from}
 use Rattle.rv_pmp.specs.Pmp.{PmpState, decided, entry_at, grants, lower_of, matches, off_entry}
 use Rattle.rv_pmp.specs.Support.Span.{is_between, span, span_of, holds, meets}
 
--- ---- one step of the search
-
-pub decision-entry_answer : (mode : Mode) (access : Access) (first last : ℕ) (xs : List ActiveEntry) (i : ℕ)
-    (a : ActiveEntry) (granted : Bool)
-    → i < length xs → entry_answer mode access first last (get_or xs i a) ≡ Some granted
-    → decision mode access first last (drop i xs) ≡ Some granted
-unfolding decision
-decision-entry_answer mode access first last xs i a granted h e = rw (drop_more xs i a h) (search rules)
-
-pub decision-passed : (mode : Mode) (access : Access) (first last : ℕ) (xs : List ActiveEntry) (i : ℕ) (a : ActiveEntry)
-    → i < length xs → entry_answer mode access first last (get_or xs i a) ≡ None
-    → decision mode access first last (drop (i + 1) xs) ≡ decision mode access first last (drop i xs)
-unfolding decision
-decision-passed mode access first last xs i a h e = rw (drop_more xs i a h) (search rules)
+-- ---- the end of the search
 
 pub decision-end : (mode : Mode) (access : Access) (first last : ℕ) (xs : List ActiveEntry) (i : ℕ)
     → length xs ≤ i → decision mode access first last (drop i xs) ≡ None
@@ -235,5 +222,3 @@ grants_each pmp mode access first count i h granted = rw (← decision-grants pm
     (decision-grants pmp mode access first count (omega arith) ∙ granted))
 
 pub ruleset quick_answers = (grants-off, grants-word, grants-some, grants-none)
-
-pub ruleset deciding = (decision-entry_answer, decision-passed, decision-end)

@@ -365,7 +365,7 @@ pub fn bytes_are_granted_alone()
 
 /// Returns the answer of the first entry that has some of the bytes from `first` up to but not including
 /// `end`.
-#[tactic(auto, using(crate::proofs::Decision::deciding))]
+#[tactic(auto, unfolding(crate::specs::Support::ActiveEntries::decision), using(std::proofs::lemmas::List::drop_more, std::proofs::lemmas::List::drop_all))]
 fn decide(actives: &[ActiveEntry], mode: Mode, access: Access, first: u64, end: u64) -> Option<bool>
     ensures { result ≡ decision mode access first end actives.now }
 {
