@@ -4,6 +4,5 @@ mod OneValue
 pub mod Parsed
 pub mod Pieces
 pub mod Ranges
-pub mod Sums
 pub mod Sets
 mod WordRows

@@ -50,7 +50,7 @@ fn piece_of<'a>(token: &Token<'a>) -> Piece<'a>
 }
 
 /// Reads a term with a sign before it or none, and returns it with the tokens after it.
-#[tactic(auto, using(crate::proofs::Sums::unsigned), unfolding(crate::specs::Support::Sums::further, crate::specs::Support::Sums::sum))]
+#[tactic(auto, unfolding(crate::specs::Support::Sums::further, crate::specs::Support::Sums::sum))]
 fn read_term<'t, 'a>(tokens: &'t [Token<'a>]) -> Option<(Term<'a>, &'t [Token<'a>])>
     ensures first { option_and_then (λ r. followed false r.0 r.1.now) result ≡ sum (map piece_of tokens.now) }
     ensures later { (s : Bool) → option_and_then (λ r. followed s r.0 r.1.now) result ≡ further (Sign s ∷ map piece_of tokens.now) }
@@ -71,7 +71,7 @@ fn read_term<'t, 'a>(tokens: &'t [Token<'a>]) -> Option<(Term<'a>, &'t [Token<'a
 
 /// Reads the terms after the first, each with a sign or two before it, and appends them; false if the tokens
 /// aren't that.
-#[tactic(auto, using(crate::proofs::Sums::further_more), unfolding(crate::specs::Support::Sums::further))]
+#[tactic(auto, using(std::proofs::lemmas::List::append_assoc), unfolding(crate::specs::Support::Sums::further))]
 fn read_further<'a>(out: &mut Vec<Term<'a>>, tokens: &[Token<'a>]) -> Result<bool, AllocError>
     ensures reads { IfOk result (λ ok. option_map (λ ts. out.old.items ++ ts) (further (map piece_of tokens.now)) ≡ (if ok then Some out.new.items else None)) }
     ensures short { IfOk result (λ _. length out.new.items ≤ length out.old.items + length tokens.now) }
