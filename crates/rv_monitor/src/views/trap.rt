@@ -37,6 +37,7 @@ fn append_trap(trap: TrapRecord, text: &mut Vec<u8>)
 }
 
 /// Appends a line for each trap that the board keeps, oldest first.
+#[tactic(auto, using(crate::proofs::Pieces::has_trap, crate::proofs::Pieces::trap_appended))]
 pub fn write_traps<M: ByteMemory, C: Decoded>(
     board: &Board<M, C>,
     text: &mut Vec<u8>,
