@@ -1,8 +1,8 @@
 -- Lists of addresses, seen as sets; the filter of their flags, and the room for more of them.
-use Rattle.std.proofs.Common.{rules, ◌≡◌, ◌∙◌, ℕ, ◌-◌, ◌<◌, Bool, true, false, cond, List, [], ◌∷◌, length, get_or, set, sym, refl, ap, arith, true≢false}
-use Rattle.std.specs.Prelude.{nat_eq, ◌||◌, ◌&&◌, ◌==◌, not, if◌then◌else◌}
+use Rattle.std.proofs.Common.{rules, ◌≡◌, ◌∙◌, ℕ, ◌-◌, ◌<◌, Bool, true, false, cond, List, [], ◌∷◌, length, get_or, set, refl, arith, true≢false}
+use Rattle.std.specs.Prelude.{nat_eq, ◌==◌, if◌then◌else◌}
 use Rattle.std.specs.List.{list_any}
-use Rattle.std.proofs.lemmas.Bool.{cases_eq, cond-false, cond-true, le-ltb, lt-ltb}
+use Rattle.std.proofs.lemmas.Bool.{cases_eq, eqb-true, cond-false, cond-true, le-ltb, lt-ltb}
 use Rattle.std.proofs.lemmas.List.{get_or-set_same, get_or-set_other}
 use Rattle.std.specs.Ordering.{nat_cmp}
 use Rattle.std.specs.Cmp.{nat_cmp_total, unsigned_tied, nat_eq_equiv}
@@ -19,38 +19,24 @@ pub has : (xs : List ℕ) (q : ℕ) → contains (from_list {R = nat_cmp} xs) q 
 has [] q = contains-empty nat_cmp q
 has (x ∷ xs) q = search (rules, arith, contains-insert, nat_cmp_total, unsigned_tied, has xs q)
 
-or_else : (a b : Bool) → cond a true b ≡ (a || b)
-or_else a b = search (rules, arith)
-
-and_not : (a b : Bool) → cond a false b ≡ (not a && b)
-and_not a b = search (rules, arith)
-
 -- a list with one more address is the set with one more
 pub inserted : (xs ys : List ℕ) (x : ℕ) → ((q : ℕ) → is_in ys q ≡ cond (nat_eq x q) true (is_in xs q)) →
     from_list {R = nat_cmp} ys ≡ insert (from_list xs) x
 inserted xs ys x each = same_set nat_cmp_total nat_cmp-IsAntisymmetric _ _ (λ q.
-    has ys q ∙ (each q ∙ (or_else (nat_eq x q) (is_in xs q) ∙ sym (contains-insert nat_cmp_total (from_list xs) x q
-    ∙ (ap (λ b. b || contains (from_list {R = nat_cmp} xs) q) (unsigned_tied q x ∙ nat_eq_equiv.symm q x)
-    ∙ ap (λ b. nat_eq x q || b) (has xs q))))))
+    let tied = unsigned_tied q x ∙ nat_eq_equiv.symm q x in
+    search (rules, arith, has, each, contains-insert nat_cmp_total, tied))
 
--- an address that is there already, inserted again
-with_same : (s : FinSet nat_cmp) (x q : ℕ) (b : Bool) → nat_eq x q ≡ b → contains s x ≡ true →
-    (nat_eq x q || contains s q) ≡ contains s q
-with_same s x q b e h = search (rules, arith)
-
--- so inserting it changes nothing
+-- to insert an address that is there already changes nothing
 pub there : (s : FinSet nat_cmp) (x : ℕ) → contains s x ≡ true → s ≡ insert s x
-there s x h = same_set nat_cmp_total nat_cmp-IsAntisymmetric _ _ (λ q.
-    sym (contains-insert nat_cmp_total s x q ∙ (ap (λ b. b || contains s q)
-    (unsigned_tied q x ∙ nat_eq_equiv.symm q x) ∙ with_same s x q (nat_eq x q) refl h)))
+there s x h = same_set nat_cmp_total nat_cmp-IsAntisymmetric _ _ (λ q. let same = nat_eq_equiv.symm q x in
+    search (rules, arith, contains-insert, nat_cmp_total, unsigned_tied, same, eqb-true))
 
 -- a list with one address less is the set with one less
 pub removed : (xs ys : List ℕ) (x : ℕ) → ((q : ℕ) → is_in ys q ≡ cond (nat_eq x q) false (is_in xs q)) →
     from_list {R = nat_cmp} ys ≡ remove (from_list xs) x
 removed xs ys x each = same_set nat_cmp_total nat_cmp-IsAntisymmetric _ _ (λ q.
-    has ys q ∙ (each q ∙ (and_not (nat_eq x q) (is_in xs q) ∙ sym (contains-remove nat_cmp_total (from_list xs) x q
-    ∙ (ap (λ b. not b && contains (from_list {R = nat_cmp} xs) q)
-    (unsigned_tied q x ∙ nat_eq_equiv.symm q x) ∙ ap (λ b. not (nat_eq x q) && b) (has xs q))))))
+    let tied = unsigned_tied q x ∙ nat_eq_equiv.symm q x in
+    search (rules, arith, has, each, contains-remove nat_cmp_total, tied))
 
 -- the set of the empty list is empty
 pub none_listed : (xs : List ℕ) → length xs ≡ 0 → empty {R = nat_cmp} ≡ from_list {R = nat_cmp} xs
@@ -71,18 +57,12 @@ flag_stays flags i j lt h = grind (arith, get_or-set_same, get_or-set_other, cas
 -- the filter fits the list with one address less
 pub filter_after_remove : (old new : List ℕ) (x : ℕ) (filter : BreakpointFilter) → MayContainAll old filter
     → ((q : ℕ) → list_any (nat_eq q) new ≡ cond (nat_eq x q) false (list_any (nat_eq q) old)) → MayContainAll new filter
-filter_after_remove old new x filter was each q h = go (nat_eq x q) (each q) where
-  go : (b : Bool) → list_any (nat_eq q) new ≡ cond b false (list_any (nat_eq q) old) → may_contain filter q ≡ true
-  go true f = absurd (true≢false (sym h ∙ f))
-  go false f = was q (sym f ∙ h)
+filter_after_remove old new x filter was each q h = search (rules, arith, was, each, true≢false)
 
 -- an address whose flag is off is not in the list
 pub none_outside : (addresses : List ℕ) (filter : BreakpointFilter) (x : ℕ) → MayContainAll addresses filter →
     may_contain filter x ≡ false → list_any (nat_eq x) addresses ≡ false
-none_outside addresses filter x was none = go (list_any (nat_eq x) addresses) refl where
-  go : (b : Bool) → list_any (nat_eq x) addresses ≡ b → list_any (nat_eq x) addresses ≡ false
-  go true e = absurd (true≢false (sym (was x e) ∙ none))
-  go false e = e
+none_outside addresses filter x was none = search (rules, arith, was x, true≢false)
 
 -- ---- the room after an address is added or removed
 
