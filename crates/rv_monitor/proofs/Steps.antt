@@ -1,6 +1,7 @@
 -- Steps with the inputs of their times.
 use Rattle.std.proofs.Common.{rules, ◌≡◌, ◌∙◌, ℕ, zero, suc, ◌+◌, ◌-◌, ◌<◌, ◌≤◌, true, false, List, [], ◌∷◌, ◌++◌, length, get_or, drop, replicate, refl, ap, arith, append-nil, append_assoc, add_assoc}
 use Rattle.std.specs.Prelude.{map}
+use native.Mathlib.Numerals.{unary_clauses}
 use Rattle.std.proofs.lemmas.List.{length-drop, drop-drop, drop_more, replicate_more}
 use Rattle.std.proofs.lemmas.Bool.{eq-eqb, lt-ltb}
 use Rattle.rv_board.specs.Support.State.{BoardState, halted_of}
@@ -39,13 +40,7 @@ pub events_join : (xs : List TimedInput) (t k j : ℕ) →
     events_of xs t (k + j) ≡ events_of xs t k ++ events_of xs (t + k) j
 unfolding events_of
 events_join xs t k zero = search (rules, arith, append-nil)
-events_join xs t k (suc j) =
-    let e : k + suc j ≡ suc (k + j) = omega arith in
-    let f : t + (k + j) ≡ (t + k) + j = omega arith in
-    ap (events_of xs t) e ∙ rw (
-      events_join xs t k j,
-      f,
-    ) (append_assoc (events_of xs t k) (events_of xs (t + k) j) (inputs_at xs ((t + k) + j) ++ Step ∷ []))
+events_join xs t k (suc j) = search (rules, arith, unary_clauses, append_assoc, add_assoc, events_join xs t k j)
 
 -- the run of a first step's events
 pub run_step : (b : BoardState) (xs : List TimedInput) (t : ℕ) →
@@ -83,9 +78,7 @@ pub after_none : (s : TimedState) → IsInTime s → after s 0 ≡ s
 unfolding after events_of
 after_none s h =
     let now : s.taken + 0 ≡ s.taken = omega arith in
-    let none : count_before (s.taken + 0) (rest s) ≡ 0 =
-    ap (λ t. count_before t (rest s)) now ∙ none_before s.taken (rest s) h.ahead in
-    same s.board s.board s.inputs _ _ _ _ refl (omega (arith, none)) now
+    rw (now, none_before s.taken (rest s) h.ahead) (search (rules, arith, same))
 
 pub after_more : (s : TimedState) (k j : ℕ) → never_falls s.inputs ≡ true → after (after s k) j ≡ after s (k + j)
 unfolding after
@@ -138,12 +131,9 @@ place_within s t h = search (rules, arith, count_most, length-drop)
 
 pub in_time_due : (s : TimedState) → IsInTime s → IsInTime (with_due s)
 unfolding with_due
-in_time_due s h = record {
-  within = place_within s (s.taken + 1) h;
-  rising = h.rising;
-  ahead = ap (from s.taken) (rest_late s (s.taken + 1))
-      ∙ drop_from s.taken (count_before (s.taken + 1) (rest s)) (rest s) h.ahead;
-}
+in_time_due s h =
+    let left = drop_from s.taken (count_before (s.taken + 1) (rest s)) (rest s) h.ahead in
+    search (rules, arith, place_within, rest_late)
 
 pub in_time_after : (s : TimedState) (n : ℕ) → IsInTime s → IsInTime (after s n)
 unfolding after
@@ -170,11 +160,9 @@ module _ (xs more : List TimedInput) (place n p : ℕ) (is : more ≡ drop place
 
     pub given_in_time : IsInTime old → n ≤ length more → from (t + 1) (drop n more) ≡ true
         → IsInTime (record { board = c; inputs = xs; place = p; taken = t })
-    given_in_time h le left = let left_over = ap length is ∙ length-drop place xs in record {
-      within = omega (arith, h.within, left_over);
-      rising = h.rising;
-      ahead = from_earlier t (t + 1) (drop p xs) (left_from (t + 1) left) (omega arith);
-    }
+    given_in_time h le left =
+        let later = from_earlier t (t + 1) (drop p xs) (left_from (t + 1) left) (omega arith) in
+        let all : length more ≡ length xs - place = ap length is ∙ length-drop place xs in search (rules, arith)
 
     pub given_is_due : n ≡ count_before (t + 1) more → c ≡ run b (inputs_at more t)
         → ◌≡◌ {A = TimedState} (record { board = c; inputs = xs; place = p; taken = t }) (with_due old)

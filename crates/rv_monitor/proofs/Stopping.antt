@@ -1,5 +1,5 @@
 -- When a call ends: parts of it, several steps at once and one part after another.
-use Rattle.std.proofs.Common.{rules, ◌≡◌, ◌∙◌, ℕ, suc, ◌+◌, ◌-◌, ◌<◌, ◌≤◌, true, false, List, drop, replicate, refl, sym, ap, arith, ⊎_elim}
+use Rattle.std.proofs.Common.{rules, ◌≡◌, ◌∙◌, ℕ, zero, suc, ◌+◌, ◌-◌, ◌<◌, ◌≤◌, true, false, List, drop, replicate, refl, sym, ap, arith}
 use Rattle.std.specs.Prelude.{Option, Some, None, unwrap_or, is_some, Result, Err, OnErr}
 use Rattle.std.specs.Borrow.{Bor}
 use Rattle.std.specs.FinSet as set
@@ -90,27 +90,37 @@ runs_on a old new n t = search (rules, arith, running)
 
 -- ---- k steps after n others: the boards before the steps of both, and before those of the second part
 
-module _ (a : Addresses) (both part : ℕ → BoardState) (n k : ℕ)
-    (same : (j : ℕ) → 0 < j → j ≤ k → both (n + j) ≡ part j) (runs : halted_of (part 0) ≡ None)
-    (before : (i : ℕ) → i < suc n → stop_after a (both i) i ≡ None) where
-  later : (j : ℕ) → 0 < j → j ≤ k → stop_after a (both (n + j)) (n + j) ≡ stop_after a (part j) j
-  later j some le =
-      ap (λ b. stop_after a b (n + j)) (same j some le) ∙ same_stop a (part j) (n + j) j (omega arith) some
+-- before each of n steps there is no reason to end, and after the last there is this one, or none
+pub record Went (a : Addresses) (boards : ℕ → BoardState) (n : ℕ) (reason : Option Stop) : Type 0 where
+  pub going : (i : ℕ) → i < n → stop_after a (boards i) i ≡ None
+  pub ends : reason ≡ stop_after a (boards n) n
 
-  going_on : ((j : ℕ) → j < k → stop_after a (part j) j ≡ None) → (i : ℕ) → i < n + k → stop_after a (both i) i ≡ None
-  going_on more i less = ⊎_elim (λ earlier. before i earlier)
-      (λ further.
-      let sum : n + (i - n) ≡ i = omega arith in
-      ap (λ m. stop_after a (both m) m) (sym sum) ∙ (later (i - n) (omega arith) (omega arith) ∙ more (i - n) (omega arith)))
-      (cases_lt i (suc n))
+went_of : {a : Addresses} {old new : BoardState} {n : ℕ} {reason : Option Stop} → TookPart a old new n reason
+    → Went a (after_steps old) n reason
+went_of {a} {n = n} t = record { going = t.going; ends = t.ends ∙ ap (λ b. stop_after a b n) t.state }
 
-  ends_on : (reason : Option Stop) → reason ≡ stop_after a (part k) k → reason ≡ stop_after a (both (n + k)) (n + k)
-  ends_on reason is = ⊎_elim (λ some. is ∙ sym (later k some (omega arith)))
-      (λ all.
-      let none : k ≡ 0 = omega arith in
-      let same_place : n + k ≡ n = omega arith in
-      is ∙ (ap (λ m. stop_after a (part m) m) none ∙ (at_first a (part 0) runs
-      ∙ (sym (before n (omega arith)) ∙ ap (λ m. stop_after a (both m) m) (sym same_place))))) (cases_lt 0 k)
+each_of : (P : ℕ → Type 0) (n k : ℕ) → ((i : ℕ) → i < n → P i) → ((j : ℕ) → j < k → P (n + j)) → (i : ℕ)
+    → i < n + k → P i
+each_of P n k low high i less = search (rules, arith, cases_lt, high (i - n))
+
+module _ {a : Addresses} {both part : ℕ → BoardState} {n k : ℕ} {reason : Option Stop} (before : Went a both n None)
+    (more : Went a part k reason) (same : (j : ℕ) → 0 < j → j ≤ k → both (n + j) ≡ part j)
+    (runs : halted_of (part 0) ≡ None) where
+  reason_at : (j : ℕ) → j ≤ k → stop_after a (both (n + j)) (n + j) ≡ stop_after a (part j) j
+  reason_at zero le = search (rules, arith, at_first)
+  reason_at (suc j) le = rw (same (suc j) (omega arith) le) (same_stop a (part (suc j)) _ _ (omega arith) (omega arith))
+
+  went_on : Went a both (n + k) reason
+  went_on = record {
+    going = each_of (λ i. stop_after a (both i) i ≡ None) n k before.going
+        (λ j l. reason_at j (omega arith) ∙ more.going j l);
+    ends = more.ends ∙ sym (reason_at k (omega arith));
+  }
+
+-- before the last step of a part there is no reason to end, and after it there is none if it has none
+goes_past : {a : Addresses} {boards : ℕ → BoardState} {n : ℕ} → Went a boards n None → (i : ℕ) → i ≤ n
+    → stop_after a (boards i) i ≡ None
+goes_past {n = n} w i le = search (rules, arith, cases_lt)
 
 -- ---- a part of a call after another
 
@@ -118,28 +128,13 @@ more_steps : (b : BoardState) (n j : ℕ) → after_steps (after_steps b n) j �
 more_steps b n j =
     sym (run_append b (replicate n Step) (replicate j Step)) ∙ ap (run b) (replicate-append-replicate n j Step)
 
--- before the last step of a part there is no reason to end, and after it there is none if it has none
-goes_past : {a : Addresses} {old new : BoardState} {n : ℕ} → TookPart a old new n None → (i : ℕ) → i < suc n
-    → stop_after a (after_steps old i) i ≡ None
-goes_past {a} {old} {new} {n} t i less = ⊎_elim (λ earlier. t.going i earlier)
-    (λ last. let all : i ≡ n = omega arith in ap (λ m. stop_after a (after_steps old m) m) all
-    ∙ (ap (λ b. stop_after a b n) (sym t.state) ∙ sym t.ends)) (cases_lt i n)
-
-module _ {a : Addresses} {old mid new : BoardState} {n k : ℕ} {given : Option Stop}
-    (before : TookPart a old mid n None) (more : TookPart a mid new k given) where
-  steps_on : (j : ℕ) → after_steps old (n + j) ≡ after_steps mid j
-  steps_on j = sym (ap (λ b. after_steps b j) before.state ∙ more_steps old n j)
-
-  pub took_on : {reason : Option Stop} → reason ≡ given → TookPart a old new (n + k) reason
-  took_on {reason} is =
-      let at : new ≡ after_steps old (n + k) = more.state ∙ sym (steps_on k) in
-      let runs = runs_on a old mid n before in
-      record {
-        state = at;
-        going = going_on a (after_steps old) (after_steps mid) n k (λ j _ _. steps_on j) runs (goes_past before) more.going;
-        ends = ends_on a (after_steps old) (after_steps mid) n k (λ j _ _. steps_on j) runs (goes_past before) reason
-            (is ∙ (more.ends ∙ ap (λ b. stop_after a b k) more.state)) ∙ ap (λ b. stop_after a b (n + k)) (sym at);
-      }
+pub took_on : {a : Addresses} {old mid new : BoardState} {n k : ℕ} {given reason : Option Stop}
+    → TookPart a old mid n None → TookPart a mid new k given → reason ≡ given → TookPart a old new (n + k) reason
+took_on {a} {old} {mid} {new} {n} {k} before more is =
+    let steps_on = λ (j : ℕ). sym (more_steps old n j) ∙ ap (λ b. after_steps b j) (sym before.state) in
+    let at : new ≡ after_steps old (n + k) = more.state ∙ sym (steps_on k) in
+    let w = went_on (went_of before) (went_of more) (λ j _ _. steps_on j) (runs_on a old mid n before) in
+    record { state = at; going = w.going; ends = rw at (is ∙ w.ends) }
 
 -- two parts one after the other
 pub took_twice : {a : Addresses} {old mid end new : BoardState} {n k j : ℕ} {first second reason : Option Stop}
@@ -158,24 +153,19 @@ refused_with holds r e h is = search (rules, arith)
 pub record GoesOn (a : Addresses) (old now : TimedState) (n : ℕ) : Type 0 where
   pub in_time : IsInTime old
   pub state : now ≡ after old n
-  pub going : (i : ℕ) → i < suc n → stop_after a (after old i).board i ≡ None
+  pub went : Went a (λ i. (after old i).board) n None
 
 module _ (a : Addresses) (s : TimedState) where
   pub goes_first : IsInTime s → halted_of s.board ≡ None → GoesOn a s s 0
-  goes_first h e = record {
-    in_time = h;
-    state = sym (after_none s h);
-    going = λ i less.
-        let first : i ≡ 0 = omega arith in
-        rw (first, after_none s h) (no_reason a s.board 0 e (λ above. absurd (omega arith)));
-  }
+  goes_first h e = search (rules, arith, after_none, at_first)
 
   pub stopped_at_once : (most : ℕ) → IsInTime s → is_some (halted_of s.board) ≡ true → HasStopped a most s s Halted
   unfolding stop_after
   stopped_at_once most h e = search (rules, arith, after_none, ended_for)
 
   pub stopped_at_limit : (most n : ℕ) (new : TimedState) → GoesOn a s new n → n ≡ most → HasStopped a most s new Limit
-  stopped_at_limit most n new g all = search (rules, arith, took_steps)
+  stopped_at_limit most n new g all = let none : stop_after a new.board n ≡ None = rw g.state (sym g.went.ends) in
+      search (rules, arith, took_steps, none)
 
 -- the inputs that are left after steps before which none comes, by the fields of the state
 pub ahead_fields : (most : ℕ) (b : BoardState) (xs : List TimedInput) (place t : ℕ) (s : TimedState) (n : ℕ)
@@ -191,41 +181,25 @@ module _ {a : Addresses} {s mid : TimedState} {n : ℕ} (g : GoesOn a s mid n) {
   given_is = due ∙ ap with_due g.state
 
   pub given_runs : halted_of given.board ≡ None
-  given_runs = search (rules, arith, given_is, halted_due, running)
+  given_runs = ap (λ u. halted_of u.board) given_is ∙ (halted_due (after s n) ∙ running a _ n (sym g.went.ends))
 
   module _ {later k : ℕ} (quiet : from later (rest given) ≡ true) (early : given.taken + k ≤ later)
       {new : TimedState} (is : new ≡ record given { board = new.board; taken = given.taken + k })
       {reason : Option Stop} (took : TookPart a given.board new.board k reason) where
-    with_board : BoardState → ℕ → TimedState
-    with_board b t = record given { board = b; taken = t }
-
-    joined : (j : ℕ) → 0 < j → j ≤ k → after s (n + j) ≡ with_board (after_steps given.board j) (given.taken + j)
-    unfolding with_board
+    joined : (j : ℕ) → 0 < j → j ≤ k
+        → after s (n + j) ≡ record given { board = after_steps given.board j; taken = given.taken + j }
     joined j some le = sym (ap (λ u. after u j) given_is ∙ again s g.in_time n j some)
         ∙ after_quiet given j (from_earlier _ later (rest given) quiet (omega arith))
 
-    board_at : (j : ℕ) → 0 < j → j ≤ k → (after s (n + j)).board ≡ after_steps given.board j
-    unfolding with_board
-    board_at j some le = ap (λ u. u.board) (joined j some le)
-
     stands : 0 < k → new ≡ after s (n + k)
-    unfolding with_board
-    stands some = is ∙ (ap (λ b. with_board b (given.taken + k)) took.state ∙ sym (joined k some (omega arith)))
+    stands some = is ∙ (ap (λ b. record given { board = b; taken = given.taken + k }) took.state
+        ∙ sym (joined k some (omega arith)))
 
-    goes_to : (i : ℕ) → i < n + k → stop_after a (after s i).board i ≡ None
-    goes_to = going_on a (λ i. (after s i).board) (after_steps given.board) n k board_at given_runs g.going took.going
-
-    ends : reason ≡ stop_after a (after s (n + k)).board (n + k)
-    ends = ends_on a (λ i. (after s i).board) (after_steps given.board) n k board_at given_runs g.going reason
-        (took.ends ∙ ap (λ b. stop_after a b k) took.state)
-
-    goes_past_all : reason ≡ None → (i : ℕ) → i < suc (n + k) → stop_after a (after s i).board i ≡ None
-    goes_past_all none i less = ⊎_elim (λ earlier. goes_to i earlier)
-        (λ last. let all : i ≡ n + k = omega arith in
-        ap (λ m. stop_after a (after s m).board m) all ∙ (sym ends ∙ none)) (cases_lt i (n + k))
+    went : Went a (λ i. (after s i).board) (n + k) reason
+    went = went_on g.went (went_of took) (λ j some le. ap (λ u. u.board) (joined j some le)) given_runs
 
     pub goes_further : reason ≡ None → 0 < k → GoesOn a s new (n + k)
-    goes_further none some = record { in_time = g.in_time; state = stands some; going = goes_past_all none }
+    goes_further none some = record { in_time = g.in_time; state = stands some; went = rw none at went }
 
     -- a board that hasn't halted gives no reason to end before the first step
     some_taken : is_some reason ≡ true → 0 < k
@@ -233,29 +207,23 @@ module _ {a : Addresses} {s mid : TimedState} {n : ℕ} (g : GoesOn a s mid n) {
 
     pub stopped : (most : ℕ) (stop : Stop) → reason ≡ Some stop → n + k ≤ most → HasStopped a most s new stop
     stopped most stop e within =
-        let some : 0 < k = some_taken (ap is_some e) in
-        let said : stop_after a new.board (n + k) ≡ Some stop =
-        ap (λ u. stop_after a u.board (n + k)) (stands some) ∙ (sym ends ∙ e) in
+        let state = stands (some_taken (ap is_some e)) in
+        let said : stop_after a new.board (n + k) ≡ Some stop = rw state (sym went.ends ∙ e) in
         record {
           count = n + k;
           within = within;
-          going = goes_to;
+          going = went.going;
           least = λ less. ap is_some said;
-          state = stands some;
-          word = ended_for a s new (n + k) stop (Some stop) (stands some) said refl;
+          state = state;
+          word = ended_for a s new (n + k) stop (Some stop) state said refl;
         }
-
-    -- after them no input is due, and if there are none, those of the step were given
-    due_next : given.taken + k < later → new ≡ with_due (after s (n + k))
-    unfolding with_board
-    due_next less = search (rules, arith, none_is_due, stands, with_board, given_is, cases_lt)
 
     pub refused : (most : ℕ) → reason ≡ None → n + k < most → given.taken + k < later
         → writes new.board Step ≡ true → IsRefused a most s new
     refused most none less next w = record {
       count = n + k;
       within = less;
-      going = λ i le. goes_past_all none i (omega arith);
-      state = due_next next;
+      going = goes_past (rw none at went);
+      state = search (rules, arith, none_is_due, stands, given_is, cases_lt);
       next_writes = w;
     }
