@@ -1,6 +1,6 @@
 -- Inputs that are given by hand, and states that a board comes to by its inputs and its steps: what calls leave is one.
-use Rattle.std.proofs.Common.{rules, ◌≡◌, ◌∙◌, ℕ, zero, suc, ◌+◌, ◌<◌, ◌≤◌, Bool, true, false, List, [], ◌∷◌, ◌++◌, length, drop, refl, sym, ap, subst, arith, ◌-◌, inl, inr, ⊎_elim, get_or}
-use Rattle.std.specs.Prelude.{◌⊎◌, nat_le, nat_lt, filter, None, map, IsSome}
+use Rattle.std.proofs.Common.{rules, ◌≡◌, ◌∙◌, ℕ, zero, suc, ◌+◌, ◌<◌, ◌≤◌, Bool, true, false, List, [], ◌∷◌, ◌++◌, length, drop, refl, sym, ap, subst, arith, ◌-◌, inl, inr, get_or, add-one}
+use Rattle.std.specs.Prelude.{◌⊎◌, nat_le, filter, None, IsSome}
 use Rattle.std.proofs.lemmas.Bool.{and_from, and_parts, eq-eqb, le-leb, le-ltb, lt-ltb, ltb-false, ltb-true, ne_eqb, cases_lt, eqb-true, false≢true}
 use Rattle.std.proofs.lemmas.List.{map-append}
 use Rattle.rv_board.specs.Support.State.{BoardState, halted_of}
@@ -10,7 +10,7 @@ use Rattle.rv_timeline.specs.declared.input.Input.{Input}
 use Rattle.rv_timeline.specs.declared.input.TimedInput.{TimedInput}
 use Rattle.rv_timeline.specs.Timed.{never_falls, inserted}
 use Rattle.rv_timeline.proofs.Inserted.{rises}
-use Rattle.rv_monitor.specs.Events.{inputs_at, events_of, event_of}
+use Rattle.rv_monitor.specs.Events.{inputs_at, events_of}
 use Rattle.rv_monitor.specs.Support.TimedCalls.{IsRefused}
 use Rattle.rv_monitor.specs.State.{Addresses, TimedState, IsInTime, rest, count_before, begun, after, with_due, given}
 use Rattle.rv_monitor.specs.Laws.{IsReached}
@@ -48,11 +48,8 @@ inserted_from t (y ∷ ys) x (suc n) k h all = search (rules, arith, ltb-true, d
 pub inserted_in_time : (b : BoardState) (xs : List TimedInput) (place t : ℕ) (x : TimedInput) → t ≤ x.step
     → IsInTime (record { board = b; inputs = xs; place = place; taken = t })
     → IsInTime (record { board = b; inputs = inserted xs x; place = place; taken = t })
-inserted_in_time b xs place t x at h = record {
-  within = omega (arith, h.within, length_inserted xs x);
-  rising = rises xs x h.rising;
-  ahead = inserted_from t xs x place at h.rising h.ahead;
-}
+inserted_in_time b xs place t x at h =
+    let ahead = inserted_from t xs x place at h.rising h.ahead in search (rules, arith, length_inserted xs x, rises)
 
 -- ---- the inputs of a step, with one more
 
@@ -61,23 +58,14 @@ module _ (t : ℕ) (input : Input) where
   by_hand = record { step = t; input = input }
 
   -- it stands after the others of its step, and before all later ones
-  here_by : (y : TimedInput) (ys : List TimedInput) (b : Bool) → nat_lt t y.step ≡ b → never_falls (y ∷ ys) ≡ true
-      → drop (count_before (t + 1) ys) (inserted ys by_hand) ≡ by_hand ∷ drop (count_before (t + 1) ys) ys
-      → drop (count_before (t + 1) (y ∷ ys)) (inserted (y ∷ ys) by_hand)
-      ≡ by_hand ∷ drop (count_before (t + 1) (y ∷ ys)) (y ∷ ys)
-  unfolding inserted
-  here_by y ys true e h more =
-      let l : t < y.step = ltb-true t y.step e in
-      let none : count_before (t + 1) (y ∷ ys) ≡ 0 =
-      none_before (t + 1) (y ∷ ys) (all_from (t + 1) y ys h (omega arith)) in
-      rw (none, e) refl
-  here_by y ys false e h more = search (rules, arith, ltb-false, lt-ltb)
-
   here : (xs : List TimedInput) → never_falls xs ≡ true
       → drop (count_before (t + 1) xs) (inserted xs by_hand) ≡ by_hand ∷ drop (count_before (t + 1) xs) xs
   unfolding inserted
   here [] h = refl
-  here (y ∷ ys) h = here_by y ys (nat_lt t y.step) refl h (here ys (tail_rises y ys h))
+  here (y ∷ ys) h = elim (cases_lt t y.step) [
+    | inl later ↦ rw (none_before (t + 1) (y ∷ ys) (all_from (t + 1) y ys h (omega arith)), lt-ltb t y.step later) refl
+    | inr now ↦ search (rules, arith, le-ltb, lt-ltb, here ys (tail_rises y ys h))
+  ]
 
   last : (xs : List TimedInput) → never_falls xs ≡ true → of t (inserted xs by_hand) ≡ of t xs ++ by_hand ∷ []
   unfolding inserted
@@ -174,22 +162,15 @@ pub grown_in_time : (b : BoardState) (xs ys : List TimedInput) (place t : ℕ) (
     → ys ≡ inserted xs x → t ≤ x.step → IsInTime (record { board = b; inputs = xs; place = place; taken = t })
     → IsInTime (record { board = b; inputs = ys; place = place; taken = t }) × (from t (drop place ys) ≡ true)
 grown_in_time b xs ys place t x is le h =
-    let grown = inserted_in_time b xs place t x le h in (
-      subst (λ zs. IsInTime (record { board = b; inputs = zs; place = place; taken = t })) (sym is) grown,
-      ap (λ zs. from t (drop place zs)) is ∙ grown.ahead,
-    )
+    let grown = inserted_in_time b xs place t x le h in rw is (grown, grown.ahead)
 
 pub stepped_in_time : (b c : BoardState) (xs : List TimedInput) (place t later : ℕ) (s : TimedState)
     → record { board = b; inputs = xs; place = place; taken = t } ≡ s
     → IsInTime (record { board = b; inputs = xs; place = place; taken = t }) → from later (rest s) ≡ true
     → s.taken < later → IsInTime (record { board = c; inputs = xs; place = place; taken = t + 1 })
 stepped_in_time b c xs place t later s e h quiet after_now =
-    let time : t ≡ s.taken = ap (λ u. u.taken) e in
-    record {
-      within = h.within;
-      rising = h.rising;
-      ahead = from_earlier (t + 1) later (drop place xs) (ap (λ u. from later (rest u)) e ∙ quiet) (omega arith);
-    }
+    let less : t < later = rw (← e) at after_now in
+    let left = from_earlier (t + 1) later (drop place xs) (rw (← e) at quiet) (omega arith) in search (rules, arith)
 
 pub restored : (b c : BoardState) (xs ys : List TimedInput) (place t n : ℕ) → ys ≡ xs
     → IsInTime (record { board = b; inputs = xs; place = place; taken = t }) × (from n (drop place xs) ≡ true)
@@ -219,90 +200,54 @@ pub in_time : (board : BoardState) (s : TimedState) → IsReached board s → Is
 in_time board s r = search (rules, arith, in_time_after, begun_in_time, in_time_due)
 
 module _ (board : BoardState) (s : TimedState) (r : IsReached board s) where
-  h : IsInTime s
-  h = search (rules, arith, in_time)
-
   abbrev first : TimedState
   first = begun board s.inputs
 
   -- with the inputs of the next step it is what the steps and these inputs make
-  due_is : (s ≡ after first s.taken) ⊎ (s ≡ with_due (after first s.taken)) → with_due s ≡ with_due (after first s.taken)
-  due_is (inl e) = ap with_due e
-  due_is (inr e) = ap with_due e ∙ due_twice board s.inputs r.rising s.taken
+  due_is : with_due s ≡ with_due (after first s.taken)
+  due_is = search (rules, arith, due_twice)
 
-  more : (n : ℕ) → 0 < n → after s n ≡ after first (s.taken + n)
-  more n some = sym (due_after s n r.rising some) ∙ (ap (λ u. after u n) (due_is r.state)
-      ∙ again first (begun_in_time board s.inputs r.rising) s.taken n some)
+  step_is : after s 1 ≡ after first (s.taken + 1)
+  step_is = sym (due_after s 1 r.rising (omega arith)) ∙ (ap (λ u. after u 1) due_is
+      ∙ again first (begun_in_time board s.inputs r.rising) s.taken 1 (omega arith))
 
-  halted_same : (n : ℕ) → halted_of (after s n).board ≡ halted_of (after first (s.taken + n)).board
-  halted_same zero =
-      let same_step : s.taken ≡ s.taken + 0 = omega arith in
-      ap (λ u. halted_of u.board) (after_none s h) ∙ (sym (halted_due s) ∙ (ap (λ u. halted_of u.board) (due_is r.state)
-      ∙ (halted_due (after first s.taken) ∙ ap (λ n. halted_of (after first n).board) same_step)))
-  halted_same (suc n) = ap (λ u. halted_of u.board) (more (suc n) (omega arith))
+  halted_is : halted_of (after first s.taken).board ≡ halted_of s.board
+  halted_is = sym (halted_due (after first s.taken)) ∙ (ap (λ u. halted_of u.board) (sym due_is) ∙ halted_due s)
 
-  module _ (n : ℕ) (goes : (j : ℕ) → j < n → halted_of (after s j).board ≡ None) where
-    goes_on : (i : ℕ) → i < s.taken + n → halted_of (after first i).board ≡ None
-    goes_on i l = ⊎_elim (λ earlier. r.running i earlier)
-        (λ later.
-        let sum : i ≡ s.taken + (i - s.taken) = omega arith in
-        ap (λ k. halted_of (after first k).board) sum
-        ∙ (sym (halted_same (i - s.taken)) ∙ goes (i - s.taken) (omega arith))) (cases_lt i s.taken)
-
-  pub after_stands : (n : ℕ) → ((j : ℕ) → j < n → halted_of (after s j).board ≡ None) → IsReached board (after s n)
-  after_stands zero goes = subst (IsReached board) (sym (after_none s h)) r
-  after_stands (suc n) goes = reached_steps board s.inputs (s.taken + suc n) (after s (suc n)) r.rising
-      (more (suc n) (omega arith)) (goes_on (suc n) goes)
+  pub step_stands : halted_of s.board ≡ None → IsReached board (after s 1)
+  step_stands halt = reached_steps board s.inputs (s.taken + 1) (after s 1) r.rising step_is
+      (λ i l. search (rules, arith, cases_lt, halted_is))
 
   pub due_stands : IsReached board (with_due s)
-  due_stands = reached_due board s.inputs s.taken (with_due s) r.rising (due_is r.state) r.running
+  due_stands = reached_due board s.inputs s.taken (with_due s) r.rising due_is r.running
 
 -- ---- what calls leave
 
-module _ (board : BoardState) (old new : TimedState) (r : IsReached board old) where
-  module _ (a : Addresses) (n : ℕ) (going : (i : ℕ) → i < n → stop_after a (after old i).board i ≡ None) where
-    gone_on : IsReached board (after old n)
-    gone_on = after_stands board old r n (λ j l. running a (after old j).board j (going j l))
+module _ (a : Addresses) (board : BoardState) (s : TimedState) (r : IsReached board s) where
+  pub stopped_stands : (n : ℕ) → ((i : ℕ) → i < n → stop_after a (after s i).board i ≡ None) → IsReached board (after s n)
+  stopped_stands zero going = subst (IsReached board) (sym (after_none s (in_time board s r))) r
+  stopped_stands (suc n) going = subst (IsReached board) (after_more s n 1 r.rising ∙ ap (after s) (add-one n))
+      (step_stands board (after s n) (stopped_stands n (λ i l. going i (omega arith)))
+      (running a (after s n).board n (going n (omega arith))))
 
-    pub stopped_stands : new ≡ after old n → IsReached board new
-    stopped_stands is = search (rules, arith, gone_on)
-
-    pub refused_stands : new ≡ with_due (after old n) → IsReached board new
-    refused_stands is = subst (IsReached board) (sym is) (due_stands board (after old n) gone_on)
-
-  pub step_stands : halted_of old.board ≡ None → new ≡ after old 1 → IsReached board new
-  step_stands halt is = subst (IsReached board) (sym is)
-      (after_stands board old r 1 (λ j l.
-      let none : j ≡ 0 = omega arith in
-      ap (λ i. halted_of (after old i).board) none ∙ (ap (λ u. halted_of u.board) (after_none old (in_time board old r)) ∙ halt)))
-
-  pub due_is_reached : new ≡ with_due old → IsReached board new
-  due_is_reached is = subst (IsReached board) (sym is) (due_stands board old r)
+  pub refused_stands : (n : ℕ) → ((i : ℕ) → i < n → stop_after a (after s i).board i ≡ None)
+      → IsReached board (with_due (after s n))
+  refused_stands n going = due_stands board (after s n) (stopped_stands n going)
 
 -- ---- the number of inputs before a step, one after another
 
-module _ (t : ℕ) where
-  pub counted_till : (xs : List TimedInput) (i : ℕ) (x d : TimedInput) → never_falls xs ≡ true → i < length xs
-      → x ≡ get_or xs i d → t ≤ x.step → i + count_before t (drop i xs) ≡ count_before t xs → i ≡ count_before t xs
-  counted_till xs i x d rising h e k more =
-      let none : count_before t (drop i xs) ≡ 0 = none_before t (drop i xs)
-      (from_earlier t (get_or xs i d).step (drop i xs) (from_place xs i d rising h)
-      (omega (arith, ap (λ y. y.step) e))) in
-      omega (arith, none, more)
+pub counted_till : (t : ℕ) (xs : List TimedInput) (i : ℕ) (x d : TimedInput) → never_falls xs ≡ true → i < length xs
+    → x ≡ get_or xs i d → t ≤ x.step → i + count_before t (drop i xs) ≡ count_before t xs → i ≡ count_before t xs
+counted_till t xs i x d rising h e k more =
+    let late = from_earlier t _ (drop i xs) (from_place xs i d rising h) (rw e at k) in
+    omega (arith, none_before t _ late, more)
 
 -- ---- a board that goes on is in time
 
 pub resumed_in_time : (b : BoardState) (xs : List TimedInput) (t place : ℕ) → never_falls xs ≡ true
     → place ≡ count_before t xs
     → IsInTime (record { board = b; inputs = xs; place = place; taken = t }) × (from 0 (drop place xs) ≡ true)
-resumed_in_time b xs t place rising e = (
-  record {
-    within = omega (arith, e, count_most t xs);
-    rising = rising;
-    ahead = ap (λ n. from t (drop n xs)) e ∙ late_from t xs rising;
-  },
-  from_first (drop place xs),
-)
+resumed_in_time b xs t place rising e = rw e (search (rules, arith, count_most, late_from, from_first))
 
 -- ---- where no input of the next step was given, the board is what the steps taken left
 
@@ -314,9 +259,9 @@ none_at : (t : ℕ) (xs : List TimedInput) → never_falls xs ≡ true → count
     → inputs_at xs t ≡ []
 unfolding inputs_at
 none_at t xs rising e =
-    let late = drop (count_before t xs) xs in
-    let none : count_before (t + 1) late ≡ 0 = omega (arith, late_count t (t + 1) (omega arith) xs rising, e) in
-    ap (map (λ x. event_of x.input)) (sym (late_of t t (omega arith) xs rising) ∙ none_counted t late none)
+    let none : count_before (t + 1) (drop (count_before t xs) xs) ≡ 0 =
+    omega (arith, late_count t (t + 1) (omega arith) xs rising, e) in
+    rw (← late_of t t (omega arith) xs rising, none_counted t _ none) refl
 
 module _ (first : BoardState) (s : TimedState) (r : IsReached first s) where
   abbrev from_reset_on : TimedState

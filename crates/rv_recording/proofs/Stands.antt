@@ -1,14 +1,16 @@
 -- What the calls of a session leave is a recording as well.
-use Rattle.std.proofs.Common.{rules, ◌≡◌, ℕ, ◌-◌, ◌*◌, ◌≤◌, Bool, true, List, [], ◌∷◌, refl, sym, ap, subst, arith}
+use Rattle.std.proofs.Common.{rules, ◌≡◌, ℕ, ◌-◌, ◌*◌, ◌≤◌, true, List, [], ◌∷◌, refl, sym, ap, subst, arith}
 use Rattle.std.specs.FinSet as set
-use Rattle.std.specs.Prelude.{◌&&◌, nat_le, is_none, Option, Some, None, Result, Ok, Err, OnOk, OnErr, OnOk}
+use Rattle.std.proofs.lemmas.Bool.{and_parts}
+use Rattle.std.specs.Prelude.{nat_le, is_none, Option, Some, None, Result, Ok, Err, OnOk, OnErr, OnOk}
 use Rattle.rv_base.specs.declared.memory.NoMemory.{NoMemory}
 use Rattle.rv_hart.specs.declared.trap.Outcome.{Outcome}
 use Rattle.rv_board.specs.Boot.{board_at_reset}
 use Rattle.rv_board.specs.Move.{run}
 use Rattle.rv_board.specs.Support.State.{BoardState}
 use Rattle.rv_timeline.specs.Support.Reading.{HasSteps}
-use Rattle.rv_timeline.specs.Timed.{IsRead, inserted, never_falls, timed}
+use Rattle.rv_timeline.specs.Timed.{inserted}
+use Rattle.rv_timeline.proofs.Whole.{rising}
 use Rattle.rv_timeline.specs.declared.input.Input.{Input}
 use Rattle.rv_timeline.specs.declared.input.TimedInput.{TimedInput}
 use Rattle.rv_program.specs.Program.{Assembly}
@@ -20,15 +22,12 @@ use Rattle.rv_monitor.specs.Resumed.{resumed_at}
 use Rattle.rv_monitor.specs.State.{Addresses, SessionState, TimedState, begun, after, with_due, given, with_break, without_break}
 use Rattle.rv_monitor.specs.Stops.{Took, WasRefused, TakesStep}
 use Rattle.rv_monitor.specs.declared.stop.Stop.{Stop}
-use Rattle.rv_monitor.proofs.Reached.{given_stands, reached_steps, resumed_back, begun_stands, stopped_stands, refused_stands, step_stands, due_is_reached}
+use Rattle.rv_monitor.proofs.Reached.{given_stands, reached_steps, resumed_back, begun_stands, stopped_stands, refused_stands, step_stands, due_stands}
 use Rattle.rv_monitor.specs.Opening.{Opens}
 use Rattle.rv_recording.specs.Recording.{RecordingState, gone_back}
 use Rattle.rv_recording.specs.Support.Recorded.{IsRecorded}
 use Rattle.rv_recording.specs.Support.Kept.{KeptBoard, AreKept, AreWithin}
 use Rattle.rv_recording.proofs.Keeping.{kept_with}
-
-and_left : (a b : Bool) → (a && b) ≡ true → a ≡ true
-and_left a b h = search (rules, arith)
 
 none_is : {A : Type 0} (x : Option A) → is_none x ≡ true → x ≡ None
 none_is x h = search (rules, arith)
@@ -39,10 +38,6 @@ none_is x h = search (rules, arith)
 abbrev Stands : SessionState → ℕ → ℕ → List KeptBoard → Type 0
 Stands s p q ks = IsRecorded (record { session = s; pages = p; slots = q })
     × AreKept (board_at_reset s.program.bytes (4096 * p)) s.timed.inputs ks
-
-rising : (text : List ℕ) (inputs : List TimedInput) → IsRead text (Ok inputs) → never_falls inputs ≡ true
-unfolding timed
-rising text inputs read = search (rules, arith)
 
 pub opened_is : (program : Assembly) (text : List ℕ) (pages slots : ℕ) (s : SessionState)
     → Opens program text pages slots 9999999999 (Ok s) → HasSteps s.timed.inputs
@@ -55,7 +50,7 @@ steps_inserted : (xs : List TimedInput) (x : TimedInput) → HasSteps xs → nat
     → HasSteps (inserted xs x)
 unfolding inserted
 steps_inserted [] x h k = search (rules, arith)
-steps_inserted (y ∷ ys) x h k = search (rules, arith, and_left, steps_inserted ys x)
+steps_inserted (y ∷ ys) x h k = search (rules, arith, and_parts, steps_inserted ys x)
 
 module _ (s new : SessionState) (p q : ℕ) (ks : List KeptBoard) (h : Stands s p q ks) where
   abbrev first : BoardState
@@ -81,23 +76,12 @@ module _ (s new : SessionState) (p q : ℕ) (ks : List KeptBoard) (h : Stands s 
 
   took : (a : Addresses) (n : ℕ) → Took a n s new → Stands new p q ks
   unfolding after
-  took a n t = moved _ t.state (stopped_stands first s.timed _ h.0.reached a t.count t.going refl) refl
+  took a n t = moved _ t.state (stopped_stands a first s.timed h.0.reached t.count t.going) refl
 
   was_refused : (a : Addresses) (n : ℕ) → WasRefused a n s new → Stands new p q ks
   unfolding after with_due
   was_refused a n w = moved _ w.state
-      (refused_stands first s.timed _ h.0.reached a w.count (λ i l. w.going i (omega arith)) refl) refl
-
-  pub called : (a : Addresses) (n : ℕ) (r : Result Stop NoMemory) → OnOk r (Took a n s new)
-      → OnErr r (WasRefused a n s new) → Stands new p q ks
-  called a n r ok err = search (rules, arith, took, was_refused)
-
-  pub one_step : (r : Result (Option Outcome) NoMemory) → TakesStep s new r → Stands new p q ks
-  unfolding after with_due
-  one_step (Ok (Some outcome)) t =
-      moved _ t.1 (step_stands first s.timed _ h.0.reached (none_is _ (and_left _ _ t.0)) refl) refl
-  one_step (Ok None) t = unchanged t.1
-  one_step (Err refusal) t = moved _ t.1 (due_is_reached first s.timed _ h.0.reached refl) refl
+      (refused_stands a first s.timed h.0.reached w.count (λ i l. w.going i (omega arith))) refl
 
   -- ---- commands
 
@@ -147,3 +131,21 @@ module _ (s new : SessionState) (p q : ℕ) (ks : List KeptBoard) (h : Stands s 
     pub back_any : (r : Result Stop NoMemory) → OnOk r (Took set.empty (n - k) (resumed_at s board k) new)
         → OnErr r (new ≡ s) → Stands new p q ks
     back_any r ok err = search (rules, arith, back_stands, unchanged)
+
+-- a state may be kept before a call
+module _ (s new : SessionState) (p q : ℕ) (before ks : List KeptBoard) (h : Stands s p q before)
+    (keep : (first : BoardState) → IsReached first s.timed → AreKept first s.timed.inputs before
+    → AreKept first s.timed.inputs ks) where
+  kept : Stands s p q ks
+  kept = (h.0, keep (board_at_reset s.program.bytes (4096 * p)) h.0.reached h.1)
+
+  pub called : (a : Addresses) (n : ℕ) (r : Result Stop NoMemory) → OnOk r (Took a n s new)
+      → OnErr r (WasRefused a n s new) → Stands new p q ks
+  called a n r ok err = search (rules, arith, took s new p q ks kept, was_refused s new p q ks kept)
+
+  pub one_step : (r : Result (Option Outcome) NoMemory) → TakesStep s new r → Stands new p q ks
+  unfolding after with_due
+  one_step (Ok (Some outcome)) t = moved s new p q ks kept _ t.1
+      (step_stands _ s.timed h.0.reached (none_is _ (and_parts _ _ t.0).0)) refl
+  one_step (Ok None) t = unchanged s new p q ks kept t.1
+  one_step (Err refusal) t = moved s new p q ks kept _ t.1 (due_stands _ s.timed h.0.reached) refl

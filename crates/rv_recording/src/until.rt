@@ -154,23 +154,24 @@ pub(crate) fn end_after(reached: bool, session: &Session<PagedRam, DecodeCache>)
     Some(End::Stuck)
 }
 
-/// Returns why a run is over that a call of a session took, by why that ended.
-fn end_by(stop: Stop, session: &Session<PagedRam, DecodeCache>) -> End
-    ensures { result ≡ end_by stop (nat_lt session.now.timed.taken session.now.limit) }
-{
-    match stop {
-        Stop::Halted => End::Halted,
-        Stop::Breakpoint => End::Breakpoint,
-        Stop::Limit => {
-            if session.taken() < session.limit() {
-                return End::Limit;
+impl Recording {
+    /// Returns why a run is over that a call of the session took, by why that ended.
+    fn end_by(&self, stop: Stop) -> End
+        ensures { result ≡ end_by stop (nat_lt self.now.session.timed.taken self.now.session.limit) }
+    {
+        match stop {
+            Stop::Halted => End::Halted,
+            Stop::Breakpoint => End::Breakpoint,
+            Stop::Limit => {
+                let session = self.session();
+                if session.taken() < session.limit() {
+                    return End::Limit;
+                }
+                End::Stuck
             }
-            End::Stuck
         }
     }
-}
 
-impl Recording {
     /// Takes `most` steps, past any breakpoint, unless the board halts or the last step is taken first, and
     /// returns which it was.
     ///
@@ -186,7 +187,7 @@ impl Recording {
         ensures others { self.new ≡ record self.old { session = self.new.session } }
     {
         let stop = self.step(most)?;
-        Ok(end_by(stop, self.session()))
+        Ok(self.end_by(stop))
     }
 
     /// Takes steps up to a breakpoint, and else as [`run_steps`](Recording::run_steps) does. It does not stop
@@ -204,7 +205,7 @@ impl Recording {
         ensures others { self.new ≡ record self.old { session = self.new.session } }
     {
         let stop = self.go(most)?;
-        Ok(end_by(stop, self.session()))
+        Ok(self.end_by(stop))
     }
 
     /// Takes a step, and returns why a run until a condition ends with it, if it does.
