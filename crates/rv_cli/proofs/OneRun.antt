@@ -1,21 +1,18 @@
 -- A command leaves one session, and commands one text.
-use Rattle.std.proofs.Common.{rules, ◌≡◌, ℕ, ◌<◌, ◌≤◌, inl, inr, List, [], ◌∷◌, ◌++◌, Option, Some, None, refl, sym, arith}
+use Rattle.std.proofs.Common.{rules, ◌≡◌, ℕ, ◌<◌, ◌≤◌, inl, inr, List, [], ◌∷◌, ◌++◌, Option, Some, None, refl, arith}
 use Rattle.std.specs.Prelude.{IsSome}
 use Rattle.std.specs.FinSet as set
 use Rattle.std.proofs.lemmas.Bool.{cases_lt}
 use Rattle.rv_commands.specs.declared.command.Command.{Command}
 use Rattle.rv_commands.specs.declared.command.Command.TheVariants.{Step, Go, SetBreak, ClearBreak}
-use Rattle.rv_monitor.specs.Support.Answers.{next_of}
 use Rattle.rv_monitor.specs.Commands.{Leaves, Took, answer, command_in}
-use Rattle.rv_monitor.proofs.Silent.{not_quit, quit_is}
 use Rattle.rv_monitor.specs.State.{Addresses, SessionState, after, with_break, without_break}
 use Rattle.rv_monitor.specs.Stops.{stop_after}
 use Rattle.rv_monitor.specs.Support.TimedCalls.{going_for, most_of}
-use Rattle.rv_monitor.specs.declared.command.Next.{Next}
-use Rattle.rv_monitor.specs.declared.command.Next.TheVariants.{More, Quit}
 use Rattle.rv_monitor.specs.declared.stop.Stop.{Stop}
 use Rattle.rv_base.specs.Lines.{lines}
 use Rattle.rv_cli.specs.Output.{Does, Obeys, goes_on, none, quits}
+use Rattle.rv_cli.proofs.Obeyed.{quits_or}
 use Rattle.rv_cli.proofs.OneList.{either, first_below}
 
 -- ---- steps
@@ -70,30 +67,21 @@ obeys_one _ _ _ _ _ _ (goes_on line f more old next a other leaves rest) (quits 
 obeys_one _ _ _ _ _ _ (goes_on line f more old next a other leaves rest) (goes_on _ g _ _ second b _ left left_rest) =
     search (rules, arith, took_one, obeys_one more next a b f g rest)
 
--- a session and a text that a list of commands leads to
-record Obeyed (ls : List (List ℕ)) (old : SessionState) : Type 0 where
-  new : SessionState
-  text : List ℕ
-  done : Obeys ls old new text
-
-some_begun : (word : Next) (line : List ℕ) (more : List (List ℕ)) (old : SessionState)
-    → next_of (command_in line old) ≡ word → ((next : SessionState) → Obeyed more next)
-    → Obeyed (line ∷ more) old
-some_begun More line more old is rest =
-    let first = leaves_some (command_in line old) old in
-    let follow = rest first.0 in
-    record {
-      new = follow.new;
-      text = answer (command_in line old) old first.0 ++ follow.text;
-      done = goes_on line follow.text more old first.0 follow.new (not_quit (command_in line old) (sym is)) first.1
-          follow.done;
-    }
-some_begun Quit line more old is rest =
-    record { new = old; text = []; done = quits line more old (quit_is (command_in line old) (sym is)) }
-
-obeys_some : (ls : List (List ℕ)) (old : SessionState) → Obeyed ls old
-obeys_some [] old = record { new = old; text = []; done = none old }
-obeys_some (line ∷ more) old = search (rules, arith, some_begun, obeys_some more)
+obeys_some : (ls : List (List ℕ)) (old : SessionState)
+    → (new : SessionState) × ((text : List ℕ) × Obeys ls old new text)
+obeys_some [] old = (old, ([], none old))
+obeys_some (line ∷ more) old = elim (quits_or (command_in line old)) [
+  | inl quit ↦ (old, ([], quits line more old quit))
+  | inr other ↦
+      let first = leaves_some (command_in line old) old in
+      let rest = obeys_some more first.0 in (
+        rest.0,
+        (
+          answer (command_in line old) old first.0 ++ rest.1.0,
+          goes_on line rest.1.0 more old first.0 rest.0 other first.1 rest.1.1,
+        ),
+      )
+]
 
 -- ---- what a run does
 
@@ -105,5 +93,4 @@ pub some_done : (commands : Option (List ℕ)) (old : SessionState)
     → (new : SessionState) × ((text : List ℕ) × Does commands old new text)
 some_done None old =
     let took = took_some set.empty old.limit old in (took.0, ([], (took.1, refl)))
-some_done (Some commands) old =
-    let obeyed = obeys_some (lines commands) old in (obeyed.new, (obeyed.text, obeyed.done))
+some_done (Some commands) old = obeys_some (lines commands) old

@@ -20,21 +20,8 @@ no_nothing rule c room old new h e = search (rules, arith)
 
 -- ---- whether commands follow
 
-pub more_of : (c : Option Command) → c ≢ Some Quit → next_of c ≡ next.More
-more_of c other = search (rules, arith)
-
-pub quit_is : (c : Option Command) → next.Quit ≡ next_of c → c ≡ Some Quit
-quit_is c is = search (rules, arith)
-
-pub not_quit : (c : Option Command) → next.More ≡ next_of c → c ≢ Some Quit
-not_quit c is e = search (rules, arith)
-
 pub quit_next : (n : Next) (c : Option Command) → c ≡ Some Quit → n ≡ next_of c → n ≡ next.Quit
 quit_next n c e is = search (rules, arith)
 
 pub more_next : (n : Next) (c : Option Command) → c ≢ Some Quit → n ≡ next_of c → n ≡ next.More
-more_next n c other is = search (rules, arith, more_of)
-
-pub next_is : (n : Next) (c : Option Command) → (c ≡ Some Quit → n ≡ next.Quit)
-    → (c ≢ Some Quit → n ≡ next.More) → n ≡ next_of c
-next_is n c quits more = search (rules, arith)
+more_next n c other is = rw is (search (rules, arith))
