@@ -1,8 +1,8 @@
 -- The search for the last stop.
-use Rattle.std.proofs.Common.{◌≡◌, ◌∙◌, ℕ, zero, suc, ◌+◌, ◌-◌, ◌<◌, ◌≤◌, Bool, true, false, add-one, refl, sym, ap, subst, arith, rules}
-use Rattle.std.specs.Prelude.{◌&&◌, if◌then◌else◌, is_some, min, List, Option, Some, None, IfSome, Ok}
+use Rattle.std.proofs.Common.{◌≡◌, ◌∙◌, ℕ, zero, suc, ◌+◌, ◌-◌, ◌<◌, ◌≤◌, Bool, true, false, add-one, refl, sym, ap, arith, rules}
+use Rattle.std.specs.Prelude.{if◌then◌else◌, is_some, min, List, Option, Some, None, IfSome, Ok}
 use Rattle.std.specs.FinSet as set
-use Rattle.std.proofs.lemmas.Bool.{false≢true}
+use Rattle.std.proofs.lemmas.Bool.{false≢true, lt-ltb}
 use Rattle.rv_board.specs.Support.State.{halted_of}
 use Rattle.rv_monitor.specs.Laws.{IsReached}
 use Rattle.rv_monitor.specs.State.{Addresses, SessionState, TimedState, after}
@@ -11,10 +11,10 @@ use Rattle.rv_monitor.specs.Stops.{TakesStep}
 use Rattle.rv_monitor.proofs.Reached.{begun_stands, in_time}
 use Rattle.rv_monitor.proofs.Steps.{after_more}
 use Rattle.rv_recording.specs.Recording.{RecordingState, first_board, gone_back, with_timed}
+use Rattle.rv_recording.specs.Refused.{NoneEnds}
 use Rattle.rv_recording.specs.Until.{HasRun, steps_of}
 use Rattle.rv_recording.specs.declared.until.End.{End}
 use Rattle.rv_recording.proofs.Counting.{steps_within, takes_more}
-use Rattle.rv_recording.proofs.Running.{above_none}
 use Rattle.rv_moves.proofs.Ends.{first_none, goes, going, left_of, none_before}
 use Rattle.rv_moves.specs.Back.{first_state, last_stop, left_by, taken}
 use Rattle.rv_moves.specs.Runs.{run_ends}
@@ -30,66 +30,28 @@ pub taken_at : (r : RecordingState) (n : ℕ) → taken (gone_back r n) ≡ n
 unfolding after
 taken_at r n = omega arith
 
--- one that has the same inputs
+-- one that goes back from where another does
 pub record Same (old now : RecordingState) : Type 0 where
-  pub state : now ≡ with_timed old now.session.timed
-  pub inputs : now.session.timed.inputs ≡ old.session.timed.inputs
+  pub back : (n : ℕ) → gone_back now n ≡ gone_back old n
 
-pub same_self : (r : RecordingState) → Same r r
-same_self r = record { state = refl; inputs = refl }
-
-same_back : {r now : RecordingState} (n : ℕ) → now ≡ gone_back r n → Same r now
+same_back : {r now : RecordingState} (k : ℕ) → now ≡ gone_back r k → Same r now
 unfolding after
-same_back {r} n e = subst (λ (q : RecordingState). Same r q) (sym e) (record { state = refl; inputs = refl })
+same_back k is = record { back = λ n. rw is refl }
 
 module _ {old now : RecordingState} (s : Same old now) where
-  back_same : (n : ℕ) → gone_back now n ≡ gone_back old n
-  back_same n = search (rules, arith)
-
   first_same : first_state now ≡ first_state old
-  first_same = search (rules, arith)
+  unfolding after
+  first_same = ap first_state (s.back 0)
 
   breaks_same : now.session.breakpoints.addresses ≡ old.session.breakpoints.addresses
-  breaks_same = ap (λ (r : RecordingState). r.session.breakpoints.addresses) s.state
+  breaks_same = ap (λ (r : RecordingState). r.session.breakpoints.addresses) (s.back 0)
 
   pub limit_same : now.session.limit ≡ old.session.limit
-  limit_same = ap (λ (r : RecordingState). r.session.limit) s.state
+  limit_same = ap (λ (r : RecordingState). r.session.limit) (s.back 0)
 
   pub running_same : (to : ℕ) → ((i : ℕ) → i < to → halted_of (after (first_state old) i).board ≡ None)
       → (i : ℕ) → i < to → halted_of (after (first_state now) i).board ≡ None
-  running_same to runs i l = ap (λ (t : TimedState). halted_of (after t i).board) first_same ∙ runs i l
-
--- ---- steps without a stop
-
-module _ (ws : List Watch) (br : Addresses) (s : TimedState) where
-  abbrev meets : ℕ → Bool
-  meets n = is_some (met ws (after s n).board)
-
-  abbrev breaks : ℕ → Bool
-  breaks n = set.contains br (after s n).board.machine.pc
-
-  abbrev by_step : (m b : Bool) (n : ℕ) (o : Option Back) → Option Back
-  by_step m b n o = if m then Some (record { steps = suc n; watch = met ws (after s n).board })
-      else (if b then Some (record { steps = n; watch = None }) else o)
-
-  last_suc : (n : ℕ) → last_stop ws br s (suc n) ≡ by_step (meets n) (breaks n) n (last_stop ws br s n)
-  unfolding last_stop
-  last_suc n = refl
-
-  met_step : (n : ℕ) (w : Watch) → met ws (after s n).board ≡ Some w
-      → last_stop ws br s (suc n) ≡ Some (record { steps = suc n; watch = Some w })
-  met_step n w e = last_suc n ∙ rw e refl
-
-  -- the first of some steps stands at a breakpoint or not, and the others don't
-  quiet : (n k : ℕ) → meets n ≡ false → ((i : ℕ) → i < k → (meets (n + suc i) ≡ false) × (breaks (n + suc i) ≡ false))
-      → last_stop ws br s (n + suc k) ≡ by_step false (breaks n) n (last_stop ws br s n)
-  quiet n zero unmet none =
-      let one : n + suc zero ≡ suc n = omega arith in cc (ap (last_stop ws br s) one, last_suc n, unmet)
-  quiet n (suc k) unmet none =
-      let one : n + suc (suc k) ≡ suc (n + suc k) = omega arith in
-      let last = none k (omega arith) in
-      ap (last_stop ws br s) one ∙ (last_suc (n + suc k)
-      ∙ rw (last.0, last.1) (quiet n k unmet (λ i l. none i (omega (arith, l)))))
+  running_same to runs i l = rw first_same (runs i l)
 
 -- ---- a look
 
@@ -134,13 +96,13 @@ module _ (ws : List Watch) (to : ℕ) {old : RecordingState} (reached : IsReache
   pub met_one : {new : RecordingState} {w : Watch} (o : Option Outcome) → TakesStep old.session new.session (Ok o)
       → new ≡ record old { session = new.session } → Some w ≡ met ws old.session.timed.board → (m : ℕ) → m ≡ taken old
       → Looked ws to old new (Some (record { steps = m + 1; watch = Some w })) × (taken old < taken new)
+  unfolding last_stop
   met_one {new} {w} o t others is m same =
-      let e = stepped_one new o t others in (
-        looked new 1 (Some (record { steps = m + 1; watch = Some w })) (moved new 1 e) (omega (arith, below))
-            (ap (last_stop ws br first) (add-one n)
-            ∙ (met_step ws br first n w (ap (λ (t : TimedState). met ws t.board) (sym here) ∙ sym is)
-            ∙ ap (λ (k : ℕ). Some (record { steps = k; watch = Some w })) (omega (arith, same)))) (omega (arith, same)),
-        omega (arith, taken_then new 1 (moved new 1 e)),
+      let state = moved new 1 (stepped_one new o t others) in
+      let found : last_stop ws br first (n + 1) ≡ Some (record { steps = m + 1; watch = Some w }) =
+      rw (same, add-one, ← here, ← is) refl in (
+        looked new 1 _ state (omega (arith, below)) found (omega (arith, same)),
+        omega (arith, taken_then new 1 state),
       )
 
   -- a run up to the next stop
@@ -153,54 +115,47 @@ module _ (ws : List Watch) (to : ℕ) {old : RecordingState} (reached : IsReache
     abbrev count : ℕ
     count = steps_of ends most
 
-    unmet_here : meets ws br first n ≡ false
-    unmet_here = ap is_some (ap (λ (t : TimedState). met ws t.board) (sym here) ∙ unmet)
-
     none_first : ends 0 ≡ None
     none_first = search (rules, arith, later, here, goes)
 
     some_steps : 0 < count
     some_steps = takes_more ends 0 most (omega (arith, is, below)) (first_none ends none_first)
 
-    few_steps : n + count ≤ to
-    few_steps = omega (arith, steps_within ends most, is, below)
+    none_at : (i : ℕ) → ends i ≡ None → (is_some (met ws (after first (n + i)).board) ≡ false)
+        × (0 < i → set.contains br (after first (n + i)).board.machine.pc ≡ false)
+    none_at i e = let g = going _ _ _ _ e in
+        rw (← later i) (left_of _ _ g.unmet, λ some. rw (lt-ltb 0 i some) at g.unbroken)
 
-    later_unbroken : (z b : Bool) → z ≡ true → (z && b) ≡ false → b ≡ false
-    later_unbroken z b e f = search (rules, arith)
+    -- the first place may be at a breakpoint, and no other is a stop
+    quiet : (b : Bool) → b ≡ set.contains br old.session.timed.board.machine.pc → (k : ℕ) → NoneEnds ends (suc k)
+        → last_stop ws br first (n + suc k)
+        ≡ (if b then Some (record { steps = n; watch = None }) else last_stop ws br first n)
+    unfolding last_stop
+    quiet b e zero none = rw (add-one, ← here, unmet, e) refl
+    quiet b e (suc k) none =
+        let one : n + suc (suc k) ≡ suc (n + suc k) = omega arith in
+        let last = none_at (suc k) (none (suc k) (omega arith)) in
+        rw (one, last.0, last.1 (omega arith)) (quiet b e k (λ i l. none i (omega (arith, l))))
 
-    none_at : (i : ℕ) → suc i < count → (meets ws br first (n + suc i) ≡ false) × (breaks ws br first (n + suc i) ≡ false)
-    none_at i l =
-        let goes_on = going _ _ _ _ (none_before ends most (suc i) l) in (
-          ap (λ (t : TimedState). is_some (met ws t.board)) (sym (later (suc i))) ∙ left_of _ _ goes_on.unmet,
-          ap (λ (t : TimedState). set.contains br t.board.machine.pc) (sym (later (suc i)))
-              ∙ later_unbroken _ _ (above_none i) goes_on.unbroken,
-        )
-
-    quiet_run : last_stop ws br first (n + count) ≡ by_step ws br first false (breaks ws br first n) n (last_stop ws br first n)
-    quiet_run =
-        let one : count ≡ suc (count - 1) = omega (arith, some_steps) in
-        ap (λ (k : ℕ). last_stop ws br first (n + k)) one
-        ∙ quiet ws br first n (count - 1) unmet_here (λ i l. none_at i (omega (arith, l)))
+    last_is : (b : Bool) → b ≡ set.contains br old.session.timed.board.machine.pc → last_stop ws br first (n + count)
+        ≡ (if b then Some (record { steps = n; watch = None }) else last_stop ws br first n)
+    last_is b e = let one : count ≡ suc (count - 1) = omega (arith, some_steps) in
+        rw one (quiet b e (count - 1) (rw one at (none_before ends most)))
 
     after_run : new ≡ gone_back old (n + count)
     after_run = moved new count (others ∙ ap (λ (s : SessionState). record old { session = s }) ran.state)
 
-    by_break : (b : Bool) → b ≡ set.contains br old.session.timed.board.machine.pc
-        → last_stop ws br first (n + count) ≡ by_step ws br first false b n (last_stop ws br first n)
-    by_break b e = search (rules, arith, quiet_run, here)
+    few_steps : n + count ≤ to
+    few_steps = omega (arith, steps_within ends most, is, below)
 
     further : taken old < taken new
     further = omega (arith, taken_then new count after_run, some_steps)
 
     pub ran_on : (b : Bool) → b ≡ set.contains br old.session.timed.board.machine.pc → (m : ℕ) → m ≡ taken old
         → Looked ws to old new (if b then Some (record { steps = m; watch = None }) else None) × (taken old < taken new)
-    ran_on true e m same = (
-      looked new count (Some (record { steps = m; watch = None })) after_run few_steps
-          (by_break true e ∙ ap (λ (k : ℕ). Some (record { steps = k; watch = None })) (sym same))
-          (omega (arith, same)),
-      further,
-    )
-    ran_on false e m same = (looked new count None after_run few_steps (by_break false e) tt, further)
+    ran_on true e m same =
+        (looked new count _ after_run few_steps (rw same (last_is true e)) (omega (arith, same)), further)
+    ran_on false e m same = (looked new count None after_run few_steps (last_is false e) tt, further)
 
 -- ---- looks, one after another
 
@@ -210,15 +165,15 @@ module _ {ws : List Watch} {to : ℕ} {old mid : RecordingState} {found : Option
   same_mid = same_back (taken mid) l.state
 
   pub stands_mid : mid ≡ gone_back mid (taken mid)
-  stands_mid = l.state ∙ sym (back_same same_mid (taken mid))
+  stands_mid = l.state ∙ sym (same_mid.back (taken mid))
 
   module _ {new : RecordingState} {o : Option Back} (h : Looked ws to mid new o) where
     state_on : new ≡ gone_back old (taken new)
-    state_on = h.state ∙ back_same same_mid (taken new)
+    state_on = h.state ∙ same_mid.back (taken new)
 
     last_on : last_stop ws old.session.breakpoints.addresses (first_state old) (taken new)
         ≡ or_else o (last_stop ws old.session.breakpoints.addresses (first_state old) (taken mid))
-    last_on = search (rules, arith, breaks_same, same_mid, first_same)
+    last_on = rw (breaks_same same_mid, first_same same_mid) at h.last
 
   pub looks_some : {new : RecordingState} {b : Back} → Looked ws to mid new (Some b) → Looked ws to old new (Some b)
   looks_some h = search (rules, arith, state_on, last_on)
@@ -251,7 +206,7 @@ module _ {ws : List Watch} {old now : RecordingState} {high : ℕ} (b : Backed w
     least = omega (arith, less, b.within)
 
     at_low : low_at ≡ gone_back old low
-    at_low = went ∙ (ap (gone_back now) least ∙ back_same b.same low)
+    at_low = went ∙ (ap (gone_back now) least ∙ b.same.back low)
 
     taken_low : taken low_at ≡ low
     taken_low = ap taken at_low ∙ taken_at old low
@@ -260,7 +215,7 @@ module _ {ws : List Watch} {old now : RecordingState} {high : ℕ} (b : Backed w
     same_low = same_back low at_low
 
     pub stands_low : low_at ≡ gone_back low_at (taken low_at)
-    stands_low = search (rules, arith, at_low, taken_low, back_same, same_low)
+    stands_low = at_low ∙ (sym (same_low.back low) ∙ ap (gone_back low_at) (sym taken_low))
 
     pub below_high : taken low_at ≤ high
     below_high = omega (arith, taken_low, less)
@@ -268,11 +223,11 @@ module _ {ws : List Watch} {old now : RecordingState} {high : ℕ} (b : Backed w
     module _ {new : RecordingState} {found : Option Back} (l : Looked ws high low_at new found)
         (all : taken new ≡ high) where
       same_new : Same old new
-      same_new = same_back (taken new) (l.state ∙ back_same same_low (taken new))
+      same_new = same_back (taken new) (l.state ∙ same_low.back (taken new))
 
       last_high : last_stop ws old.session.breakpoints.addresses (first_state old) high
           ≡ or_else found (last_stop ws old.session.breakpoints.addresses (first_state old) low)
-      last_high = search (rules, arith, breaks_same, same_low, first_same, taken_low)
+      last_high = rw (all, breaks_same same_low, first_same same_low, taken_low) at l.last
 
       pub backs_on : found ≡ None → Backed ws old new low
       backs_on none = search (rules, arith, same_new, last_high)
@@ -283,11 +238,11 @@ module _ {ws : List Watch} {old now : RecordingState} {high : ℕ} (b : Backed w
 
       pub goes_to : {last : RecordingState} (stop : Back) → found ≡ Some stop
           → last ≡ gone_back new (min stop.steps (taken new)) → last ≡ gone_back old (left_by (Some stop))
-      goes_to stop e back = search (rules, arith, back_same, same_new)
+      goes_to stop e back = search (rules, arith, same_new.back)
 
   pub backs_none : high ≡ 0 → None ≡ last_stop ws old.session.breakpoints.addresses (first_state old) (taken old)
   unfolding last_stop
   backs_none e = search (rules, arith)
 
   pub goes_first : {new : RecordingState} → new ≡ gone_back now (min 0 (taken now)) → new ≡ gone_back old 0
-  goes_first e = search (rules, arith, least, back_same)
+  goes_first e = search (rules, arith, least, b.same.back)
