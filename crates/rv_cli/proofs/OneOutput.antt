@@ -1,5 +1,5 @@
 -- Texts and options have one output.
-use Rattle.std.proofs.Common.{rules, arith, ◌≡◌, ◌∙◌, List, ℕ, ◌++◌, Some, Result, Ok, Err, refl, ap}
+use Rattle.std.proofs.Common.{rules, arith, ◌≡◌, List, ℕ, ◌++◌, Some, Result, Ok, Err, refl}
 use Rattle.std.specs.Prelude.{◌≢◌}
 use Rattle.rv_asm.specs.Assembly.{assembled}
 use Rattle.rv_board.specs.Boot as boot
@@ -26,9 +26,6 @@ Output = Result (List ℕ × Ending) CliFault
 abbrev end_of : SessionState → List ℕ → Output
 end_of last answers = Ok (answers ++ printed last.timed.board, ending_of (halted_of last.timed.board))
 
-same_end : (a b : SessionState) (t u : List ℕ) → (a ≡ b) × (t ≡ u) → end_of a t ≡ end_of b u
-same_end a b t u same = search (rules, arith)
-
 never_memory : (size pages slots : ℕ) → boot.boot_fault size pages slots ≡ Some boot_fault.OutOfMemory → ⊥
 unfolding boot.boot_fault
 never_memory size pages slots e = search (rules, arith)
@@ -48,10 +45,8 @@ module _ (texts : Texts) (options : Options) where
   comes : (output : Output) → IsOutput texts options output → Comes output
   comes (Ok done) is =
       let some = some_done texts.commands is.0 in
-      opened (Ok is.0) is.3 (λ e. cc) (Ok done)
-      (ap (λ text. Ok (text, done.1)) is.5
-      ∙ (ap (λ ending. Ok (is.2 ++ printed is.1.timed.board, ending)) is.6
-      ∙ same_end is.1 some.0 is.2 some.1.0 (one_done texts.commands is.0 is.1 some.0 is.2 some.1.0 is.4 some.1.1)))
+      let same = one_done texts.commands is.0 is.1 some.0 is.2 some.1.0 is.4 some.1.1 in
+      opened (Ok is.0) is.3 (λ e. cc) (Ok done) (search (rules, arith, same))
   comes (Err (Source fault)) is = refused fault is
   comes (Err (Input n)) is = opened (Err (opening.Input n)) is (λ e. cc) (Err (Input n)) refl
   comes (Err BadPages) is = opened (Err (opening.Board boot_fault.BadPages)) is (λ e. cc) (Err BadPages) refl
