@@ -224,7 +224,8 @@ module _ (board : BoardState) (s : TimedState) (r : IsReached board s) where
 -- ---- what calls leave
 
 module _ (a : Addresses) (board : BoardState) (s : TimedState) (r : IsReached board s) where
-  pub stopped_stands : (n : ℕ) → ((i : ℕ) → i < n → stop_after a (after s i).board i ≡ None) → IsReached board (after s n)
+  pub stopped_stands : (n : ℕ) → ((i : ℕ) → i < n → stop_after a (after s i).board i ≡ None)
+      → IsReached board (after s n)
   stopped_stands zero going = subst (IsReached board) (sym (after_none s (in_time board s r))) r
   stopped_stands (suc n) going = subst (IsReached board) (after_more s n 1 r.rising ∙ ap (after s) (add-one n))
       (step_stands board (after s n) (stopped_stands n (λ i l. going i (omega arith)))

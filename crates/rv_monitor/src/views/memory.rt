@@ -34,7 +34,7 @@ fn append_byte(byte: Option<u8>, text: &mut Vec<u8>)
 }
 
 /// Appends `count` bytes from `addr`.
-#[tactic(auto, using(crate::proofs::Pieces::no_piece_after, crate::proofs::Pieces::one_more_after, crate::proofs::Pieces::piece_appended), unfolding(crate::specs::Support::Labels::byte_in_line))]
+#[tactic(auto, using(crate::proofs::Pieces::no_piece_after, crate::proofs::Pieces::piece_appended), unfolding(crate::specs::Support::Labels::byte_in_line))]
 fn append_bytes<M: ByteMemory, C: Decoded>(
     board: &Board<M, C>,
     addr: u32,
@@ -74,7 +74,7 @@ fn append_line<M: ByteMemory, C: Decoded>(
 
 /// Appends a dump of `count` bytes from `addr`, 16 in a line, with `--` where there is no memory. Addresses
 /// wrap around at 2^32.
-#[tactic(auto, using(crate::proofs::Pieces::no_piece_after, crate::proofs::Pieces::one_more_after, crate::proofs::Pieces::piece_appended), unfolding(crate::specs::Views::memory_text))]
+#[tactic(auto, using(crate::proofs::Pieces::no_piece_after, crate::proofs::Pieces::piece_appended), unfolding(crate::specs::Views::memory_text))]
 pub fn write_memory<M: ByteMemory, C: Decoded>(
     board: &Board<M, C>,
     addr: u32,

@@ -76,7 +76,7 @@ fn append_register(register: Reg, value: u32, text: &mut Vec<u8>)
 }
 
 /// Appends the lines of all registers, four in a line.
-#[tactic(auto, using(crate::proofs::Pieces::no_piece_after, crate::proofs::Pieces::one_more_after, crate::proofs::Pieces::piece_appended), unfolding(crate::specs::Views::register_in_line, crate::specs::Support::Numbers::two_decimals))]
+#[tactic(auto, using(crate::proofs::Pieces::no_piece_after, crate::proofs::Pieces::piece_appended), unfolding(crate::specs::Views::register_in_line, crate::specs::Support::Numbers::two_decimals))]
 fn append_registers<M: ByteMemory, C: Decoded>(board: &Board<M, C>, text: &mut Vec<u8>)
     requires { vec_len text.old + 416 ≤ vec_capacity text.old }
     ensures { GrewBy text.old text.new (pieces (register_in_line board.now) 32) 416 }
