@@ -1,9 +1,8 @@
 -- The search for the last step of a kind.
 use Rattle.std.proofs.lemmas.Bool.Decides.{nat_tests}
-use Rattle.std.proofs.Common.{rules, ◌≡◌, ◌∙◌, ℕ, zero, suc, ◌+◌, ◌<◌, ◌≤◌, Bool, true, false, add-one, refl, sym, ap, subst, arith}
+use Rattle.std.proofs.Common.{rules, ◌≡◌, ℕ, zero, suc, ◌+◌, ◌<◌, ◌≤◌, Bool, add-one, refl, sym, ap, arith}
 use native.Mathlib.Numerals.{unary_clauses}
-use Rattle.std.specs.Prelude.{if◌then◌else◌, IfOk, IfSome, Option, Some, None, Result}
-use Rattle.rv_base.specs.declared.memory.NoMemory.{NoMemory}
+use Rattle.std.specs.Prelude.{if◌then◌else◌, IfSome, Option, Some, None}
 use Rattle.rv_board.specs.Support.State.{halted_of}
 use Rattle.rv_monitor.specs.Laws.{IsReached}
 use Rattle.rv_monitor.specs.State.{IsInTime, SessionState, TimedState, after}
@@ -22,36 +21,27 @@ pub record Following (x : Sought) (first now : SessionState) (found : Option ℕ
   pub last : found ≡ last_sought x first.timed n
   pub within : IfSome found (λ k. k < n)
 
-pub follows_none : (x : Sought) (first : SessionState) → IsInTime first.timed → Following x first first None 0
+pub follows_none : {x : Sought} {first : SessionState} → IsInTime first.timed → Following x first first None 0
 unfolding last_sought
-follows_none x first h = record { state = stands_first first h; last = refl; within = tt }
+follows_none {x} {first} h = record { state = stands_first first h; last = refl; within = tt }
 
 last_suc : (x : Sought) (s : TimedState) (n : ℕ) → last_sought x s (n + 1)
     ≡ (if is_sought x (after s n) then Some n else last_sought x s n)
 unfolding last_sought
 last_suc x s n = ap (last_sought x s) (add-one n)
 
-more_within : (found : Option ℕ) (n : ℕ) → IfSome found (λ k. k < n) → IfSome found (λ k. k < n + 1)
-more_within found n h = search (rules, arith, nat_tests)
+more_within : (b : Bool) (found : Option ℕ) (n : ℕ) → IfSome found (λ k. k < n)
+    → IfSome (if b then Some n else found) (λ k. k < n + 1)
+more_within b found n h = search (rules, arith, nat_tests)
 
-module _ (x : Sought) (first now next : SessionState) (found : Option ℕ) (n : ℕ) (h : IsInTime first.timed)
-    (at : Following x first now found n) (moves : next ≡ next_of now) where
-  writes_is : (b : Bool) → b ≡ is_sought x now.timed → is_sought x (after first.timed n) ≡ b
-  writes_is b e = ap (is_sought x) (sym (timed_is first now n h at.state)) ∙ sym e
-
-  chosen : (b : Bool) → b ≡ is_sought x now.timed
-      → last_sought x first.timed (n + 1) ≡ (if b then Some n else last_sought x first.timed n)
-  chosen b e = search (rules, arith, nat_tests, last_suc, writes_is)
-
-  pub was : true ≡ is_sought x now.timed → Following x first next (Some n) (n + 1)
-  was e = record { state = next_is first now n h at.state next moves; last = sym (chosen true e); within = omega arith }
-
-  pub kept : false ≡ is_sought x now.timed → Following x first next found (n + 1)
-  kept e = record {
-    state = next_is first now n h at.state next moves;
-    last = at.last ∙ sym (chosen false e);
-    within = more_within found n at.within;
-  }
+pub followed : {x : Sought} {first now next : SessionState} {found : Option ℕ} {n : ℕ} {b : Bool} → IsInTime first.timed
+    → Following x first now found n → next ≡ next_of now → b ≡ is_sought x now.timed
+    → Following x first next (if b then Some n else found) (n + 1)
+followed {x} {first} {found = found} {n = n} {b = b} h at moves e = record {
+  state = next_is n h at.state moves;
+  last = rw (e, timed_is n h at.state, at.last) (sym (last_suc x first.timed n));
+  within = more_within b found n at.within;
+}
 
 -- ---- of more steps
 
@@ -75,32 +65,20 @@ last_later x s k (suc m) h =
 
 -- ---- a session that stands in a recording
 
-module _ (r : RecordingState) (reached : IsReached (first_board r) r.session.timed) (t : TimedState) (k : ℕ)
+module _ (r : RecordingState) (reached : IsReached (first_board r) r.session.timed) {t : TimedState} (k : ℕ)
     (e : t ≡ (gone_back r k).session.timed) where
-  pub near_running : (most i : ℕ) → k + most ≤ r.session.timed.taken → i < most → halted_of (after t i).board ≡ None
-  near_running most i h l = search (rules, arith, nat_tests, after_more)
+  pub near_running : {most : ℕ} → k + most ≤ r.session.timed.taken → (i : ℕ) → i < most
+      → halted_of (after t i).board ≡ None
+  near_running h i l = search (rules, arith, nat_tests, after_more)
 
   pub near_taken : t.taken ≡ k
   unfolding after
   near_taken = search (rules, arith, nat_tests)
 
-  pub last_near : (x : Sought) (m n : ℕ) → k + m ≡ n
-      → last_sought x (first_state r) n ≡ later k (last_sought x t m) (last_sought x (first_state r) k)
-  last_near x m n sum = search (rules, arith, nat_tests, last_later, first_in_time)
+  pub last_near : (x : Sought) (m n : ℕ) {found : Option ℕ} → k + m ≡ n → found ≡ last_sought x t m
+      → last_sought x (first_state r) n ≡ later k found (last_sought x (first_state r) k)
+  last_near x m n sum late = search (rules, arith, nat_tests, last_later, first_in_time)
 
-  module _ (x : Sought) (m n : ℕ) (sum : k + m ≡ n) (found : Option ℕ) (late : found ≡ last_sought x t m) where
-    by_late : (o : Option ℕ) → found ≡ o → last_sought x (first_state r) n ≡ later k o (last_sought x (first_state r) k)
-    by_late o e = search (rules, arith, nat_tests, last_near)
-
-    pub found_late : (done : ℕ) → found ≡ Some done → Some (k + done) ≡ last_sought x (first_state r) n
-    found_late done e = sym (by_late (Some done) e)
-
-    pub none_late : found ≡ None → last_sought x (first_state r) k ≡ last_sought x (first_state r) n
-    none_late e = sym (by_late None e)
-
-pub last_none : (x : Sought) (s : TimedState) (n : ℕ) → n ≡ 0 → None ≡ last_sought x s n
+pub last_none : (x : Sought) (s : TimedState) (n : ℕ) → n ≡ 0 → last_sought x s n ≡ None
 unfolding last_sought
-last_none x s n e = sym (ap (last_sought x s) e)
-
-pub if_same : (r : Result (Option ℕ) NoMemory) (a b : Option ℕ) → a ≡ b → IfOk r (λ n. n ≡ a) → IfOk r (λ n. n ≡ b)
-if_same r a b e h = subst (λ (o : Option ℕ). IfOk r (λ n. n ≡ o)) e h
+last_none x s n e = ap (last_sought x s) e

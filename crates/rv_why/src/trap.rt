@@ -1,10 +1,10 @@
 //! A trap that is told, with why it came.
-ghost use Rattle.std.specs.Prelude.{◌≡◌, ◌==◌, ◌+◌, ◌-◌, ◌<◌, ◌≤◌, if◌then◌else◌, None, Some, IfOk};
-ghost use Rattle.rv_hart.specs.declared.trap.Outcome.TheVariants.{Trapped};
+ghost use Rattle.std.specs.Prelude.{◌≡◌, ◌==◌, ◌-◌, ◌<◌, ◌≤◌, if◌then◌else◌, min, None, Some, IfOk};
 ghost use Rattle.rv_why.specs.Repeats.{last_repeated};
 ghost use Rattle.rv_why.specs.Why as spec;
 ghost use Rattle.rv_why.specs.Taken.{board_at, first_state};
-ghost use Rattle.rv_why.specs.Why.{explanation, handler_of};
+ghost use Rattle.rv_why.specs.Why.{explanation};
+ghost use Rattle.rv_why.specs.Support.Found.{found_at, found_in};
 
 use crate::reason::{before_of, why_trapped};
 use crate::repeats::last_repeated;
@@ -14,6 +14,7 @@ use rv_answers::{Before, Explained, Explanation, Repeated, Write};
 use rv_base::NoMemory;
 use rv_board::BootedBoard;
 use rv_cache::DecodeCache;
+use rv_hart::Outcome;
 use rv_monitor::{Session, word_at};
 use rv_ram::PagedRam;
 use rv_recording::{Recording, Watched};
@@ -74,27 +75,22 @@ fn writer(
 
 /// Explains a trap of a recording.
 #[tactic(auto, unfolding(crate::specs::Why::explained))]
-fn explained(recording: &Recording, found: Found) -> Result<Explained, NoMemory>
-    requires within { found.step < recording.now.session.timed.taken }
-    requires small { found.step < 20000000 }
-    requires handler { found.handler ≡ handler_of (board_at (first_state recording.now) (found.step + 1)) }
-    ensures { IfOk result (λ e. spec.explained (first_state recording.now) found.step
-        (Trapped found.cause found.epc found.tval) ≡ Some e) }
+fn explained(recording: &Recording, found: Found) -> Result<Option<Explained>, NoMemory>
+    requires within { found.step < min recording.now.session.timed.taken 20000000 }
+    requires is { found ≡ found_at (first_state recording.now) found.step }
+    ensures { IfOk result (λ e. e ≡ spec.explained (first_state recording.now) found.step found.did) }
 {
-    let Found {
-        step,
-        cause,
-        epc,
-        tval,
-        handler,
-    } = found;
+    let Found { step, did, handler } = found;
+    let Outcome::Trapped { cause, epc, tval } = did else {
+        return Ok(None);
+    };
     let before = before_step(recording, step)?;
     let first = at_step(recording, 0)?;
     let run = at_step(recording, step)?;
     let board = run.board();
     let overwritten = overwritten(first.board(), board, epc);
     let writer = writer(recording, epc, step, overwritten)?;
-    Ok(Explained {
+    Ok(Some(Explained {
         step: step + 1,
         cause,
         value: tval,
@@ -106,7 +102,18 @@ fn explained(recording: &Recording, found: Found) -> Result<Explained, NoMemory>
         reason: why_trapped(board, cause, epc, tval),
         before,
         handler,
-    })
+    }))
+}
+
+/// Explains the trap that is told of a recording, if one was found.
+fn explained_if(recording: &Recording, found: Option<Found>) -> Result<Option<Explained>, NoMemory>
+    requires { found ≡ found_in (first_state recording.now) (min recording.now.session.timed.taken 20000000) }
+    ensures { IfOk result (λ e. e ≡ (explanation recording.now).trap) }
+{
+    match found {
+        Some(found) => explained(recording, found),
+        None => Ok(None),
+    }
 }
 
 /// Returns the last trap of a recording, if there was one.
@@ -125,14 +132,13 @@ fn last_of(recording: &Recording) -> Option<Repeated>
 pub fn explain(recording: &Recording) -> Result<Explanation, NoMemory>
     ensures { IfOk result (λ e. e ≡ explanation recording.now) }
 {
-    let taken = recording.session().taken();
-    let mut run = recording.replay(0)?;
-    let trap = match find_trap(&mut run, taken.min(MOST))? {
-        Some(found) => Some(explained(recording, found)?),
-        None => None,
-    };
+    // It tells that the board is the run of the recorded events.
+    let _session = recording.session();
+    let taken = recording.steps();
+    let mut run = recording.begun_again(taken)?;
+    let found = find_trap(&mut run, taken.min(MOST))?;
     Ok(Explanation {
-        trap,
+        trap: explained_if(recording, found)?,
         unseen: taken.saturating_sub(MOST),
         repeated: last_of(recording),
     })

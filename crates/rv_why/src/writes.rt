@@ -186,6 +186,7 @@ fn find_last(
 
 /// Returns how many of the first `steps` steps of a recording come before the last of them that is sought. It looks
 /// first at those that follow the newest kept state.
+#[tactic(auto, using(crate::proofs::LastSought::last_none))]
 fn last_within(recording: &Recording, sought: Sought, steps: u64) -> Result<Option<u64>, NoMemory>
     requires { steps ≤ recording.now.session.timed.taken }
     ensures last { IfOk result (λ n. n ≡ last_sought sought (first_state recording.now) steps) }
