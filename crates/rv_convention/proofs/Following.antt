@@ -1,6 +1,6 @@
 -- The steps of a run, followed one after another.
-use Rattle.std.proofs.Common.{rules, ◌≡◌, ◌∙◌, ℕ, suc, ◌+◌, ◌-◌, ◌<◌, ◌≤◌, Bool, true, false, List, [], ◌∷◌, refl, sym, ap, subst, arith}
-use Rattle.std.specs.Prelude.{◌&&◌, fold, is_none, is_some, nat_lt, Option}
+use Rattle.std.proofs.Common.{rules, ◌≡◌, ◌∙◌, ℕ, suc, ◌+◌, ◌-◌, ◌<◌, ◌≤◌, Bool, true, false, List, ◌∷◌, refl, sym, ap, subst, arith}
+use Rattle.std.specs.Prelude.{◌&&◌, fold, is_none, is_some, Option}
 use Rattle.std.proofs.lemmas.Bool.Decides.{nat_tests}
 use Rattle.rv_board.specs.BoardState.{BoardState}
 use Rattle.rv_monitor.specs.State.{SessionState, TimedState, after}
@@ -42,10 +42,6 @@ more_moments : (k : ℕ) (s : TimedState) → is_some s.board.machine.bus.halt �
 unfolding moments
 more_moments k s e = rw e refl
 
-no_moments : (k : ℕ) (s : TimedState) → is_some s.board.machine.bus.halt ≡ true → moments (suc k) s ≡ []
-unfolding moments
-no_moments k s e = rw e refl
-
 module _ {P : Type 0} (follows : P → ℕ → Turn → BoardState → P) (steps : P → ℕ) (none : P) (first : SessionState)
     (most : ℕ) (now : SessionState) (seen : P) (n : ℕ) (f : Following follows steps none first most now seen n) where
   pub more : (next : SessionState) (later : P) (b : Bool) → b ≡ true → n < most
@@ -67,13 +63,8 @@ module _ {P : Type 0} (follows : P → ℕ → Turn → BoardState → P) (steps
 
   pub ends : (next : SessionState) (later : P) (b : Bool) → b ≡ false → n < most
       → Follows follows steps now next seen later b → later ≡ known follows none (moments most first.timed)
-  ends next later b is less taken =
-      let over = subst (λ (x : Bool). Follows follows steps now next seen later x) is taken in
-      let below : nat_lt now.timed.taken now.limit ≡ true = grind (arith, nat_tests, f.taken, f.limit, less) in
-      let halted = halts_by now.timed.board.machine.bus.halt _ below over.0 in
-      let rest : most - n ≡ suc (most - (n + 1)) = omega (arith, less) in
-      over.1 ∙ sym (f.all ∙ (ap (λ k. known follows seen (moments k now.timed)) rest
-      ∙ ap (λ ms. known follows seen ms) (no_moments (most - (n + 1)) now.timed halted)))
+  unfolding moments
+  ends next later b is less taken = search (rules, arith, nat_tests, halts_by)
 
   pub all_followed : most ≤ n → seen ≡ known follows none (moments most first.timed)
   unfolding moments

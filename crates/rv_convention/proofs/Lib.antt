@@ -1,5 +1,2 @@
-pub mod Filled
-pub mod Missing
-pub mod Opened
 pub mod Following
 pub mod Tallies

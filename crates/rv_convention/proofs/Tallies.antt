@@ -1,12 +1,11 @@
 -- What is counted of a run, by its lines.
-use Rattle.std.proofs.Common.{◌≡◌, ◌∙◌, ℕ, zero, suc, ◌+◌, ◌-◌, ◌<◌, ◌≤◌, Bool, true, false, add-one, cond, List, [], ◌∷◌, ◌++◌, drop, fold, get_or, length, map, replicate, set, take, refl, sym, ap, subst, nat_lt, arith}
+use Rattle.std.proofs.Common.{◌≡◌, ◌∙◌, ℕ, zero, suc, ◌+◌, ◌-◌, ◌<◌, ◌≤◌, Bool, true, false, add-one, cond, List, [], ◌∷◌, drop, fold, get_or, length, map, replicate, set, take, refl, sym, ap, subst, nat_lt, arith}
 use Rattle.std.specs.Prelude.{◌&&◌, ◌||◌, Option, Some, None, filter_map, if◌then◌else◌, is_some, not}
 use Rattle.std.specs.List.{cons_option, list_any, prefix_len, range_with_len}
 use Rattle.std.proofs.Math.Bool.{or_assoc, or-false}
 use Rattle.std.proofs.lemmas.Bool.Decides.{nat_tests}
 use Rattle.std.proofs.lemmas.List.{get_or_past}
-use Rattle.std.proofs.lemmas.List.Elements.{filter_map-append}
-use Rattle.std.proofs.lemmas.List.Sums.{fold-append, get_or-le-sum_by, sum_by-cons, sum_by-set, sum_by-take-le}
+use Rattle.std.proofs.lemmas.List.Sums.{get_or-le-sum_by, sum_by-cons, sum_by-set, sum_by-take-le}
 use Rattle.rv_asm.specs.Lines.{Listed, HasByteAt}
 use Rattle.rv_monitor.specs.State.{TimedState}
 use Rattle.rv_recording.specs.Recording.{RecordingState}
@@ -15,7 +14,6 @@ use Rattle.rv_convention.specs.Convention.{Moment, moments, turn_of}
 use Rattle.rv_convention.specs.Profile.{begins_in, enters, is_entry, is_in, part_steps, place_for, placed, profiled, row_of, steps_in, tallied, told}
 use Rattle.rv_convention.specs.Support.Follows.{by_turn}
 use Rattle.rv_convention.specs.Support.Tallies.{TallyState, before_next, changed, changed_in, each, entered, none_counted, nothing, placed_if, stepped, steps_of, tally_after}
-use Rattle.rv_answers.proofs.Regions.{last_number}
 use Rattle.rv_answers.specs.declared.profile.Profiled.{Profiled}
 use Rattle.rv_answers.specs.declared.profile.Spent.{Spent}
 use Rattle.rv_convention.specs.declared.rows.Part.{Part}
@@ -30,10 +28,10 @@ each_kept change n [] same = refl
 each_kept change n (t ∷ ts) same =
     cc (same n (omega arith) t, each_kept change (suc n) ts (λ m low. same m (omega (arith, low))))
 
-inside : (l : Listed) (a n : ℕ) → 1 ≤ n → is_in l n a ≡ true → HasByteAt l a n
+pub inside : (l : Listed) (a n : ℕ) → 1 ≤ n → is_in l n a ≡ true → HasByteAt l a n
 inside l a n h t = grind (arith, nat_tests)
 
-is_inside : (l : Listed) (a n : ℕ) → HasByteAt l a n → is_in l n a ≡ true
+pub is_inside : (l : Listed) (a n : ℕ) → HasByteAt l a n → is_in l n a ≡ true
 is_inside l a n h = grind (arith, nat_tests)
 
 is_listed : (l : Listed) (a n k : ℕ) → HasByteAt l a n → k + 1 ≡ length l.addresses → n - 1 < k
@@ -79,17 +77,11 @@ module _ (l : Listed) (a : ℕ) (change : Tallied → Tallied) where
 
 pub sum_raised : (ts : List Tallied) (i : ℕ) (v t : Tallied) → i < length ts → t ≡ get_or ts i nothing
     → v.steps ≡ t.steps + 1 → steps_of (set ts i v) ≡ steps_of ts + 1
-sum_raised ts i v t within e f =
-    let sums = sum_by-set (λ (u : Tallied). u.steps) ts i v nothing within in
-    let more : v.steps ≡ (get_or ts i nothing).steps + 1 = f ∙ ap (λ (u : Tallied). u.steps + 1) e in
-    omega (arith, sums, more)
+sum_raised ts i v t within e f = grind (arith, nat_tests, sum_by-set)
 
 pub sum_kept : (ts : List Tallied) (i : ℕ) (v t : Tallied) → i < length ts → t ≡ get_or ts i nothing
     → v.steps ≡ t.steps → steps_of (set ts i v) ≡ steps_of ts
-sum_kept ts i v t within e f =
-    let sums = sum_by-set (λ (u : Tallied). u.steps) ts i v nothing within in
-    let same : v.steps ≡ (get_or ts i nothing).steps = f ∙ ap (λ (u : Tallied). u.steps) e in
-    omega (arith, sums, same)
+sum_kept ts i v t within e f = grind (arith, nat_tests, sum_by-set)
 
 pub none_sum : (n : ℕ) → steps_of (replicate n nothing) ≡ 0
 none_sum zero = refl
@@ -97,9 +89,7 @@ none_sum (suc n) = none_sum n
 
 pub below_sum : (ts : List Tallied) (i : ℕ) (t : Tallied) → i < length ts → t ≡ get_or ts i nothing
     → t.steps ≤ steps_of ts
-below_sum ts i t within e =
-    let le = get_or-le-sum_by (λ (u : Tallied). u.steps) ts i nothing within in
-    subst (λ (u : Tallied). u.steps ≤ steps_of ts) (sym e) le
+below_sum ts i t within e = grind (arith, nat_tests, get_or-le-sum_by)
 
 -- ---- after some moments
 
@@ -227,42 +217,30 @@ placed_later row rest steps e = ap (λ b. cond (not b) (1 + place_for rest steps
 
 -- ---- what is told
 
--- of the first n lines
-abbrev pub told_below : Listed → List Tallied → Part → ℕ → List Spent
-told_below l lines part n =
-    fold placed [] (filter_map (λ k. row_of l (k + 1) (part_steps part (drop k lines))) (range_with_len 0 n))
+-- of the lines from the nth on
+abbrev pub rows_from : Listed → List Tallied → Part → ℕ → List Spent
+rows_from l lines part n =
+    filter_map (λ k. row_of l (k + 1) (part_steps part (drop k lines))) (range_with_len n (length lines - n))
 
 module _ (l : Listed) (lines : List Tallied) (part : Part) where
-  pub told_none : [] ≡ told_below l lines part 0
-  told_none = refl
-
-  more : (n : ℕ) → told_below l lines part (n + 1)
-      ≡ fold placed (told_below l lines part n) (cons_option (row_of l (n + 1) (part_steps part (drop n lines))) [])
-  more n =
-      let row : ℕ → Option Spent = λ k. row_of l (k + 1) (part_steps part (drop k lines)) in
-      ap (λ ks. fold placed [] (filter_map row ks)) (range_more n)
-      ∙ (ap (fold placed []) (filter_map-append row (range_with_len 0 n) (n ∷ []))
-      ∙ fold-append placed [] (filter_map row (range_with_len 0 n)) (filter_map row (n ∷ [])))
-    where
-      range_more : (n : ℕ) → range_with_len 0 (n + 1) ≡ range_with_len 0 n ++ n ∷ []
-      range_more n =
-          let on : n + 1 ≡ suc n = omega arith in
-          let same : 0 + n ≡ n = omega arith in
-          ap (range_with_len 0) on ∙ (last_number 0 n ∙ ap (λ k. range_with_len 0 n ++ k ∷ []) same)
-
-  with_row : (rows : List Spent) (o : Option Spent) → fold placed rows (cons_option o []) ≡ placed_if rows o
-  with_row rows None = refl
-  with_row rows (Some row) = refl
-
-  pub told_next : (n : ℕ) (rows later : List Spent) (o : Option Spent)
-      → o ≡ row_of l (n + 1) (part_steps part (drop n lines)) → rows ≡ told_below l lines part n
-      → later ≡ placed_if rows o → later ≡ told_below l lines part (n + 1)
-  told_next n rows later o e f g = cc (with_row (told_below l lines part n) o, more n)
-
-  pub told_all : (n : ℕ) (rows : List Spent) → length lines ≤ n → n ≤ length lines
-      → rows ≡ told_below l lines part n → rows ≡ told l lines part
+  pub told_first : fold placed [] (rows_from l lines part 0) ≡ told l lines part
   unfolding told
-  told_all n rows low high e = let all : n ≡ length lines = omega (arith, low, high) in cc
+  told_first = let all : length lines - 0 ≡ length lines = omega arith in rw all refl
+
+  with_row : (rows left : List Spent) (o : Option Spent)
+      → fold placed rows (cons_option o left) ≡ fold placed (placed_if rows o) left
+  with_row rows left None = refl
+  with_row rows left (Some row) = refl
+
+  pub told_next : (n : ℕ) (rows later : List Spent) (o : Option Spent) → n < length lines
+      → o ≡ row_of l (n + 1) (part_steps part (drop n lines)) → later ≡ placed_if rows o
+      → fold placed later (rows_from l lines part (n + 1)) ≡ fold placed rows (rows_from l lines part n)
+  told_next n rows later o less is e =
+      let more : length lines - n ≡ suc (length lines - (n + 1)) = omega (arith, less) in
+      rw (more, e, ← is) (sym (with_row rows (rows_from l lines part (n + 1)) o))
+
+  pub told_last : (n : ℕ) (rows : List Spent) → length lines ≤ n → fold placed rows (rows_from l lines part n) ≡ rows
+  told_last n rows past = let none : length lines - n ≡ 0 = omega (arith, past) in rw none refl
 
 -- ---- the whole
 

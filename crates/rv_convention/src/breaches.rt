@@ -5,7 +5,7 @@ ghost use Rattle.rv_convention.specs.Convention.{after_turn, breach_of, calls_af
 ghost use Rattle.rv_convention.specs.declared.turn.Turn.TheVariants as turns;
 
 use crate::calls::{
-    Open, close_last, goes_back, has_room, innermost, returns_from, unrestored, wanted,
+    Open, close_last, goes_back, innermost, make_room, returns_from, unrestored, wanted,
 };
 use crate::follow::{Follower, follow_run};
 use crate::registers::registers_of;
@@ -35,7 +35,6 @@ impl Model for Tracker {
 }
 
 /// Opens a call, which a step made that began at an address.
-#[tactic(auto, using(crate::proofs::Opened::opened, crate::proofs::Opened::opened_alone))]
 fn open(
     calls: &mut Vec<Open>,
     entry: Entry,
@@ -49,10 +48,7 @@ fn open(
         from: address,
         registers: registers_of(now),
     };
-    if has_room(calls.as_slice()) {
-        return push(calls, call);
-    }
-    calls.clear();
+    make_room(calls);
     push(calls, call)
 }
 

@@ -48,7 +48,7 @@ fn is_missing(call: &Open, now: &Registers, number: u8) -> bool
 }
 
 /// Returns the registers that had to be restored and weren't, by their values then.
-#[tactic(auto, using(crate::proofs::Missing::none_yet, crate::proofs::Missing::next_missing, crate::proofs::Missing::next_restored, crate::proofs::Missing::all_missing))]
+#[tactic(auto, using(rv_answers::proofs::Regions::none_yet, rv_answers::proofs::Regions::next_found, rv_answers::proofs::Regions::none_found))]
 pub(crate) fn unrestored(
     alloc: Global,
     call: &Open,
@@ -103,10 +103,19 @@ pub(crate) fn innermost(calls: &[Open]) -> Option<Open>
 const MOST_OPEN: usize = 65_536;
 
 /// Returns whether one more call may be opened without forgetting the others.
-pub(crate) fn has_room(calls: &[Open]) -> bool
+fn has_room(calls: &[Open]) -> bool
     ensures { result ≡ nat_lt (length calls.now) spec.most_open }
 {
     calls.len() < MOST_OPEN
+}
+
+/// Forgets all calls where no other one may be opened.
+pub(crate) fn make_room(calls: &mut Vec<Open>)
+    ensures { calls.new.items ≡ spec.kept calls.old.items }
+{
+    if !has_room(calls.as_slice()) {
+        calls.clear();
+    }
 }
 
 /// Closes the innermost open call.

@@ -111,7 +111,6 @@ fn place(rows: &mut Vec<Spent>, row: Option<Spent>) -> Result<(), NoMemory>
 }
 
 /// Returns the parts of a source with the steps that were spent in them, of its lines with theirs.
-#[tactic(auto, using(crate::proofs::Tallies::told_none, crate::proofs::Tallies::told_next))]
 fn told(
     alloc: Global,
     listing: Listing<'_>,
