@@ -1,6 +1,6 @@
 -- Runs, traces and inputs by hand: what they leave, also where memory stopped them short.
 use Rattle.std.proofs.Common.{rules, ◌≡◌, ◌∙◌, ℕ, zero, suc, ◌-◌, ◌<◌, Bool, false, List, [], ◌∷◌, refl, sym, ap, arith, ◌+◌, ◌≤◌, true, length, take, drop, get_or, subst, inr, ◌++◌}
-use Rattle.std.specs.Prelude.{◌&&◌, is_none, is_some, max, min, if◌then◌else◌, unwrap_or, Option, None, Result, OnOk, fold, Some, Ok, Err, OnErr, IfOk}
+use Rattle.std.specs.Prelude.{◌&&◌, is_none, is_some, max, min, if◌then◌else◌, unwrap_or, Option, None, Result, OnOk, fold, Some, Ok, Err, OnErr}
 use Rattle.std.proofs.lemmas.List.{take_all}
 use Rattle.std.specs.Option.{option_map}
 use Rattle.rv_base.specs.declared.memory.NoMemory.{NoMemory}
@@ -28,9 +28,9 @@ use Rattle.rv_runs.proofs.Parts.{on_err}
 use Rattle.rv_runs.proofs.Passing.{traced_guards}
 use Rattle.rv_runs.specs.declared.guard.Guard.{Guard}
 use Rattle.rv_lab.specs.State.{LabState, sent, timed}
-use Rattle.rv_lab.specs.Commands.{gone_on, guards_by, stepped, stops_of, with_inputs, with_piece, with_steps, begun, monitored_run, piece_most, planned, with_console, with_session, GoesOn}
-use Rattle.rv_lab.specs.Support.Short.{Traced, end_now, ran_to, stepped_by, Gives, GoesOnWith, IsOnWay, Monitors, Starts, Steps, StopsIn, told_steps}
-use Rattle.rv_lab.specs.Runs.{Leaves, run_goal, next_steps}
+use Rattle.rv_lab.specs.Commands.{gone_on, guards_by, stepped, stops_of, with_inputs, with_piece, with_steps, begun, monitored_run, piece_most, with_console, with_session, GoesOn}
+use Rattle.rv_lab.specs.Support.Short.{Traced, end_now, ran_to, stepped_by, Gives, GoesOnWith, IsOnWay, Monitors, Starts, StopsIn, told_steps}
+use Rattle.rv_lab.specs.Runs.{Leaves, run_goal}
 use Rattle.rv_lab.specs.Refusals.{Leads, RunsOut, StopsShort, by_hand, due, nowhere, steps}
 use Rattle.rv_lab.specs.declared.order.Order.TheVariants as orders
 
@@ -129,33 +129,8 @@ pub traced_others : (n : ℕ) (old new : LabState) → IsInTime (timed old) → 
 traced_others n old new h t = search (rules, arith, all_stepped)
 
 -- a goal of which each step is told
-trace_goal : (g : Goal) → is_traced g ≡ true → goal.Trace ≡ g
+pub trace_goal : (g : Goal) → is_traced g ≡ true → goal.Trace ≡ g
 trace_goal g e = search (rules, arith)
-
-module _ (g : Goal) (b : Bool) (is : b ≡ is_traced g) (yes : b ≡ true) where
-  abbrev traces : goal.Trace ≡ g
-  traces = trace_goal g (sym is ∙ yes)
-
-  pub trace_ran : {E : Type 0} (r : Result End E) (st : Stops) (n : ℕ) (s t : SessionState) → IfOk r (HasRun (step_ends s) n s t)
-      → IfOk r (HasRun (run_ends st g s) n s t)
-  trace_ran r st n s t h = search (rules, arith)
-
-  pub trace_aims : {E : Type 0} (r : Result End E) (s : TimedState) (n : ℕ) → OnOk r (g ≡ goal_after g s n)
-  trace_aims r s n = search (rules, arith)
-
-  pub trace_told : {E : Type 0} (r : Result End E) (n : ℕ) (l : LabState) (xs ys : List Step) → OnOk r (ys ≡ xs ++ next_steps n l)
-      → OnOk r (ys ≡ xs ++ told_steps g n l)
-  trace_told r n l xs ys h = search (rules, arith)
-
-  pub trace_stops : {E : Type 0} (r : Result End E) (st : Stops) (n : ℕ) (s : SessionState) (old new : LabState) → OnErr r (StopsIn goal.Trace (step_ends s) n old new)
-      → OnErr r (StopsIn g (run_ends st g s) n old new)
-  trace_stops r st n s old new h = subst (λ (x : Goal). OnErr r (StopsIn x (run_ends st x s) n old new)) traces h
-
-  pub trace_others : (old new : LabState) → new ≡ with_session old new.recording.session
-      → new ≡ ran_to g old new.recording.session
-  trace_others old new e = subst (λ (x : Goal). new ≡ ran_to x old new.recording.session) traces
-      (e ∙ ap (λ (gs : List Guard). record (with_session old new.recording.session) { guards = gs })
-      (sym (traced_guards old.marks old.guards old.recording.session (steps_between (timed old) (timed new)))))
 
 -- any other goal
 pub none_told : {E : Type 0} (r : Result End E) (g : Goal) (b : Bool) (n : ℕ) (l : LabState) (xs : List Step)
@@ -240,15 +215,6 @@ pub piece_err : {A : Type 0} (r : Result A NoMemory) (p : Plan) (most : ℕ) (ol
 piece_err r p most old at_first new most_is is short =
     let s = rw (is, most_is) at short in
     on_err r (StopsShort (Some p.goal) (GoesOnWith p) old new) (gone_on p old, refl, s.0, s.1, grind (arith, s.2))
-
-pub starts_short : {A : Type 0} (r : Result A NoMemory) (p : Plan) (old mid new : LabState) → mid ≡ begun old
-    → OnErr r (StopsShort (Some p.goal) (GoesOnWith p) mid new) → OnErr r (StopsShort (Some p.goal) (Starts p) old new)
-starts_short r p old mid new is s = rw is at s
-
-pub many_short : {A : Type 0} (r : Result A NoMemory) (n : ℕ) (old mid new : LabState)
-    → mid ≡ record old { count = n } → OnErr r (StopsShort (Some goal.Count) (Starts (planned goal.Count n)) mid new)
-    → OnErr r (StopsShort (Some goal.Count) (Steps n) old new)
-many_short r n old mid new is s = rw is at s
 
 -- a run that a line of the monitor asks for
 pub monitor_short : {A : Type 0} (r : Result A NoMemory) (line : List ℕ) (p : Plan) (old new : LabState)

@@ -1,13 +1,11 @@
 -- What commands answered.
 use Rattle.std.proofs.Common.{rules, ◌≡◌, ◌∙◌, ℕ, zero, suc, ◌-◌, ◌<◌, Bool, false, List, [], ◌∷◌, ◌++◌, refl, sym, ap, append_assoc, arith}
-use Rattle.std.specs.Prelude.{Option, Some, None, ◌&&◌, is_some, IfOk, OnOk, OnErr, Result, Ok, if◌then◌else◌}
+use Rattle.std.specs.Prelude.{Option, Some, None, ◌&&◌, is_some, OnOk, OnErr, Result, Ok, if◌then◌else◌}
 use Rattle.rv_base.specs.declared.memory.NoMemory.{NoMemory}
 use Rattle.rv_hart.specs.declared.trap.Outcome.{Outcome}
 use Rattle.rv_hart.specs.Step.{step}
 use Rattle.rv_monitor.specs.State.{after}
 use Rattle.rv_monitor.specs.Stops.{TakesStep, steps_between}
-use Rattle.rv_monitor.specs.Commands.{command_in}
-use Rattle.rv_monitor.specs.Commands as monitor
 use Rattle.rv_recording.specs.Recording.{RecordingState}
 use Rattle.rv_recording.specs.declared.until.End.{End}
 use Rattle.rv_answers.specs.declared.answer.Answer.{Answer}
@@ -19,7 +17,6 @@ use Rattle.rv_answers.specs.declared.moves.Step.{Step}
 use Rattle.rv_answers.specs.declared.values.Place.{Place}
 use Rattle.rv_answers.specs.declared.values.RegisterValue.{RegisterValue}
 use Rattle.rv_answers.specs.declared.values.Standing.{Standing}
-use Rattle.rv_answers.specs.declared.values.Trap.{Trap}
 use Rattle.rv_runs.specs.Plans.{tells_last}
 use Rattle.rv_runs.specs.declared.goal.Goal.{Goal}
 use Rattle.rv_runs.specs.declared.goal.Goal.TheVariants as goal
@@ -27,12 +24,11 @@ use Rattle.rv_runs.specs.declared.plan.Plan.{Plan}
 use Rattle.rv_runs.proofs.Later.{taken_after}
 use Rattle.rv_runs.proofs.Parts.{on_err}
 use Rattle.rv_lab.specs.Answers.{place_of, standing}
-use Rattle.rv_lab.specs.Commands.{begun, gone_on, guards_by, monitored_run, piece_most, piece_steps, planned, stepped, with_piece, with_steps}
+use Rattle.rv_lab.specs.Commands.{begun, gone_on, guards_by, piece_most, piece_steps, stepped, with_piece, with_steps}
 use Rattle.rv_lab.specs.Refusals.{StopsShort, nowhere}
-use Rattle.rv_lab.specs.Runs.{aim_of, changes, end_of, ending_of, monitor_answer, next_step, next_steps, over_answer, run_answer, step_answer, step_value, trap_in, watch_changes}
+use Rattle.rv_lab.specs.Runs.{aim_of, changes, end_of, ending_of, next_step, next_steps, over_answer, run_answer, step_answer, step_value, trap_in, watch_changes}
 use Rattle.rv_lab.specs.State.{LabState, board, registers_of, sent, timed}
 use Rattle.rv_lab.specs.Support.Short.{GoesOnWith, IsOnWay, Traced, call_answer, told_steps}
-use Rattle.rv_lab.specs.declared.lab.Done.{Done}
 use Rattle.rv_lab.proofs.Runs.{told_call, traced_last, to_steps}
 
 -- ---- runs
@@ -93,13 +89,6 @@ no_step old counted mid new s st one e is none stands = search (rules, arith)
 
 -- ---- what a step did
 
--- a value by its parts
-pub did : (l : LabState) (place : Place) (o : Outcome) (n : ℕ) (t : Option Trap) (before now : List ℕ)
-    (changed : List RegisterValue) → n ≡ (timed l).taken → t ≡ trap_in l o → now ≡ registers_of (board l)
-    → changed ≡ changes before now → ◌≡◌ {A = Step} (record { number = n; place = place; trap = t; changed = changed })
-    (record { number = (timed l).taken; place = place; trap = trap_in l o; changed = changes before (registers_of (board l)) })
-did l place o n t before now changed taken traps is c = search (rules, arith)
-
 pub took_one : (old inside : LabState) (q : RecordingState) (r : Option Outcome) (o : Outcome) → inside ≡ old
     → r ≡ Some o → TakesStep inside.recording.session q.session (Ok r)
     → q ≡ record inside.recording { session = q.session } → (v : Step) (place : Place) (before : List ℕ)
@@ -148,32 +137,6 @@ more_steps r (suc n) old mid v xs ys zs h e some g f = search (rules, arith, app
 pub told_of : (g : Goal) (n : ℕ) (old at_first : LabState) → at_first ≡ record old { plan = None; resumes = goal.Break }
     → told_steps g n at_first ≡ told_steps g n old
 told_of g n old at_first e = search (rules, arith, same_steps)
-
--- ---- `s`
-
-pub some_steps : {E : Type 0} (r : Result Done E) (n : ℕ) (old mid new : LabState) → mid ≡ record old { count = n }
-    → IfOk r (λ d. d.answer ≡ run_answer (planned goal.Count n) (begun mid) new)
-    → IfOk r (λ d. d.answer ≡ run_answer (planned goal.Count n) (begun (record old { count = n })) new)
-some_steps r n old mid new is h = rw is at h
-
--- ---- an order
-
-pub started : {E : Type 0} (r : Result Done E) (p : Plan) (old mid new : LabState) → mid ≡ begun old
-    → IfOk r (λ d. d.answer ≡ run_answer p mid new) → IfOk r (λ d. d.answer ≡ run_answer p (begun old) new)
-started r p old mid new e h = search (rules, arith)
-
-pub monitor_ran : {E : Type 0} (r : Result Done E) (line : List ℕ) (p : Plan) (old new : LabState)
-    → Some p ≡ monitored_run line old.recording.session → IfOk r (λ d. d.answer ≡ run_answer p (begun old) new)
-    → IfOk r (λ d. d.answer ≡ monitor_answer line old new)
-unfolding monitor_answer
-monitor_ran r line p old new e h = search (rules, arith)
-
-pub monitor_looked : {E : Type 0} (r : Result Done E) (line : List ℕ) (old new : LabState)
-    → None ≡ monitored_run line old.recording.session
-    → IfOk r (λ d. d.answer ≡ answers.Monitor (monitor.answer (command_in line old.recording.session)
-    old.recording.session new.recording.session)) → IfOk r (λ d. d.answer ≡ monitor_answer line old new)
-unfolding monitor_answer
-monitor_looked r line old new e h = search (rules, arith)
 
 -- ---- a run that is over
 

@@ -1,15 +1,16 @@
 -- The values that commands which look answer.
-use Rattle.std.proofs.Common.{rules, ◌≡◌, ◌∙◌, ℕ, zero, suc, ◌+◌, ◌-◌, ◌<◌, ◌≤◌, Bool, true, false, List, [], ◌∷◌, ◌++◌, cond, drop, length, map, refl, sym, ap, add-one, append-nil, append_assoc, arith, ◌&&◌, find, get_or, nat_le, nat_lt}
+use Rattle.std.proofs.Common.{rules, ◌≡◌, ◌∙◌, ℕ, zero, suc, ◌+◌, ◌-◌, ◌<◌, ◌≤◌, Bool, true, false, List, [], ◌∷◌, ◌++◌, cond, drop, length, map, refl, sym, ap, add-one, append-nil, append_assoc, arith, find}
 use Rattle.std.specs.Prelude.{Option, Some, None, OnOk, Result, Ok, Err, filter, slice_get, unwrap_or, IfSome, IfNone, not}
 use Rattle.std.specs.Borrow.{Bor}
 use Rattle.std.specs.FinSet as set
 use Rattle.std.specs.List.{range_with_len, prefix_len, position_or_len}
 use Rattle.std.specs.Option.{option_map}
 use Rattle.std.proofs.lemmas.List.{drop_all, get_or_past}
-use Rattle.std.proofs.lemmas.Bool.Decides.{nat_tests}
 use Rattle.rv_asm.specs.Lines.{Listed, HasByteAt}
 use Rattle.rv_operands.specs.Operands.{only_of}
 use Rattle.rv_why.specs.Repeats.{comes_again}
+use Rattle.rv_convention.specs.Profile.{is_in}
+use Rattle.rv_convention.proofs.Tallies.{inside, is_inside}
 use Rattle.rv_isa.specs.Number.{flag}
 use Rattle.rv_pmp.specs.Pmp.{read_register}
 use Rattle.rv_csr.specs.Registers.{lines_word, number_of, read, row_at, status_word, table}
@@ -68,15 +69,6 @@ ends_at p n i below none is =
 
 -- ---- the line of an address
 
-abbrev has : Listed → ℕ → ℕ → Bool
-has l a n = nat_le (get_or l.addresses (n - 1) 0) a && nat_lt a (get_or l.addresses n 0)
-
-has_byte : (l : Listed) (a n : ℕ) → 1 ≤ n → has l a n ≡ true → HasByteAt l a n
-has_byte l a n h t = grind (arith, nat_tests)
-
-is_line : (l : Listed) (a n : ℕ) → HasByteAt l a n → has l a n ≡ true
-is_line l a n h = grind (arith, nat_tests)
-
 is_listed : (l : Listed) (a n : ℕ) → HasByteAt l a n → n < 1 + (length l.addresses - 1)
 is_listed l a n h = grind (arith, get_or_past)
 
@@ -85,10 +77,10 @@ pub line_is : (l : Listed) (a : ℕ) (result : Option ℕ) → IfSome result (Ha
     → IfSome result (λ n. (m : ℕ) → HasByteAt l a m → m ≡ n) → result ≡ line_at l a
 unfolding line_at
 line_is l a (Some n) here never only =
-    sym (found (has l a) n 1 (length l.addresses - 1) here.0 (is_listed l a n here) (is_line l a n here)
-    (λ m h t. only m (has_byte l a m h t)))
+    sym (found (λ m. is_in l m a) n 1 (length l.addresses - 1) here.0 (is_listed l a n here) (is_inside l a n here)
+    (λ m h t. only m (inside l a m h t)))
 line_is l a None here never only =
-    sym (none (has l a) 1 (length l.addresses - 1) (λ m h t. never m (has_byte l a m h t)))
+    sym (none (λ m. is_in l m a) 1 (length l.addresses - 1) (λ m h t. never m (inside l a m h t)))
 
 -- the label before an address
 pub distance_is : {N : Type 0} (f : N → List ℕ × ℕ) (near : Option N) (l : Listed) (a : ℕ) (r : Option N)

@@ -1,6 +1,6 @@
 -- To audit: public contracts cite this.
 -- What the commands that only look answer, as values (this project's own: docs/LAB.md).
-use Rattle.std.specs.Prelude.{ℕ, ◌+◌, ◌-◌, ◌*◌, ◌%◌, ◌^◌, ◌==◌, ◌&&◌, Bool, false, List, [], ◌∷◌, filter, if◌then◌else◌, length, map, min, nat_le, nat_lt, slice_get, slice_index, Option, Some, None, option_and_then, unwrap_or}
+use Rattle.std.specs.Prelude.{ℕ, ◌+◌, ◌-◌, ◌*◌, ◌%◌, ◌^◌, ◌==◌, Bool, List, [], ◌∷◌, filter, if◌then◌else◌, length, map, min, nat_le, nat_lt, slice_get, slice_index, Option, Some, None, option_and_then, unwrap_or}
 use Rattle.std.specs.FinSet as set
 use Rattle.std.specs.Int.{is_in_range}
 use Rattle.std.specs.List.{last_or, position_or_len, range_with_len}
@@ -23,6 +23,7 @@ use Rattle.rv_convention.specs.Convention.{checked}
 use Rattle.rv_convention.specs.Profile.{profiled}
 use Rattle.rv_recording.specs.Until.{watched_value}
 use Rattle.rv_recording.specs.declared.until.Watched.{Watched}
+use Rattle.rv_why.specs.Repeats.{comes_again}
 use Rattle.rv_why.specs.Origins.{target_of}
 use Rattle.rv_answers.specs.Memory.{extent}
 use Rattle.rv_answers.specs.States.{bits_of, clock_of, port_of, regions, source_of}
@@ -176,8 +177,7 @@ rows_answer e follows l =
 unfoldable pub trap_runs : LabState → ℕ → List TrapRecord → List Trap
 trap_runs l times [] = []
 trap_runs l times (t ∷ ts) =
-    let same : TrapRecord → Bool = λ u. (t.cause == u.cause) && ((t.epc == u.epc) && (t.tval == u.tval)) in
-    if option_map_or same (slice_get ts 0) false then trap_runs l (times + 1) ts
+    if comes_again t (slice_get ts 0) then trap_runs l (times + 1) ts
     else record { cause = t.cause; value = t.tval; place = place_of l t.epc; times = times + 1 } ∷ trap_runs l 0 ts
 
 -- of a source that is triggered by edges

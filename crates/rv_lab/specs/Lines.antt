@@ -1,21 +1,20 @@
 -- To audit: public contracts cite this.
 -- The lines of a lab's source by their addresses, and which of them `l` lists (this project's own: docs/LAB.md).
-use Rattle.std.specs.Prelude.{ℕ, ◌-◌, ◌==◌, ◌&&◌, false, find, get_or, if◌then◌else◌, length, nat_le, nat_lt, Option, None, option_and_then}
+use Rattle.std.specs.Prelude.{ℕ, ◌-◌, ◌==◌, false, find, if◌then◌else◌, length, nat_lt, Option, None, option_and_then}
 use Rattle.std.specs.FinSet as set
 use Rattle.std.specs.List.{range_with_len}
 use Rattle.std.specs.Option.{option_map_or}
 use Rattle.rv_asm.specs.Lines.{Listed, address_of, bytes_of}
 use Rattle.rv_monitor.specs.Views.{word_at}
 use Rattle.rv_answers.specs.declared.values.Row.{Row}
+use Rattle.rv_convention.specs.Profile.{is_in}
 use Rattle.rv_lab.specs.State.{LabState, board, listing}
 
 -- ---- addresses
 
 -- the line that has a byte at an address
 unfoldable pub line_at : Listed → ℕ → Option ℕ
-line_at l a =
-    find (λ n. nat_le (get_or l.addresses (n - 1) 0) a && nat_lt a (get_or l.addresses n 0))
-    (range_with_len 1 (length l.addresses - 1))
+line_at l a = find (λ n. is_in l n a) (range_with_len 1 (length l.addresses - 1))
 
 -- ---- `l`
 

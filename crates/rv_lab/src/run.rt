@@ -127,7 +127,7 @@ impl Lab {
     }
 
     /// Takes steps of a run, as `run_all` does, and appends what each did if they are told.
-    #[tactic(auto, using(crate::proofs::Runs::trace_ran, crate::proofs::Runs::trace_aims, crate::proofs::Runs::trace_told, crate::proofs::Runs::trace_stops, crate::proofs::Runs::trace_others, crate::proofs::Runs::none_told))]
+    #[tactic(auto, using(crate::proofs::Runs::none_told))]
     fn take_steps(
         &mut self,
         goal: &mut Goal,

@@ -1,12 +1,7 @@
-use Rattle.std.proofs.Common.{rules}
-use Rattle.rv_lab.proofs.Runs.{starts_short}
-use Rattle.rv_lab.proofs.Told.{started}
 use Rattle.rv_lab.proofs.lab.Lab.start.Goals as goal
 
 pub returns-clause-err : goal.returns-clause-err
-returns-clause-err c = search (rules, starts_short)
+returns-clause-err c = rw c.begin.ensures at c.go_on_with.ensures.err
 
 pub returns-clause-answers : goal.returns-clause-answers
-returns-clause-answers c =
-    started c.go_on_with.result c.args.plan c.args.self.now c.begin.new.self c.go_on_with.new.self
-    c.begin.ensures c.go_on_with.ensures.answers
+returns-clause-answers c = rw c.begin.ensures at c.go_on_with.ensures.answers
