@@ -1,5 +1,5 @@
 -- Laws of the lab: runs in pieces, and sessions that repeat what was saved.
-use Rattle.std.proofs.Common.{rules, arith, ◌≡◌, ◌∙◌, ℕ, ◌+◌, refl, sym, ap, subst, ◌<◌, ◌≤◌, Bool, true}
+use Rattle.std.proofs.Common.{rules, arith, ◌≡◌, ◌∙◌, ℕ, ◌-◌, refl, sym, ap, subst, ◌<◌, ◌≤◌, Bool, true}
 use Rattle.std.specs.Prelude.{max, Option, Some, None, ◌⊎◌, ◌&&◌, nat_lt, is_none}
 use Rattle.std.proofs.lemmas.Bool.Decides.{nat_tests}
 use Rattle.std.specs.FinSet as set
@@ -14,10 +14,10 @@ use Rattle.rv_recording.specs.Support.Steps.{end_by}
 use Rattle.rv_recording.specs.declared.until.End.{End}
 use Rattle.rv_recording.proofs.Counting.{all_steps}
 use Rattle.rv_recording.proofs.Taken.{took_ran}
-use Rattle.rv_runs.specs.Ends.{Stops, guards_after, run_ends}
+use Rattle.rv_runs.specs.Ends.{goal_after, run_ends}
 use Rattle.rv_runs.specs.Plans.{plan_after, resumes_after}
 use Rattle.rv_runs.specs.declared.plan.Plan.{Plan}
-use Rattle.rv_runs.proofs.Later.{guards_later, taken_after}
+use Rattle.rv_runs.proofs.Later.{guards_later, stops_after, taken_after}
 use Rattle.rv_runs.proofs.Plans.{all_taken, kept, rest_steps, resumes_later}
 use Rattle.rv_lab.specs.State.{LabState, timed}
 use Rattle.rv_lab.specs.Commands.{InPieces, cut, ended, gone_on, guards_by, piece_steps, stops_of, with_console, with_steps}
@@ -46,24 +46,14 @@ whole_again : (p r : Plan) (l : LabState) (n : ℕ) → IsInTime (timed l)
 whole_again p r l n h e =
     let s = l.recording.session in
     let k = piece_steps p (record l { piece = n }) in
-    let there : SessionState = record s { timed = after s.timed k } in
-    let gs = guards_by p.goal l k in
-    let st : Stops = record (stops_of l) { guards = gs } in
-    let all = rest_steps (stops_of l) p s (max n 1) h r e in
-    let joined : after (after s.timed k) (steps_of (run_ends st r.goal there) r.left)
-    ≡ after s.timed (steps_of (run_ends (stops_of l) p.goal s) p.left) =
-    after_more s.timed k _ h.rising ∙ ap (after s.timed) all in
     let now = kept (stops_of l) p s (max n 1) r e in
-    let rest = steps_of (run_ends st r.goal there) r.left in
-    let same : resumes_after st r.goal there rest
-    ≡ resumes_after (stops_of l) p.goal s (steps_of (run_ends (stops_of l) p.goal s) p.left) =
-    subst (λ (q : Plan). resumes_after st q.goal there rest ≡ resumes_after (stops_of l) p.goal s (k + rest)) now.2
-    (resumes_later s k h (stops_of l) p.goal now.0 rest) ∙ ap (resumes_after (stops_of l) p.goal s) all in
-    let counts : guards_after l.marks gs r.goal there rest
-    ≡ guards_by p.goal l (steps_of (run_ends (stops_of l) p.goal s) p.left) =
-    subst (λ (q : Plan). guards_after l.marks gs q.goal there rest ≡ guards_by p.goal l (k + rest)) now.2
-    (guards_later s k h l.marks l.guards p.goal rest) ∙ ap (guards_by p.goal l) all in
-    rw (counts, same, joined)
+    let all = rest_steps (stops_of l) p s (max n 1) h now.0 in
+    let rest = steps_of (run_ends (stops_after (stops_of l) p.goal s k) (goal_after p.goal s.timed k)
+    (record s { timed = after s.timed k })) (p.left - k) in
+    let counts = guards_later s k h l.marks l.guards p.goal rest ∙ ap (guards_by p.goal l) all in
+    let same = resumes_later s k h (stops_of l) p.goal now.0 rest ∙ ap (resumes_after (stops_of l) p.goal s) all in
+    let joined = after_more s.timed k rest h.rising ∙ ap (after s.timed) all in
+    subst (λ (q : Plan). whole q (gone_on p (record l { piece = n })) ≡ whole p l) now.2 (rw (counts, same, joined))
 
 at_last : (p : Plan) (l : LabState) (n : ℕ)
     → plan_after (stops_of l) p l.recording.session (piece_steps p (record l { piece = n })) ≡ None

@@ -259,6 +259,7 @@ impl Lab {
 }
 
 /// Law: however a run is cut into calls, it leaves the same lab.
+#[tactic(auto, using(crate::proofs::Laws::join))]
 pub fn pieces_join()
     ensures { (l a b : LabState) → IsInTime (timed l) → InPieces a l → InPieces b l
         → record a { piece = 0 } ≡ record b { piece = 0 } }

@@ -1,5 +1,5 @@
 -- What goes on after a call of a run.
-use Rattle.std.proofs.Common.{◌≡◌, ◌∙◌, ℕ, ◌+◌, ◌-◌, Bool, true, false, sym, ap, subst, arith}
+use Rattle.std.proofs.Common.{◌≡◌, ◌∙◌, ℕ, ◌+◌, ◌-◌, Bool, true, false, sym, ap, arith}
 use Rattle.std.proofs.lemmas.Bool.Decides.{nat_tests}
 use Rattle.std.specs.Prelude.{◌&&◌, nat_lt, is_none, is_some, min, if◌then◌else◌, unwrap_or, Option, Some, None}
 use Rattle.rv_monitor.specs.State.{IsInTime, SessionState, after}
@@ -81,14 +81,13 @@ module _ (st : Stops) (p : Plan) (s : SessionState) (m : ℕ) where
   all_taken e = as_far ends k p.left (omega (arith, steps_within ends (min p.left m))) (none_before ends (min p.left m))
       (λ going. let last = lost e going in let most = steps_within ends (min p.left m) in grind (arith, nat_tests))
 
-  -- where one is, the rest of the run makes it whole
-  pub rest_steps : IsInTime s.timed → (r : Plan) → plan_after st p s k ≡ Some r
-      → k + steps_of (run_ends (stops_after st p.goal s k) r.goal (record s { timed = after s.timed k })) r.left ≡ steps_of ends p.left
-  rest_steps h r e =
-      let now = kept r e in
-      let full = all_of ends (min p.left m) now.0 in
+  -- where it isn't over, the rest of the run makes it whole
+  pub rest_steps : IsInTime s.timed → is_some (ends k) ≡ false
+      → k + steps_of (run_ends (stops_after st p.goal s k) (goal_after p.goal s.timed k) (record s { timed = after s.timed k })) (p.left - k)
+      ≡ steps_of ends p.left
+  rest_steps h on =
+      let full = all_of ends (min p.left m) on in
       let all : min p.left m + (p.left - k) ≡ p.left = omega (arith, full) in
-      subst (λ (q : Plan). k + steps_of (run_ends (stops_after st p.goal s k) q.goal (record s { timed = after s.timed k })) q.left ≡ steps_of ends p.left) now.2
-      (ap (λ n. k + n) (same_steps (run_ends (stops_after st p.goal s k) (goal_after p.goal s.timed k) (record s { timed = after s.timed k }))
-      (λ i. ends (k + i)) (λ i. ap is_some (ends_later s k h st p.goal now.0 i)) (p.left - k))
-      ∙ (sym (joins ends (min p.left m) (p.left - k) now.0) ∙ ap (steps_of ends) all))
+      ap (λ n. k + n) (same_steps (run_ends (stops_after st p.goal s k) (goal_after p.goal s.timed k) (record s { timed = after s.timed k }))
+      (λ i. ends (k + i)) (λ i. ap is_some (ends_later s k h st p.goal on i)) (p.left - k))
+      ∙ (sym (joins ends (min p.left m) (p.left - k) on) ∙ ap (steps_of ends) all)
