@@ -1,7 +1,6 @@
 -- The first line from one on that has bytes, and the value of a base.
 use Rattle.std.proofs.lemmas.Bool.Decides.{nat_tests}
-use Rattle.std.proofs.Common.{rules, ◌≡◌, ℕ, suc, ◌+◌, ◌-◌, ◌<◌, ◌≤◌, Bool, true, false, cond, List, [], ◌∷◌, length, map, refl, arith}
-use Rattle.std.specs.List.{find, range_with_len}
+use Rattle.std.proofs.Common.{rules, ◌≡◌, ℕ, suc, ◌+◌, ◌-◌, ◌<◌, ◌≤◌, Bool, cond, List, [], ◌∷◌, length, map, refl, arith}
 use Rattle.std.specs.Prelude.{Option, Some, None, nat_lt}
 use Rattle.std.specs.Option.{option_map, option_or}
 use Rattle.rv_base.specs.Tables.{lookup}
@@ -10,28 +9,15 @@ use Rattle.rv_asm.specs.Lines.{Listed, bytes_of}
 use Rattle.rv_operands.specs.Operands.{base_value, line_with_bytes}
 use Rattle.rv_operands.specs.Support.Words.{base_by}
 
-abbrev some_at : Listed → ℕ → Bool
-some_at l n = nat_lt 0 (length (bytes_of l n))
-
-found_in : (p : ℕ → Bool) (n m k : ℕ) → m ≡ suc k → p n ≡ true → Some n ≡ find p (range_with_len n m)
-found_in p n m k e h = rw (e, h) refl
-
-none_in : (p : ℕ → Bool) (n m : ℕ) → m ≡ 0 → None ≡ find p (range_with_len n m)
-none_in p n m e = rw e refl
-
-pub line_found : (l : Listed) (n count : ℕ) → count + 1 ≡ length l.addresses → n ≤ count → some_at l n ≡ true
-    → Some n ≡ line_with_bytes l n
+pub line_next : (l : Listed) (n : ℕ) → n < length l.addresses
+    → line_with_bytes l n ≡ cond (nat_lt 0 (length (bytes_of l n))) (Some n) (line_with_bytes l (n + 1))
 unfolding line_with_bytes
-line_found l n count e le h = found_in (some_at l) n (length l.addresses - n) (count - n) (omega (arith, e)) h
+line_next l n h =
+    let more : length l.addresses - n ≡ suc (length l.addresses - (n + 1)) = omega (arith, h) in rw more refl
 
-pub line_passed : (l : Listed) (n count : ℕ) → count + 1 ≡ length l.addresses → n ≤ count → some_at l n ≡ false
-    → line_with_bytes l n ≡ line_with_bytes l (n + 1)
+pub no_line : (l : Listed) (n : ℕ) → length l.addresses ≤ n → line_with_bytes l n ≡ None
 unfolding line_with_bytes
-line_passed l n count e le h = search (rules, arith, nat_tests)
-
-pub no_line : (l : Listed) (n count : ℕ) → count + 1 ≡ length l.addresses → count < n → None ≡ line_with_bytes l n
-unfolding line_with_bytes
-no_line l n count e lt = none_in (some_at l) n (length l.addresses - n) (omega (arith, e))
+no_line l n h = let none : length l.addresses - n ≡ 0 = omega (arith, h) in rw none refl
 
 -- ---- the value of a base
 

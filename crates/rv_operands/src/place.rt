@@ -62,6 +62,7 @@ fn sign_place(word: &[u8]) -> usize
 }
 
 /// Returns the first line from this one on that has bytes.
+#[tactic(auto, using(crate::proofs::Lines::line_next, crate::proofs::Lines::no_line, std::proofs::lemmas::Bool::Decides::nat_tests))]
 pub fn line_with_bytes(listing: Listing, from: usize) -> Option<usize>
     ensures { result ≡ line_with_bytes (seen listing.entry) from }
 {
