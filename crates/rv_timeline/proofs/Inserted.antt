@@ -1,34 +1,31 @@
 -- A list with one input more.
 use Rattle.std.proofs.lemmas.Grind.{common_steps}
-use Rattle.std.proofs.Common.{rules, ◌≡◌, ℕ, suc, ◌<◌, ◌≤◌, Bool, true, List, ◌∷◌, length, get_or, take, arith}
-use Rattle.std.proofs.lemmas.Bool.{and_parts, lt-ltb, le-ltb, leb-true}
+use Rattle.std.proofs.Common.{rules, arith, ◌≡◌, ℕ, ◌+◌, Bool, refl, sym, true, false, not, List, [], ◌∷◌, length}
+use Rattle.std.proofs.lemmas.Bool.{and_parts, ltb-false}
 use Rattle.std.proofs.lemmas.Bool.Decides.{nat_tests}
-use Rattle.std.specs.Prelude.{nat_le, insert}
-use Rattle.std.specs.List.{list_all}
+use Rattle.std.proofs.lemmas.List.Sums.{prefix_len-le-length}
+use Rattle.std.specs.Prelude.{Option, nat_lt, insert, unwrap_or, if◌then◌else◌}
+use Rattle.std.specs.List.{position, position_or_len}
 use Rattle.rv_timeline.specs.declared.input.TimedInput.{TimedInput}
 use Rattle.rv_timeline.specs.Timed.{never_falls, inserted}
 
--- ---- the place
-
--- whether no input is later than a step
-abbrev pub up_to : ℕ → List TimedInput → Bool
-up_to step xs = list_all (λ x. nat_le x.step step) xs
-
 -- in front of the first later input, or at the end
-placed : (xs : List TimedInput) (n : ℕ) (x d : TimedInput) → n ≤ length xs → up_to x.step (take n xs) ≡ true
-    → (n < length xs → x.step < (get_or xs n d).step) → inserted xs x ≡ insert xs n x
+before_later : (xs : List TimedInput) (x : TimedInput)
+    → insert xs (position_or_len (λ y. nat_lt x.step y.step) xs) x ≡ inserted xs x
 unfolding inserted
-placed (y ∷ ys) (suc n) x d w h later = grind (arith, nat_tests, common_steps, and_parts, le-ltb, leb-true, placed ys n x d)
-placed xs n x d w h later = search (rules, arith, lt-ltb)
+before_later [] x = refl
+before_later (y ∷ ys) x = elim (nat_lt x.step y.step) as (λ b.
+    insert (y ∷ ys) (if not b then 1 + position_or_len (λ y. nat_lt x.step y.step) ys else 0) x
+    ≡ (if b then x ∷ y ∷ ys else y ∷ inserted ys x)) [ true ↦ refl | false ↦ grind (arith, nat_tests, common_steps, before_later ys x) ]
 
-pub at_later : (xs : List TimedInput) (n step : ℕ) (x y d : TimedInput) → n < length xs
-    → up_to step (take n xs) ≡ true → y ≡ get_or xs n d → step < y.step → x.step ≡ step
+place_is : (p : TimedInput → Bool) (xs : List TimedInput)
+    → unwrap_or (position p xs) (length xs) ≡ position_or_len p xs
+place_is p xs = search (rules, arith, ltb-false, prefix_len-le-length)
+
+pub at_place : (xs : List TimedInput) (step n : ℕ) (later : Option ℕ) (x : TimedInput)
+    → n ≡ unwrap_or later (length xs) → later ≡ position (λ y. nat_lt step y.step) xs → x.step ≡ step
     → inserted xs x ≡ insert xs n x
-at_later xs n step x y d w h at later is = search (rules, placed)
-
-pub at_end : (xs : List TimedInput) (n step : ℕ) (x : TimedInput) → length xs ≤ n → n ≤ length xs
-    → up_to step (take n xs) ≡ true → x.step ≡ step → inserted xs x ≡ insert xs n x
-at_end xs n step x w v h is = placed xs n x x v (rw is h) (λ l. absurd (omega arith))
+at_place xs step n later x at is same = rw (at, is, ← same, place_is (λ y. nat_lt x.step y.step) xs) (sym (before_later xs x))
 
 -- ---- the steps never fall
 

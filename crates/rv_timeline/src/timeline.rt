@@ -1,5 +1,6 @@
 //! Timed lists.
-ghost use Rattle.std.specs.Prelude.{◌≡◌, ◌≤◌, length, insert};
+ghost use Rattle.std.specs.Prelude.{◌≡◌, ◌<◌, ◌≤◌, length, nat_lt, insert, IfSome};
+ghost use Rattle.std.specs.List.{position};
 ghost use Rattle.rv_timeline.specs.declared.input.TimedInput.{TimedInput};
 ghost use Rattle.rv_timeline.specs.Timed.{IsRead, inserted};
 
@@ -33,18 +34,20 @@ impl Model for Timeline {
     ghost invariant = { λ t. never_falls t.inputs.items ≡ true };
 }
 
+/// Returns the index of the first input after a step, if there is one.
+fn first_after(inputs: &[TimedInput], step: u64) -> Option<usize>
+    ensures value { result ≡ position (λ x. nat_lt step x.step) inputs.now }
+    ensures below { IfSome result (λ n. n < length inputs.now) }
+{
+    inputs.iter().position(|timed| timed.step > step)
+}
+
 /// Returns the index at which an input of a step is inserted: that of the first later input, or the length.
-#[tactic(auto, using(crate::proofs::Inserted::at_end))]
 fn place_of(inputs: &[TimedInput], step: u64) -> usize
     ensures within { result ≤ length inputs.now }
     ensures place { (x : TimedInput) → x.step ≡ step → inserted inputs.now x ≡ insert inputs.now result x }
 {
-    for (place, timed) in inputs.iter().enumerate() {
-        if timed.step > step {
-            return place;
-        }
-    }
-    inputs.len()
+    first_after(inputs, step).unwrap_or(inputs.len())
 }
 
 impl Timeline {
