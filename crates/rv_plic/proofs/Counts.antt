@@ -1,5 +1,5 @@
 -- Counts of edges, where those of a set of sources are changed.
-use Rattle.std.proofs.Common.{rules, ◌≡◌, ℕ, zero, suc, ◌+◌, ◌-◌, ◌^◌, ◌<◌, ◌≤◌, true, false, [], ◌∷◌, refl, sym, ◌∙◌, ap, arith}
+use Rattle.std.proofs.Common.{rules, ◌≡◌, ℕ, zero, suc, ◌+◌, ◌^◌, ◌<◌, ◌≤◌, true, false, [], ◌∷◌, refl, sym, ◌∙◌, ap, arith}
 use Rattle.std.proofs.lemmas.Bool.Decides.{nat_tests}
 use Rattle.std.proofs.lemmas.Grind.{common_steps}
 use Rattle.std.specs.Prelude.{length, slice_index, slice_set, get_or, if◌then◌else◌}
@@ -47,31 +47,29 @@ pub taken_and_given : (s : Sources) (a : ℕ) (edges : Edges) → ((k : ℕ) →
 taken_and_given s a edges each = grind (arith, nat_tests, common_steps, again_same, same_lists, length-changed, get_or-changed)
 
 -- ---- one source after the other
--- the counts of the sources below `number` are changed, and the others are as before
-pub record IsChangedBelow (f : ℕ → ℕ) (number : ℕ) (s : Sources) (old new : Edges) : Type 0 where
-  pub old_length : length old ≡ 8
-  pub new_length : length new ≡ 8
-  pub changed_below : (k : ℕ) → 24 + k < number
+
+-- the first n counts are changed, and the others are as before
+pub record IsChangedBelow (f : ℕ → ℕ) (n : ℕ) (s : Sources) (old new : Edges) : Type 0 where
+  pub lengths : length new ≡ length old
+  pub changed_below : (k : ℕ) → k < n
       → slice_index new k ≡ (if contains s (24 + k) then f (slice_index old k) else slice_index old k)
-  pub same_from : (k : ℕ) → number ≤ 24 + k → slice_index new k ≡ slice_index old k
+  pub same_from : (k : ℕ) → n ≤ k → slice_index new k ≡ slice_index old k
 
-pub none_changed : (f : ℕ → ℕ) (s : Sources) (old new : Edges) → length old ≡ 8 → new ≡ old
-    → IsChangedBelow f 24 s old new
-none_changed f s old new old_length e = search rules
+pub none_changed : (f : ℕ → ℕ) (s : Sources) (old : Edges) → IsChangedBelow f 0 s old old
+none_changed f s old = search rules
 
-pub one_changed : (f : ℕ → ℕ) (number : ℕ) (s : Sources) (old new : Edges) (count : ℕ)
-    → IsChangedBelow f number s old new → 24 ≤ number → number < 32 → contains s number ≡ true
-    → count ≡ f (slice_index new (number - 24))
-    → IsChangedBelow f (number + 1) s old (slice_set new (number - 24) count)
-one_changed f number s old new count so_far from below is its = search rules
+pub one_changed : (f : ℕ → ℕ) (n : ℕ) (s : Sources) (old new : Edges) (count : ℕ)
+    → IsChangedBelow f n s old new → n < length new → contains s (24 + n) ≡ true → count ≡ f (slice_index new n)
+    → IsChangedBelow f (n + 1) s old (slice_set new n count)
+one_changed f n s old new count so_far within is its = search rules
 
-pub one_left : (f : ℕ → ℕ) (number : ℕ) (s : Sources) (old new : Edges) → IsChangedBelow f number s old new
-    → 24 ≤ number → number < 32 → contains s number ≡ false → IsChangedBelow f (number + 1) s old new
-one_left f number s old new so_far from below is = search rules
+pub one_left : (f : ℕ → ℕ) (n : ℕ) (s : Sources) (old new : Edges) → IsChangedBelow f n s old new
+    → contains s (24 + n) ≡ false → IsChangedBelow f (n + 1) s old new
+one_left f n s old new so_far is = search rules
 
-pub all_changed : (f : ℕ → ℕ) (number : ℕ) (s : Sources) (old new : Edges) → 32 ≤ number
-    → IsChangedBelow f number s old new → new ≡ changed f s 24 old
-all_changed f number s old new past all = grind (arith, nat_tests, common_steps, same_lists, length-changed, get_or-changed)
+pub all_changed : (f : ℕ → ℕ) (n : ℕ) (s : Sources) (old new : Edges) → length old ≤ n
+    → IsChangedBelow f n s old new → new ≡ changed f s 24 old
+all_changed f n s old new past all = grind (arith, nat_tests, common_steps, same_lists, length-changed, get_or-changed)
 
 -- a change by one edge less is the taking of an edge
 pub less_taken : (s : Sources) (edges new : Edges) → new ≡ changed one_less s 24 edges → new ≡ taken s edges

@@ -5,4 +5,5 @@ pub mod Counts
 pub mod Forwarding
 pub mod LineOrder
 pub mod Rows
+pub mod Those
 pub mod Words

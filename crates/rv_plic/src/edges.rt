@@ -1,7 +1,7 @@
 //! Pending edges: rises of lines that have not been forwarded as requests yet.
-ghost use Rattle.std.specs.Prelude.{◌≡◌, ◌-◌, ◌^◌, ◌<◌, ◌≤◌, ◌↔◌, ℕ, false, IsFalse, All, slice_set};
-ghost use Rattle.std.specs.FinSet as set;
+ghost use Rattle.std.specs.Prelude.{◌≡◌, ◌-◌, ◌^◌, ◌<◌, ◌≤◌, All, slice_set};
 ghost use Rattle.rv_plic.specs.Gateways.{is_by_edge, edges_of};
+ghost use Rattle.rv_plic.specs.Support.Changes.{changed, count_after};
 ghost use Rattle.rv_plic.specs.Support.GatewayState.{none_waits};
 
 use crate::Source;
@@ -63,19 +63,52 @@ impl Edges {
         are_words(&self.counts);
     }
 
-    /// Returns whether the edges of any of these sources are counted: whether any is triggered by edges.
-    pub fn counts_any(&self, sources: SourceSet) -> bool
-        ensures { IsFalse result ↔ ((q : ℕ) → 24 ≤ q → set.contains sources q ≡ false) }
-    {
-        sources.has_edge_triggered()
-    }
-
     /// Sets how many edges of a source are pending.
     pub fn set(&mut self, source: Source, count: u32)
         requires by_edge { 24 ≤ source }
         ensures { self.new ≡ slice_set self.old (source - 24) count }
     {
         self.counts[(source.number() - FIRST) as usize] = count;
+    }
+
+    /// Changes the count of pending edges of each of these sources that is triggered by edges.
+    pub fn change(&mut self, sources: SourceSet, change: Change)
+        ensures { self.new ≡ changed (count_after change) sources 24 self.old }
+    {
+        change_counts(&mut self.counts, sources, change);
+    }
+}
+
+/// Changes the count of each of these sources, of which the first count is that of source 24.
+#[tactic(auto, using(crate::proofs::Counts::changing))]
+fn change_counts(counts: &mut [u32; 8], sources: SourceSet, change: Change)
+    ensures { counts.new ≡ changed (count_after change) sources 24 counts.old }
+{
+    for index in 0..8usize {
+        if sources.contains(FIRST as u32 + index as u32) {
+            counts[index] = change.apply(counts[index]);
+        }
+    }
+}
+
+/// A change of a count of pending edges.
+#[derive(Clone, Copy)]
+pub enum Change {
+    /// One edge more, unless the count is full.
+    OneMore,
+    /// One edge less, unless the count is 0.
+    OneLess,
+}
+
+impl Change {
+    /// Returns the count after the change.
+    pub fn apply(self, count: u32) -> u32
+        ensures { result ≡ count_after self count }
+    {
+        match self {
+            Change::OneMore => count.saturating_add(1),
+            Change::OneLess => count.saturating_sub(1),
+        }
     }
 }
 

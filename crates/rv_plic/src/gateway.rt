@@ -1,12 +1,12 @@
 //! Interrupt gateways, which turn the lines of sources into requests.
-ghost use Rattle.std.specs.Prelude.{◌≡◌, ◌-◌, ◌^◌, ◌<◌, ◌≤◌, true, false, All, slice_set};
+ghost use Rattle.std.specs.Prelude.{◌≡◌, ◌^◌, ◌<◌, All};
 ghost use Rattle.std.specs.FinSet as set;
-ghost use Rattle.rv_plic.specs.Gateways.{edges_of};
+ghost use Rattle.rv_plic.specs.Gateways.{asking_sources, edges_of};
 ghost use Rattle.rv_plic.specs.Support.Changes.{changed, count_after};
-ghost use Rattle.rv_plic.specs.Support.GatewayState.{all_low, gateways_with_line, gateway_requests, after_requests, after_completion, withdrawn_gateways};
+ghost use Rattle.rv_plic.specs.Support.GatewayState.{all_low, asks, gateways_with_line, gateway_requests, after_requests, after_completion, withdrawn_gateways};
 
 use crate::Source;
-use crate::edges::{Edges, is_by_edge};
+use crate::edges::{Change, Edges, is_by_edge};
 use crate::set::SourceSet;
 use std::marker::Model;
 
@@ -97,11 +97,16 @@ impl Gateways {
     pub fn set_line(&mut self, source: Source, high: bool)
         ensures { self.new ≡ gateways_with_line self.old source high }
     {
-        if high {
-            self.raise(source);
-        } else {
-            self.lower(source);
+        if is_by_edge(source) && high && !self.is_high(source) {
+            let count = self.edges.count(source);
+            self.edges.set(source, Change::OneMore.apply(count));
         }
+        if high {
+            self.high.insert(source);
+        } else {
+            self.high.remove(source);
+        }
+        self.asking = asking(self.high, &self.edges);
     }
 
     /// Returns the sources whose gateways have a request to forward, where those of `pending` are pending
@@ -141,80 +146,37 @@ impl Gateways {
         self.outstanding.remove(source);
     }
 
-    /// Sets the line of a source high. If it was low, that is an edge.
-    #[tactic(auto, using(crate::proofs::AskingSources::lines))]
-    fn raise(&mut self, source: Source)
-        ensures { self.new ≡ gateways_with_line self.old source true }
-    {
-        let rises = !self.high.contains(source.number() as u32);
-        self.high.insert(source);
-        if !is_by_edge(source) {
-            self.asking.insert(source);
-        } else if rises {
-            let count = self.edges.count(source);
-            self.set_count(source, Change::OneMore.apply(count));
-        }
-    }
-
-    /// Sets the line of a source low.
-    #[tactic(auto, using(crate::proofs::AskingSources::lines))]
-    fn lower(&mut self, source: Source)
-        ensures { self.new ≡ gateways_with_line self.old source false }
-    {
-        self.high.remove(source);
-        if !is_by_edge(source) {
-            self.asking.remove(source);
-        }
-    }
-
-    /// Sets how many edges of a source are pending.
-    #[tactic(auto, using(crate::proofs::AskingSources::some_counted, crate::proofs::AskingSources::none_counted))]
-    fn set_count(&mut self, source: Source, count: u32)
-        requires by_edge { 24 ≤ source }
-        ensures { self.new ≡ record self.old { edges = slice_set self.old.edges (source - 24) count } }
-    {
-        self.edges.set(source, count);
-        if count > 0 {
-            self.asking.insert(source);
-        } else {
-            self.asking.remove(source);
-        }
-    }
-
     /// Changes the count of pending edges of each of these sources that is triggered by edges.
-    #[tactic(auto, using(crate::proofs::Counts::changing, crate::proofs::Counts::nothing_changed))]
     fn change_counts(&mut self, sources: SourceSet, change: Change)
         ensures { self.new ≡ record self.old { edges = changed (count_after change) sources 24 self.old.edges } }
     {
-        if !self.edges.counts_any(sources) {
-            return;
-        }
-        for number in 24..32u8 {
-            if let Some(source) = sources.get(number as u32) {
-                let count = self.edges.count(source);
-                self.set_count(source, change.apply(count));
-            }
-        }
+        self.edges.change(sources, change);
+        self.asking = asking(self.high, &self.edges);
     }
 }
 
-/// A change of a count of pending edges.
-#[derive(Clone, Copy)]
-enum Change {
-    /// One edge more, unless the count is full.
-    OneMore,
-    /// One edge less, unless the count is 0.
-    OneLess,
+/// Whether a source asks for a request: by a pending edge if it is triggered by edges, or else by its level.
+#[tactic(auto, unfolding(crate::specs::Support::GatewayState::asks))]
+fn asks(high: SourceSet, edges: &Edges, source: Source) -> bool
+    ensures { result ≡ asks high edges.now source }
+{
+    if is_by_edge(source) {
+        return edges.count(source) > 0;
+    }
+    high.contains(source.number() as u32)
 }
 
-impl Change {
-    /// Returns the count after the change.
-    fn apply(self, count: u32) -> u32
-        ensures { result ≡ count_after self count }
-    {
-        match self {
-            Change::OneMore => count.saturating_add(1),
-            Change::OneLess => count.saturating_sub(1),
+/// Returns the sources that ask for a request.
+#[tactic(auto, using(crate::proofs::Those::none_yet))]
+fn asking(high: SourceSet, edges: &Edges) -> SourceSet
+    ensures { result ≡ asking_sources high edges.now }
+{
+    let mut asking = SourceSet::new();
+    for number in 1..32u8 {
+        let source = Source::of(number);
+        if asks(high, edges, source) {
+            asking.insert(source);
         }
     }
+    asking
 }

@@ -222,16 +222,11 @@ impl Plic {
     }
 
     /// Sets the priority of a source.
-    #[tactic(auto, using(crate::proofs::AboveThreshold::above_raised, crate::proofs::AboveThreshold::above_lowered))]
     fn set_priority(&mut self, source: Source, priority: u8)
         ensures { self.new ≡ record self.old { priorities = slice_set self.old.priorities source priority } }
     {
         self.priorities[source.number() as usize] = priority;
-        if priority > self.threshold {
-            self.above.insert(source);
-        } else {
-            self.above.remove(source);
-        }
+        self.above = sources_above(&self.priorities, self.threshold);
     }
 
     /// Sets the threshold.
@@ -311,16 +306,14 @@ impl Plic {
 }
 
 /// Returns the sources whose priority is above a threshold.
-#[tactic(auto, using(crate::proofs::AboveThreshold::collection))]
+#[tactic(auto, using(crate::proofs::Those::none_yet))]
 fn sources_above(priorities: &[u8; 32], threshold: u8) -> SourceSet
     ensures { result ≡ sources_above priorities.now threshold }
 {
     let mut above = SourceSet::new();
     for number in 1..32u8 {
-        let priority = priorities[number as usize];
-        if let Some(source) = Source::new(number)
-            && priority > threshold
-        {
+        let source = Source::of(number);
+        if priorities[source.number() as usize] > threshold {
             above.insert(source);
         }
     }

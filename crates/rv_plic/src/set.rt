@@ -1,5 +1,5 @@
 //! Sets of sources.
-ghost use Rattle.std.specs.Prelude.{◌≡◌, ◌<◌, ◌≤◌, ◌↔◌, ℕ, false, IsTrue, IsFalse, if◌then◌else◌};
+ghost use Rattle.std.specs.Prelude.{◌≡◌, ◌<◌, ◌↔◌, IsTrue, if◌then◌else◌};
 ghost use Rattle.std.specs.FinSet as set;
 ghost use Rattle.rv_plic.specs.Sources.{sources_of, word_of};
 
@@ -68,14 +68,6 @@ impl SourceSet {
         ensures range { IsTrue result → (0 < number) × (number < 32) }
     {
         number < 32 && (self.word >> number) & 1 == 1
-    }
-
-    /// Returns whether the set has any of the sources 24 to 31, which are triggered by edges.
-    #[tactic(auto, using(crate::proofs::AskingSources::none_from, crate::proofs::AskingSources::below_24))]
-    pub fn has_edge_triggered(&self) -> bool
-        ensures { IsFalse result ↔ ((q : ℕ) → 24 ≤ q → set.contains self.now q ≡ false) }
-    {
-        self.word >> 24 != 0
     }
 
     /// Returns the source with number `number`, if the set has it.

@@ -28,10 +28,18 @@ impl Source {
         ensures value { IfSome result (λ s. s ≡ number) }
     {
         if number > 0 && number < 32 {
-            Some(Source { number })
+            Some(Source::of(number))
         } else {
             None
         }
+    }
+
+    /// Returns the source with a number from 1 to 31.
+    pub(crate) fn of(number: u8) -> Source
+        requires { (0 < number) × (number < 32) }
+        ensures { result ≡ number }
+    {
+        Source { number }
     }
 
     /// Returns the source's number.

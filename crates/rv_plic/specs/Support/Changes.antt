@@ -2,8 +2,8 @@
 -- Changes of counts of edges.
 use Rattle.std.specs.Prelude.{ℕ, ◌+◌, ◌-◌, if◌then◌else◌, [], ◌∷◌}
 use Rattle.std.specs.FinSet.{contains}
-use Rattle.rv_plic.specs.declared.gateway.Change.{Change}
-use Rattle.rv_plic.specs.declared.gateway.Change.TheVariants.{OneMore, OneLess}
+use Rattle.rv_plic.specs.declared.edges.Change.{Change}
+use Rattle.rv_plic.specs.declared.edges.Change.TheVariants.{OneMore, OneLess}
 use Rattle.rv_plic.specs.Gateways.{one_more}
 use Rattle.rv_plic.specs.Support.GatewayState.{Edges}
 use Rattle.rv_plic.specs.Sources.{Sources}

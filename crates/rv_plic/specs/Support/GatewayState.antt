@@ -45,7 +45,7 @@ gateways_with_line gateways source level =
     }
 
 -- whether a source asks for a request
-abbrev pub asks : Sources → Edges → ℕ → Bool
+unfoldable pub asks : Sources → Edges → ℕ → Bool
 asks high edges source = if is_by_edge source then nat_lt 0 (edges_of edges source) else contains high source
 
 -- the sources with a request to forward, where those of a set are pending
