@@ -37,13 +37,13 @@ impl Drop for PagedRam {
 
 impl Model for PagedRam {
     ghost use Rattle.rv_ram.specs.Pages.{PagedBytes};
-    ghost use Rattle.rv_ram.specs.Support.Table.{all_bytes, made_of, pages_in, IsPaged};
+    ghost use Rattle.rv_ram.specs.Support.Table.{bytes_in, made_in, IsPaged};
 
     ghost Value = { PagedBytes };
 
     ghost view = { λ m. record {
-      bytes = all_bytes (pages_in m.block.items m.biases.items);
-      made = made_of (pages_in m.block.items m.biases.items);
+      bytes = bytes_in m.block.items m.biases.items;
+      made = made_in m.biases.items;
     } };
 
     ghost invariant = { λ m. IsPaged m.block.items m.biases.items };
@@ -157,7 +157,7 @@ impl PagedRam {
 
     /// Writes the low bytes of a value in a page that exists.
     #[inline(always)]
-    #[tactic(auto, using(crate::proofs::Put::length_put, crate::proofs::Blocks::index_in, crate::proofs::Blocks::range_in, crate::proofs::Blocks::range_at, crate::proofs::Blocks::bytes_put, crate::proofs::Blocks::made_put, crate::proofs::Blocks::paged_put))]
+    #[tactic(auto, using(crate::proofs::Put::length_put, crate::proofs::Blocks::index_in, crate::proofs::Blocks::range_in, crate::proofs::Blocks::range_at, crate::proofs::Blocks::bytes_put, crate::proofs::Blocks::paged_put))]
     fn put(&mut self, off: u32, width: Width, value: u32)
         requires in_range { off + bytes_of width ≤ length self.old.bytes }
         requires aligned { off % bytes_of width ≡ 0 }
