@@ -40,6 +40,16 @@ module _ (ends : ℕ → Option End) where
   over_or_all zero h = absurd (omega (arith, h))
   over_or_all (suc m) h = search (rules, arith, over_or_all m, false≢true)
 
+  -- a run isn't over before the steps that it takes
+  pub none_before : (m : ℕ) → NoneEnds ends (steps_of ends m)
+  unfolding steps_of
+  none_before zero i l = absurd (omega (arith, l))
+  none_before (suc m) i l = search (rules, arith, none_before m, cases_lt)
+
+  -- one that isn't over before k steps takes them, if it is over after them or they are all
+  pub as_far : (k most : ℕ) → k ≤ most → NoneEnds ends k → (is_some (ends k) ≡ false → k ≡ most) → steps_of ends most ≡ k
+  as_far k most within none last = search (rules, arith, over_at, all_steps)
+
   -- a run of more steps goes on where one of fewer ends
   pub joins_over : (n k : ℕ) → is_some (ends (steps_of ends n)) ≡ true → steps_of ends (n + k) ≡ steps_of ends n
   unfolding steps_of

@@ -1,6 +1,5 @@
 pub mod Stands
 pub mod Running
-pub mod Replays
 pub mod Keeping
 pub mod Counting
 pub mod Taken

@@ -1,5 +1,5 @@
 -- What the calls of a session leave is a recording as well.
-use Rattle.std.proofs.Common.{rules, ◌≡◌, ℕ, ◌-◌, ◌*◌, ◌≤◌, true, List, [], ◌∷◌, refl, sym, ap, subst, arith}
+use Rattle.std.proofs.Common.{rules, ◌≡◌, ◌∙◌, ℕ, ◌-◌, ◌*◌, ◌≤◌, true, List, [], ◌∷◌, refl, sym, ap, subst, arith}
 use Rattle.std.specs.FinSet as set
 use Rattle.std.proofs.lemmas.Bool.{and_parts}
 use Rattle.std.specs.Prelude.{nat_le, is_none, Option, Some, None, Result, Ok, Err, OnOk, OnErr, OnOk}
@@ -18,13 +18,13 @@ use Rattle.rv_commands.specs.declared.command.Command.{Command}
 use Rattle.rv_monitor.specs.Commands.{Leaves, LeavesRefused}
 use Rattle.rv_monitor.specs.Events.{events_of}
 use Rattle.rv_monitor.specs.Laws.{IsReached}
-use Rattle.rv_monitor.specs.Resumed.{resumed_at}
+use Rattle.rv_monitor.specs.Resumed.{resumed, resumed_at}
 use Rattle.rv_monitor.specs.State.{Addresses, SessionState, TimedState, begun, after, with_due, given, with_break, without_break}
 use Rattle.rv_monitor.specs.Stops.{Took, WasRefused, TakesStep}
 use Rattle.rv_monitor.specs.declared.stop.Stop.{Stop}
 use Rattle.rv_monitor.proofs.Reached.{given_stands, reached_steps, resumed_back, begun_stands, stopped_stands, refused_stands, step_stands, due_stands}
 use Rattle.rv_monitor.specs.Opening.{Opens}
-use Rattle.rv_recording.specs.Recording.{RecordingState, gone_back}
+use Rattle.rv_recording.specs.Recording.{RecordingState, first_board, gone_back}
 use Rattle.rv_recording.specs.Support.Recorded.{IsRecorded}
 use Rattle.rv_recording.specs.Support.Kept.{KeptBoard, AreKept, AreWithin}
 use Rattle.rv_recording.proofs.Keeping.{kept_with}
@@ -43,6 +43,17 @@ pub opened_is : (program : Assembly) (text : List ℕ) (pages slots : ℕ) (s : 
     → Opens program text pages slots 9999999999 (Ok s) → HasSteps s.timed.inputs
     → (ks : List KeptBoard) → ks ≡ [] → Stands s pages slots ks
 opened_is program text pages slots s opens small ks none = search (rules, arith, begun_stands, rising)
+
+-- ---- a session that takes recorded steps again
+
+pub replayed : (r : RecordingState) (old new : SessionState) (board : BoardState) (k n m : ℕ) → m ≡ n - k
+    → IsReached (first_board r) r.session.timed → old.timed.inputs ≡ r.session.timed.inputs
+    → board ≡ run (first_board r) (events_of r.session.timed.inputs 0 k) → k ≤ n → n ≤ r.session.timed.taken
+    → n ≤ old.limit → Took set.empty m (resumed_at old board k) new → new.timed ≡ (gone_back r n).session.timed
+replayed r old new board k n m is reached same run_is before below within t =
+    resumed_back (first_board r) r.session.timed reached board k n new.timed run_is before below t.count
+    (omega (arith, t.within, is)) (λ l. t.least (omega (arith, l, is)))
+    (ap (λ u. u.timed) t.state ∙ ap (λ (xs : List TimedInput). after (resumed board xs k) t.count) same)
 
 -- ---- what calls leave
 
@@ -83,6 +94,16 @@ module _ (s new : SessionState) (p q : ℕ) (ks : List KeptBoard) (h : Stands s 
   was_refused a n w = moved _ w.state
       (refused_stands a first s.timed h.0.reached w.count (λ i l. w.going i (omega arith))) refl
 
+  pub called : (a : Addresses) (n : ℕ) (r : Result Stop NoMemory) → OnOk r (Took a n s new)
+      → OnErr r (WasRefused a n s new) → Stands new p q ks
+  called a n r ok err = search (rules, arith, took, was_refused)
+
+  pub one_step : (r : Result (Option Outcome) NoMemory) → TakesStep s new r → Stands new p q ks
+  unfolding after with_due
+  one_step (Ok (Some outcome)) t = moved _ t.1 (step_stands _ s.timed h.0.reached (none_is _ (and_parts _ _ t.0).0)) refl
+  one_step (Ok None) t = unchanged t.1
+  one_step (Err refusal) t = moved _ t.1 (due_stands _ s.timed h.0.reached) refl
+
   -- ---- commands
 
   pub left_refused : (c : Option Command) → LeavesRefused c s new → Stands new p q ks
@@ -113,12 +134,10 @@ module _ (s new : SessionState) (p q : ℕ) (ks : List KeptBoard) (h : Stands s 
   module _ (board : BoardState) (k n : ℕ) (run_is : board ≡ run first (events_of s.timed.inputs 0 k))
       (before : k ≤ n) (below : n ≤ s.timed.taken) (within : s.timed.taken ≤ s.limit) where
     module _ (t : Took set.empty (n - k) (resumed_at s board k) new) where
-      back_is : new.timed ≡ after (begun first s.timed.inputs) n
-      back_is = resumed_back first s.timed h.0.reached board k n new.timed run_is before below t.count
-          (omega (arith, t.within)) (λ l. t.least (omega (arith, l))) (ap (λ u. u.timed) t.state)
-
       went : new ≡ record s { timed = after (begun first s.timed.inputs) n }
-      went = cc (back_is, t.state)
+      went =
+          let back_is = replayed (record { session = s; pages = p; slots = q }) s new board k n (n - k) refl h.0.reached refl
+          run_is before below (omega (arith, below, within)) t in cc (back_is, t.state)
 
       pub back_stands : Stands new p q ks
       unfolding after
@@ -131,21 +150,3 @@ module _ (s new : SessionState) (p q : ℕ) (ks : List KeptBoard) (h : Stands s 
     pub back_any : (r : Result Stop NoMemory) → OnOk r (Took set.empty (n - k) (resumed_at s board k) new)
         → OnErr r (new ≡ s) → Stands new p q ks
     back_any r ok err = search (rules, arith, back_stands, unchanged)
-
--- a state may be kept before a call
-module _ (s new : SessionState) (p q : ℕ) (before ks : List KeptBoard) (h : Stands s p q before)
-    (keep : (first : BoardState) → IsReached first s.timed → AreKept first s.timed.inputs before
-    → AreKept first s.timed.inputs ks) where
-  kept : Stands s p q ks
-  kept = (h.0, keep (board_at_reset s.program.bytes (4096 * p)) h.0.reached h.1)
-
-  pub called : (a : Addresses) (n : ℕ) (r : Result Stop NoMemory) → OnOk r (Took a n s new)
-      → OnErr r (WasRefused a n s new) → Stands new p q ks
-  called a n r ok err = search (rules, arith, took s new p q ks kept, was_refused s new p q ks kept)
-
-  pub one_step : (r : Result (Option Outcome) NoMemory) → TakesStep s new r → Stands new p q ks
-  unfolding after with_due
-  one_step (Ok (Some outcome)) t = moved s new p q ks kept _ t.1
-      (step_stands _ s.timed h.0.reached (none_is _ (and_parts _ _ t.0).0)) refl
-  one_step (Ok None) t = unchanged s new p q ks kept t.1
-  one_step (Err refusal) t = moved s new p q ks kept _ t.1 (due_stands _ s.timed h.0.reached) refl

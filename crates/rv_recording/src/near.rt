@@ -16,6 +16,7 @@ impl Recording {
     /// # Errors
     ///
     /// `NoMemory` if memory runs out.
+    #[tactic(auto, using(crate::proofs::Stands::replayed))]
     pub fn replay_near(&self, steps: u64) -> Result<(Session<PagedRam, DecodeCache>, u64), NoMemory>
         ensures within { IfOk result (λ r. r.1 ≤ steps) }
         ensures timed { IfOk result (λ r. r.0.timed ≡ (gone_back self.now r.1).session.timed) }

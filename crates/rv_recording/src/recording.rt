@@ -144,6 +144,14 @@ impl Recording {
         list_text(alloc, inputs)
     }
 
+    /// Keeps the state of the session, if one is due.
+    #[inline(always)]
+    fn keep(&mut self)
+        ensures { self.new ≡ self.old }
+    {
+        self.kept.keep(self.alloc, &self.session);
+    }
+
     /// Takes `n` steps, as [`Session::step`] does.
     ///
     /// # Errors
@@ -156,7 +164,7 @@ impl Recording {
         ensures room { OnErr result (NextWantsRoom ⟦<PagedRam as ByteMemory>⟧.wants_room self.new.session) }
         ensures others { self.new ≡ record self.old { session = self.new.session } }
     {
-        self.kept.keep(self.alloc, &self.session);
+        self.keep();
         self.session.step(n)
     }
 
@@ -175,7 +183,7 @@ impl Recording {
         ensures room { OnErr result (NextWantsRoom ⟦<PagedRam as ByteMemory>⟧.wants_room self.new.session) }
         ensures others { self.new ≡ record self.old { session = self.new.session } }
     {
-        self.kept.keep(self.alloc, &self.session);
+        self.keep();
         self.session.go(n)
     }
 
@@ -189,7 +197,7 @@ impl Recording {
         ensures room { OnErr result (NextWantsRoom ⟦<PagedRam as ByteMemory>⟧.wants_room self.new.session) }
         ensures others { self.new ≡ record self.old { session = self.new.session } }
     {
-        self.kept.keep(self.alloc, &self.session);
+        self.keep();
         self.session.take_step()
     }
 
@@ -258,6 +266,7 @@ impl Recording {
     /// # Errors
     ///
     /// `NoMemory` if memory runs out.
+    #[tactic(auto, using(crate::proofs::Stands::replayed))]
     pub fn replay(&self, steps: u64) -> Result<Session<PagedRam, DecodeCache>, NoMemory>
         ensures timed { IfOk result (λ s. s.timed
             ≡ (gone_back self.now (min steps self.now.session.timed.taken)).session.timed) }
@@ -282,6 +291,7 @@ impl Recording {
     pub fn begun_again(&self, limit: u64) -> Result<Session<PagedRam, DecodeCache>, NoMemory>
         ensures timed { IfOk result (λ s. s.timed ≡ begun (first_board self.now) self.now.session.timed.inputs) }
         ensures inputs { IfOk result (λ s. s.timed.inputs ≡ self.now.session.timed.inputs) }
+        ensures reached { IfOk result (λ _. IsReached (first_board self.now) self.now.session.timed) }
         ensures limit { IfOk result (λ s. s.limit ≡ limit) }
     {
         let text = self.inputs_text(self.alloc)?;
