@@ -14,11 +14,11 @@ use Rattle.rv_recording.specs.Recording.{RecordingState, first_board, gone_back,
 use Rattle.rv_recording.specs.Refused.{NoneEnds}
 use Rattle.rv_recording.specs.Until.{HasRun, steps_of}
 use Rattle.rv_recording.specs.declared.until.End.{End}
-use Rattle.rv_recording.proofs.Counting.{steps_within, takes_more}
-use Rattle.rv_moves.proofs.Ends.{first_none, goes, going, left_of, none_before}
+use Rattle.rv_recording.proofs.Counting.{none_before, steps_within, takes_more}
+use Rattle.rv_moves.proofs.Ends.{first_none, goes, going, left_of}
 use Rattle.rv_moves.specs.Back.{first_state, last_stop, left_by, taken}
 use Rattle.rv_moves.specs.Runs.{run_ends}
-use Rattle.rv_moves.specs.Support.Looking.{Looked, or_else}
+use Rattle.rv_moves.specs.Support.Looking.{Looked, WentBack, or_else}
 use Rattle.rv_moves.specs.Watches.{met}
 use Rattle.rv_moves.specs.declared.back.Back.{Back}
 use Rattle.rv_moves.specs.declared.forward.Aim.TheVariants.{Stop}
@@ -30,35 +30,26 @@ pub taken_at : (r : RecordingState) (n : ℕ) → taken (gone_back r n) ≡ n
 unfolding after
 taken_at r n = omega arith
 
--- one that goes back from where another does
+-- one that goes back from where another does, and stops there
 pub record Same (old now : RecordingState) : Type 0 where
   pub back : (n : ℕ) → gone_back now n ≡ gone_back old n
+  pub stop : (ws : List Watch) (n : ℕ) → last_stop ws now.session.breakpoints.addresses (first_state now) n
+      ≡ last_stop ws old.session.breakpoints.addresses (first_state old) n
 
 same_back : {r now : RecordingState} (k : ℕ) → now ≡ gone_back r k → Same r now
 unfolding after
-same_back k is = record { back = λ n. rw is refl }
+same_back k is = record { back = λ n. rw is refl; stop = λ ws n. rw is refl }
 
-module _ {old now : RecordingState} (s : Same old now) where
-  first_same : first_state now ≡ first_state old
-  unfolding after
-  first_same = ap first_state (s.back 0)
-
-  breaks_same : now.session.breakpoints.addresses ≡ old.session.breakpoints.addresses
-  breaks_same = ap (λ (r : RecordingState). r.session.breakpoints.addresses) (s.back 0)
-
-  pub limit_same : now.session.limit ≡ old.session.limit
-  limit_same = ap (λ (r : RecordingState). r.session.limit) (s.back 0)
-
-  pub running_same : (to : ℕ) → ((i : ℕ) → i < to → halted_of (after (first_state old) i).board ≡ None)
-      → (i : ℕ) → i < to → halted_of (after (first_state now) i).board ≡ None
-  running_same to runs i l = rw first_same (runs i l)
+pub went_back : (r : RecordingState) {now : RecordingState} {to : ℕ} (k : ℕ) → now ≡ gone_back r k
+    → ((i : ℕ) → i < to → halted_of (after (first_state r) i).board ≡ None) → to ≤ r.session.limit → WentBack to now
+unfolding after
+went_back r k is running room =
+    rw is (record { at = ap (gone_back r) (sym (taken_at r k)); running = running; room = room })
 
 -- ---- a look
 
 module _ (ws : List Watch) (to : ℕ) {old : RecordingState} (reached : IsReached (first_board old) old.session.timed)
-    (at : old ≡ gone_back old (taken old)) (below : taken old < to)
-    (running : (i : ℕ) → i < to → halted_of (after (first_state old) i).board ≡ None)
-    (room : to ≤ old.session.limit) where
+    (back : WentBack to old) (below : taken old < to) where
   abbrev first : TimedState
   first = first_state old
 
@@ -69,23 +60,21 @@ module _ (ws : List Watch) (to : ℕ) {old : RecordingState} (reached : IsReache
   n = taken old
 
   here : old.session.timed ≡ after first n
-  here = ap (λ (r : RecordingState). r.session.timed) at
+  here = ap (λ (r : RecordingState). r.session.timed) back.at
 
   later : (k : ℕ) → after old.session.timed k ≡ after first (n + k)
   later k = search (rules, arith, here, after_more, in_time, begun_stands)
 
-  pub moved : (new : RecordingState) (k : ℕ) → new ≡ with_timed old (after old.session.timed k)
-      → new ≡ gone_back old (n + k)
-  moved new k e = e ∙ ap (with_timed old) (later k)
-
-  taken_then : (new : RecordingState) (k : ℕ) → new ≡ gone_back old (n + k) → taken new ≡ n + k
-  taken_then new k e = ap taken e ∙ taken_at old (n + k)
-
   -- the steps taken are looked at
-  looked : (new : RecordingState) (k : ℕ) (found : Option Back) → new ≡ gone_back old (n + k) → n + k ≤ to
-      → last_stop ws br first (n + k) ≡ or_else found (last_stop ws br first n) → IfSome found (λ b. b.steps ≤ n + k)
-      → Looked ws to old new found
-  looked new k found e within last earlier = search (rules, arith, taken_then)
+  looked : (new : RecordingState) (k : ℕ) (found : Option Back) → new ≡ with_timed old (after old.session.timed k) → 0 < k
+      → n + k ≤ to → last_stop ws br first (n + k) ≡ or_else found (last_stop ws br first n)
+      → IfSome found (λ b. b.steps ≤ n + k) → Looked ws to old n new found × (n < taken new)
+  looked new k found e some within last earlier =
+      let state : new ≡ gone_back old (n + k) = e ∙ ap (with_timed old) (later k) in
+      let count : taken new ≡ n + k = ap taken state ∙ taken_at old (n + k) in (
+        record { state = state ∙ ap (gone_back old) (sym count); within = rw count within; last = rw count last; earlier = rw count earlier },
+        omega (arith, count, some),
+      )
 
   -- a step
   stepped_one : (new : RecordingState) (o : Option Outcome) → TakesStep old.session new.session (Ok o)
@@ -95,15 +84,11 @@ module _ (ws : List Watch) (to : ℕ) {old : RecordingState} (reached : IsReache
   -- one that meets a watch
   pub met_one : {new : RecordingState} {w : Watch} (o : Option Outcome) → TakesStep old.session new.session (Ok o)
       → new ≡ record old { session = new.session } → Some w ≡ met ws old.session.timed.board → (m : ℕ) → m ≡ taken old
-      → Looked ws to old new (Some (record { steps = m + 1; watch = Some w })) × (taken old < taken new)
+      → Looked ws to old n new (Some (record { steps = m + 1; watch = Some w })) × (n < taken new)
   unfolding last_stop
   met_one {new} {w} o t others is m same =
-      let state = moved new 1 (stepped_one new o t others) in
-      let found : last_stop ws br first (n + 1) ≡ Some (record { steps = m + 1; watch = Some w }) =
-      rw (same, add-one, ← here, ← is) refl in (
-        looked new 1 _ state (omega (arith, below)) found (omega (arith, same)),
-        omega (arith, taken_then new 1 state),
-      )
+      looked new 1 _ (stepped_one new o t others) (omega arith) (omega (arith, below)) (rw (same, add-one, ← here, ← is) refl)
+      (omega (arith, same))
 
   -- a run up to the next stop
   module _ {new : RecordingState} {most : ℕ} {end : End} (is : most ≡ to - n)
@@ -142,47 +127,39 @@ module _ (ws : List Watch) (to : ℕ) {old : RecordingState} (reached : IsReache
     last_is b e = let one : count ≡ suc (count - 1) = omega (arith, some_steps) in
         rw one (quiet b e (count - 1) (rw one at (none_before ends most)))
 
-    after_run : new ≡ gone_back old (n + count)
-    after_run = moved new count (others ∙ ap (λ (s : SessionState). record old { session = s }) ran.state)
-
-    few_steps : n + count ≤ to
-    few_steps = omega (arith, steps_within ends most, is, below)
-
-    further : taken old < taken new
-    further = omega (arith, taken_then new count after_run, some_steps)
+    seen : (found : Option Back) → last_stop ws br first (n + count) ≡ or_else found (last_stop ws br first n)
+        → IfSome found (λ b. b.steps ≤ n + count) → Looked ws to old n new found × (n < taken new)
+    seen found = looked new count found (others ∙ ap (λ (s : SessionState). record old { session = s }) ran.state) some_steps
+        (omega (arith, steps_within ends most, is, below))
 
     pub ran_on : (b : Bool) → b ≡ set.contains br old.session.timed.board.machine.pc → (m : ℕ) → m ≡ taken old
-        → Looked ws to old new (if b then Some (record { steps = m; watch = None }) else None) × (taken old < taken new)
-    ran_on true e m same =
-        (looked new count _ after_run few_steps (rw same (last_is true e)) (omega (arith, same)), further)
-    ran_on false e m same = (looked new count None after_run few_steps (last_is false e) tt, further)
+        → Looked ws to old n new (if b then Some (record { steps = m; watch = None }) else None) × (n < taken new)
+    ran_on true e m same = seen _ (rw same (last_is true e)) (omega (arith, same))
+    ran_on false e m same = seen None (last_is false e) tt
 
 -- ---- looks, one after another
 
-module _ {ws : List Watch} {to : ℕ} {old mid : RecordingState} {found : Option Back}
-    (l : Looked ws to old mid found) where
-  pub same_mid : Same old mid
-  same_mid = same_back (taken mid) l.state
+pub looked_none : (ws : List Watch) {old now : RecordingState} {to : ℕ} (from : ℕ) → from ≤ to → to ≤ taken old
+    → now ≡ gone_back old (min from (taken old)) → Looked ws to old from now None
+looked_none ws {old} {now} from less within went =
+    let least : min from (taken old) ≡ from = omega (arith, less, within) in
+    let state : now ≡ gone_back old from = rw least at went in
+    let count : taken now ≡ from = ap taken state ∙ taken_at old from in
+    record { state = state ∙ ap (gone_back old) (sym count); within = rw count less; last = rw count refl; earlier = tt }
 
-  pub stands_mid : mid ≡ gone_back mid (taken mid)
-  stands_mid = l.state ∙ sym (same_mid.back (taken mid))
+module _ {ws : List Watch} {to from : ℕ} {old mid : RecordingState} {found : Option Back}
+    (l : Looked ws to old from mid found) where
+  same : Same old mid
+  same = same_back (taken mid) l.state
 
-  module _ {new : RecordingState} {o : Option Back} (h : Looked ws to mid new o) where
-    state_on : new ≡ gone_back old (taken new)
-    state_on = h.state ∙ same_mid.back (taken new)
+  pub looks_some : {new : RecordingState} {b : Back} → Looked ws to mid (taken mid) new (Some b) → Looked ws to old from new (Some b)
+  looks_some h = search (rules, arith, same.back, same.stop)
 
-    last_on : last_stop ws old.session.breakpoints.addresses (first_state old) (taken new)
-        ≡ or_else o (last_stop ws old.session.breakpoints.addresses (first_state old) (taken mid))
-    last_on = rw (breaks_same same_mid, first_same same_mid) at h.last
-
-  pub looks_some : {new : RecordingState} {b : Back} → Looked ws to mid new (Some b) → Looked ws to old new (Some b)
-  looks_some h = search (rules, arith, state_on, last_on)
-
-  pub looks_on : {new : RecordingState} → taken mid < taken new → Looked ws to mid new None → Looked ws to old new found
-  looks_on {new} less h = record {
-    state = state_on h;
+  pub looks_on : {new : RecordingState} → Looked ws to mid (taken mid) new None → taken mid < taken new → Looked ws to old from new found
+  looks_on {new} h less = record {
+    state = h.state ∙ same.back (taken new);
     within = h.within;
-    last = last_on h ∙ l.last;
+    last = sym (same.stop ws (taken new)) ∙ (h.last ∙ (same.stop ws (taken mid) ∙ l.last));
     earlier = by found l.earlier;
   }
     where
@@ -193,56 +170,30 @@ module _ {ws : List Watch} {to : ℕ} {old mid : RecordingState} {found : Option
 
 -- what is left to be looked at: the first `high` steps
 pub record Backed (ws : List Watch) (old now : RecordingState) (high : ℕ) : Type 0 where
-  pub same : Same old now
+  pub back : (n : ℕ) → gone_back now n ≡ gone_back old n
   pub within : high ≤ taken now
-  pub earlier : high ≤ taken old
   pub last : last_stop ws old.session.breakpoints.addresses (first_state old) (taken old)
-      ≡ last_stop ws old.session.breakpoints.addresses (first_state old) high
+      ≡ last_stop ws now.session.breakpoints.addresses (first_state now) high
 
 module _ {ws : List Watch} {old now : RecordingState} {high : ℕ} (b : Backed ws old now high) where
-  module _ {low_at : RecordingState} (low : ℕ) (less : low ≤ high)
-      (went : low_at ≡ gone_back now (min low (taken now))) where
-    least : min low (taken now) ≡ low
-    least = omega (arith, less, b.within)
+  module _ {new : RecordingState} {low : ℕ} {found : Option Back} (l : Looked ws high now low new found) where
+    same_new : Same now new
+    same_new = same_back (taken new) l.state
 
-    at_low : low_at ≡ gone_back old low
-    at_low = went ∙ (ap (gone_back now) least ∙ b.same.back low)
+    pub backs_on : found ≡ None → taken new ≡ high → low ≤ high → Backed ws old new low
+    backs_on none all less = record {
+      back = λ n. same_new.back n ∙ b.back n;
+      within = omega (arith, all, less);
+      last = b.last ∙ (rw (all, none) at l.last ∙ sym (same_new.stop ws low));
+    }
 
-    taken_low : taken low_at ≡ low
-    taken_low = ap taken at_low ∙ taken_at old low
-
-    pub same_low : Same old low_at
-    same_low = same_back low at_low
-
-    pub stands_low : low_at ≡ gone_back low_at (taken low_at)
-    stands_low = at_low ∙ (sym (same_low.back low) ∙ ap (gone_back low_at) (sym taken_low))
-
-    pub below_high : taken low_at ≤ high
-    below_high = omega (arith, taken_low, less)
-
-    module _ {new : RecordingState} {found : Option Back} (l : Looked ws high low_at new found)
-        (all : taken new ≡ high) where
-      same_new : Same old new
-      same_new = same_back (taken new) (l.state ∙ same_low.back (taken new))
-
-      last_high : last_stop ws old.session.breakpoints.addresses (first_state old) high
-          ≡ or_else found (last_stop ws old.session.breakpoints.addresses (first_state old) low)
-      last_high = rw (all, breaks_same same_low, first_same same_low, taken_low) at l.last
-
-      pub backs_on : found ≡ None → Backed ws old new low
-      backs_on none = search (rules, arith, same_new, last_high)
-
-      pub found_is : {stop : Back} → found ≡ Some stop
-          → Some stop ≡ last_stop ws old.session.breakpoints.addresses (first_state old) (taken old)
-      found_is e = search (rules, arith, last_high)
-
-      pub goes_to : {last : RecordingState} (stop : Back) → found ≡ Some stop
-          → last ≡ gone_back new (min stop.steps (taken new)) → last ≡ gone_back old (left_by (Some stop))
-      goes_to stop e back = search (rules, arith, same_new.back)
+    pub goes_to : {last : RecordingState} {stop : Back} → found ≡ Some stop
+        → last ≡ gone_back new (min stop.steps (taken new)) → last ≡ gone_back old (left_by (Some stop))
+    goes_to e back = search (rules, arith, same_new.back, b.back)
 
   pub backs_none : high ≡ 0 → None ≡ last_stop ws old.session.breakpoints.addresses (first_state old) (taken old)
   unfolding last_stop
   backs_none e = search (rules, arith)
 
   pub goes_first : {new : RecordingState} → new ≡ gone_back now (min 0 (taken now)) → new ≡ gone_back old 0
-  goes_first e = search (rules, arith, least, b.same.back)
+  goes_first e = search (rules, arith, b.back)

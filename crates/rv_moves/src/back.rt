@@ -1,12 +1,10 @@
 //! Runs back.
-ghost use Rattle.std.specs.Prelude.{◌≡◌, ◌<◌, ◌≤◌, ℕ, IfOk, None, OnOk};
-ghost use Rattle.rv_board.specs.Support.State.{halted_of};
-ghost use Rattle.rv_monitor.specs.State.{after};
+ghost use Rattle.std.specs.Prelude.{◌≡◌, ◌<◌, ◌≤◌, IfOk, OnOk};
 ghost use Rattle.rv_recording.specs.Recording.{gone_back};
 ghost use Rattle.rv_recording.specs.Until.{HasRun};
 ghost use Rattle.rv_moves.specs.Back.{first_state, last_stop, left_by, taken};
 ghost use Rattle.rv_moves.specs.Runs.{run_ends};
-ghost use Rattle.rv_moves.specs.Support.Looking.{Looked};
+ghost use Rattle.rv_moves.specs.Support.Looking.{Looked, WentBack};
 ghost use Rattle.rv_moves.specs.declared.forward.Aim.TheVariants.{Stop};
 
 use crate::forward::{Aim, run};
@@ -45,12 +43,10 @@ pub fn run_to_stop(recording: &mut Recording, watches: &Watches, most: u64) -> R
 /// Looks at the next step, and at those after it up to the next stop, but at none after the first `to`, and returns the
 /// last stop among them. The recording has taken them then.
 fn look(recording: &mut Recording, watches: &Watches, to: u64) -> Result<Option<Back>, NoMemory>
-    requires at { recording.old ≡ gone_back recording.old (taken recording.old) }
+    requires back { WentBack to recording.old }
     requires below { taken recording.old < to }
-    requires running { (i : ℕ) → i < to → halted_of (after (first_state recording.old) i).board ≡ None }
-    requires room { to ≤ recording.old.session.limit }
-    ensures looked { IfOk result (Looked watches.now to recording.old recording.new) }
-    ensures more { OnOk result (taken recording.old < taken recording.new) }
+    ensures { IfOk result (λ found. Looked watches.now to recording.old (taken recording.old) recording.new found
+        × (taken recording.old < taken recording.new)) }
 {
     let here = recording.steps();
     let session = recording.session();
@@ -72,15 +68,22 @@ fn look(recording: &mut Recording, watches: &Watches, to: u64) -> Result<Option<
     Ok(None)
 }
 
-/// Takes the steps up to the first `to`, and returns the last stop among them.
-fn look_on(recording: &mut Recording, watches: &Watches, to: u64) -> Result<Option<Back>, NoMemory>
-    requires at { recording.old ≡ gone_back recording.old (taken recording.old) }
-    requires below { taken recording.old ≤ to }
-    requires running { (i : ℕ) → i < to → halted_of (after (first_state recording.old) i).board ≡ None }
-    requires room { to ≤ recording.old.session.limit }
-    ensures looked { IfOk result (Looked watches.now to recording.old recording.new) }
+/// Goes back to after the first `from` steps, takes those up to the first `to` again, and returns the last stop among
+/// them.
+fn look_from(
+    recording: &mut Recording,
+    watches: &Watches,
+    from: u64,
+    to: u64,
+) -> Result<Option<Back>, NoMemory>
+    requires below { from ≤ to }
+    requires within { to ≤ taken recording.old }
+    ensures looked { IfOk result (Looked watches.now to recording.old from recording.new) }
     ensures all { OnOk result (taken recording.new ≡ to) }
 {
+    // It tells that all of these steps may be taken again.
+    let _taken = recording.session().taken();
+    recording.go_back(from)?;
     let mut found = None;
     while recording.steps() < to {
         if let Some(stop) = look(recording, watches, to)? {
@@ -106,8 +109,7 @@ pub fn run_back(recording: &mut Recording, watches: &Watches) -> Result<Option<B
     let mut width: u64 = 1000;
     while high > 0 {
         let low = high.saturating_sub(width);
-        recording.go_back(low)?;
-        if let Some(stop) = look_on(recording, watches, high)? {
+        if let Some(stop) = look_from(recording, watches, low, high)? {
             recording.go_back(stop.steps)?;
             return Ok(Some(stop));
         }
