@@ -1,14 +1,13 @@
 -- Runs, step by step.
-use Rattle.std.proofs.Common.{rules, ◌≡◌, ◌∙◌, ℕ, suc, ◌+◌, ◌<◌, ◌==◌, Bool, true, false, sym, ap, arith, inl}
-use Rattle.std.proofs.Math.Numerals.{add-one}
-use Rattle.std.specs.Prelude.{◌||◌, is_some, List, Option, Some, None}
+use Rattle.std.proofs.Common.{rules, ◌≡◌, ◌∙◌, ℕ, suc, ◌+◌, ◌<◌, ◌==◌, Bool, true, false, ap, arith, inl}
+use Rattle.std.specs.Prelude.{◌||◌, is_some, List, Ok, Option, Some, None}
 use Rattle.rv_monitor.specs.State.{IsInTime, after}
 use Rattle.rv_monitor.specs.Stops.{may_step, steps_between}
 use Rattle.rv_monitor.proofs.Steps.{after_none}
 use Rattle.rv_recording.specs.Out.{open_at, out_ends}
 use Rattle.rv_recording.specs.Recording.{RecordingState, with_timed}
 use Rattle.rv_recording.specs.Until.{HasRun}
-use Rattle.rv_recording.specs.Support.Steps.{end_after, next_of}
+use Rattle.rv_recording.specs.Support.Steps.{TakesOne, end_after, next_of}
 use Rattle.rv_recording.specs.declared.until.End.{End}
 use Rattle.rv_recording.proofs.Counting.{all_steps}
 use Rattle.rv_recording.proofs.Running.{Going, above_none, ended, goes_on, one_more, over_before, taken_is}
@@ -35,17 +34,13 @@ one_out calls old new end in_time may ran others = search (rules, arith, after_n
 
 -- ---- steps
 
--- n steps were taken, after none of which the run was over, and so many handlers and calls are open
-pub record Advanced (ws : List Watch) (aim : Aim) (first : ℕ) (old now : RecordingState) (calls n : ℕ) : Type 0 where
-  pub going : Going (run_ends ws aim first old.session) old now n
-  pub number : calls ≡ open_in first old.session.timed n
-
 module _ (ws : List Watch) (aim : Aim) (first : ℕ) (old : RecordingState) (in_time : IsInTime old.session.timed) where
   before_is : end_here ws aim first false old.session ≡ run_ends ws aim first old.session 0
   unfolding open_in
   before_is = search (rules, arith, after_none)
 
-  pub begins : end_here ws aim first false old.session ≡ None → Advanced ws aim first old old first 0
+  pub begins : end_here ws aim first false old.session ≡ None
+      → Going (run_ends ws aim first old.session) (open_in first old.session.timed) old old first 0
   unfolding open_in
   begins e = search (rules, arith, before_is, going, after_none, first_none)
 
@@ -53,8 +48,8 @@ module _ (ws : List Watch) (aim : Aim) (first : ℕ) (old : RecordingState) (in_
       → HasRun (run_ends ws aim first old.session) most old.session old.session end
   over e = over_before old in_time before_is e
 
-module _ {ws : List Watch} {aim : Aim} {first : ℕ} {old now : RecordingState} {calls n : ℕ}
-    (at : Advanced ws aim first old now calls n) where
+module _ (ws : List Watch) (aim : Aim) (first : ℕ) {old now : RecordingState} {calls n : ℕ}
+    (g : Going (run_ends ws aim first old.session) (open_in first old.session.timed) old now calls n) where
   -- a step more
   module _ {new : RecordingState} {left : ℕ} (state : new ≡ with_timed now (after now.session.timed 1))
       (count : left ≡ step_open calls now.session.timed) where
@@ -66,24 +61,19 @@ module _ {ws : List Watch} {aim : Aim} {first : ℕ} {old now : RecordingState} 
     is_reached = is_some (met ws (next_of now.session).timed.board) || reached aim left (next_of now.session).timed.board
 
     end_is : end_after is_reached (next_of now.session) ≡ run_ends ws aim first old.session (suc n)
-    end_is = let stands = one_more at.going state in search (rules, arith, number_suc, above_none)
+    end_is = let stands = one_more g state in search (rules, arith, number_suc, above_none)
 
-    told : {o : Option End} → o ≡ end_here ws aim left true new.session → o ≡ end_after is_reached (next_of now.session)
-    told e = e ∙ ap (λ (r : RecordingState). end_here ws aim left true r.session) state
+    takes : {o : Option End} → o ≡ end_here ws aim left true new.session
+        → TakesOne (end_after is_reached (next_of now.session)) now new (Ok o)
+    takes e = inl (state, e ∙ ap (λ (r : RecordingState). end_here ws aim left true r.session) state)
 
-    pub advances : None ≡ end_here ws aim left true new.session → Advanced ws aim first old new left (n + 1)
-    advances e = record {
-      going = goes_on at.going is_reached end_is (inl (state, told e));
-      number = number_suc ∙ ap (open_in first old.session.timed) (sym (add-one n));
-    }
+    pub advances : None ≡ end_here ws aim left true new.session
+        → Going (run_ends ws aim first old.session) (open_in first old.session.timed) old new left (n + 1)
+    advances e = goes_on g is_reached end_is number_suc (takes e)
 
     pub ends_run : {most : ℕ} {end : End} → n < most → Some end ≡ end_here ws aim left true new.session
         → HasRun (run_ends ws aim first old.session) most old.session new.session end
-    ends_run less e = ended at.going end_is less (inl (state, told e))
+    ends_run less e = ended g end_is less (takes e)
 
-    pub number_ended : left ≡ open_in first old.session.timed (steps_between old.session.timed new.session.timed)
-    number_ended =
-        number_suc ∙ ap (open_in first old.session.timed) (taken_is old new (suc n) (one_more at.going state))
-
-  pub number_limit : calls ≡ open_in first old.session.timed (steps_between old.session.timed now.session.timed)
-  number_limit = search (rules, arith, taken_is, going)
+    pub number_after : left ≡ open_in first old.session.timed (steps_between old.session.timed new.session.timed)
+    number_after = number_suc ∙ ap (open_in first old.session.timed) (taken_is old new (suc n) (one_more g state))

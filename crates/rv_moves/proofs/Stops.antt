@@ -15,8 +15,7 @@ use Rattle.rv_moves.specs.declared.watch.Watch.{Watch}
 pub unmet : (ws : List Watch) (b : BoardState) → are_none ws ≡ true → met ws b ≡ None
 unmet ws b e = search (rules, arith)
 
-module _ (ws : List Watch) (none : are_none ws ≡ true) (old : SessionState) where
-  pub no_watches : (r : Result End NoMemory) (most : ℕ) (new : SessionState)
-      → IfOk r (HasRun (break_ends old) most old new) → IfOk r (HasRun (run_ends ws Stop 0 old) most old new)
-  no_watches (Ok end) most new h = search (rules, arith, same_steps, unmet)
-  no_watches (Err why) most new h = tt
+pub no_watches : (ws : List Watch) → are_none ws ≡ true → (old : SessionState) (r : Result End NoMemory) (most : ℕ)
+    (new : SessionState) → IfOk r (HasRun (break_ends old) most old new) → IfOk r (HasRun (run_ends ws Stop 0 old) most old new)
+no_watches ws none old (Ok end) most new h = search (rules, arith, same_steps, unmet)
+no_watches ws none old (Err why) most new h = tt

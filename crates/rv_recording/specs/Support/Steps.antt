@@ -30,19 +30,20 @@ abbrev pub open_of_step : ℕ → TimedState → ℕ
 open_of_step calls s =
     open_after calls (step (with_due s).board.machine).1 (option_and_then means (word_at s.board s.board.machine.pc))
 
+-- the first reason that holds for a run to be over: the board has halted, the run has come to what it goes on for or to a
+-- breakpoint, or no more steps may be taken
+abbrev pub first_end : Option ℕ → (reached breaks may : Bool) → Option End
+first_end halted reached breaks may = if is_some halted then Some Halted
+    else (if reached then Some Reached else (if breaks then Some Breakpoint else (if may then None else Some Stuck)))
+
 -- why a run is over before its first step, if it is
 abbrev pub end_before : SessionState → Option End
-end_before s =
-    if is_some (halted_of s.timed.board) then Some Halted
-    else (if nat_lt s.timed.taken s.limit then None else Some Stuck)
+end_before s = first_end (halted_of s.timed.board) false false (nat_lt s.timed.taken s.limit)
 
 -- why a run is over after a step, if it is, by whether it has come to what it goes on for
 abbrev pub end_after : Bool → SessionState → Option End
-end_after reached s =
-    if is_some (halted_of s.timed.board) then Some Halted
-    else (if reached then Some Reached
-    else (if set.contains s.breakpoints.addresses (pc_of s.timed.board) then Some Breakpoint
-    else (if nat_lt s.timed.taken s.limit then None else Some Stuck)))
+end_after reached s = first_end (halted_of s.timed.board) reached
+    (set.contains s.breakpoints.addresses (pc_of s.timed.board)) (nat_lt s.timed.taken s.limit)
 
 -- a session after its next step
 abbrev pub next_of : SessionState → SessionState

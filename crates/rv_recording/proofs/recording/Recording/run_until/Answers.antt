@@ -1,4 +1,4 @@
-use Rattle.std.proofs.Common.{rules, arith}
+use Rattle.std.proofs.Common.{rules, arith, refl}
 use Rattle.rv_monitor.proofs.Reached.{in_time}
 use Rattle.rv_recording.proofs.Running.{before_is, begins, over_before, goes_on, ended, limit, refused, end_is}
 use Rattle.rv_recording.proofs.recording.Recording.run_until.Goals as goal
@@ -11,10 +11,10 @@ returns-in-Some-clause-ok c =
 pub loop-done-init : goal.loop-done-init
 loop-done-init c =
     let now = in_time _ _ c.session.ensures.reached in
-    begins now (before_is c.args.self.now.session now) (first_of (search rules, cc))
+    begins now (before_is c.args.self.now.session now) (first_of (search rules, cc)) refl
 
 pub loop-done-preserved : goal.loop-done-preserved
-loop-done-preserved c = goes_on c.loop-done.invariant _ (end_is c.args.condition c.loop-done.invariant)
+loop-done-preserved c = goes_on c.loop-done.invariant _ (end_is c.args.condition c.loop-done.invariant) refl
     (rw c.in-Ok-None.field-0-is at c.in-Ok-None.ensures.took)
 
 pub returns-in-Ok-Some-clause-ok : goal.returns-in-Ok-Some-clause-ok
