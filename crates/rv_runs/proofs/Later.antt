@@ -1,8 +1,8 @@
 -- A run from a later session on is the rest of a run.
-use Rattle.std.proofs.Common.{◌≡◌, ◌∙◌, ℕ, zero, suc, ◌+◌, Bool, true, false, List, [], ◌∷◌, refl, sym, ap, arith}
+use Rattle.std.proofs.Common.{◌≡◌, ℕ, zero, suc, ◌+◌, Bool, true, false, List, [], ◌∷◌, refl, sym, ap, arith}
 use Rattle.std.proofs.lemmas.Bool.Decides.{nat_tests}
 use native.Mathlib.Numerals.{unary_clauses}
-use Rattle.std.specs.Prelude.{◌&&◌, nat_eq, nat_lt, not, is_some, pred, if◌then◌else◌, option_and_then, Option, Some, None}
+use Rattle.std.specs.Prelude.{◌&&◌, nat_eq, nat_lt, not, is_some, pred, if◌then◌else◌, option_and_then, Option, None}
 use Rattle.std.specs.List.{list_any}
 use Rattle.std.specs.Option.{option_eq}
 use Rattle.rv_board.specs.BoardState.{BoardState}
@@ -10,10 +10,10 @@ use Rattle.rv_monitor.specs.State.{IsInTime, SessionState, TimedState, after}
 use Rattle.rv_monitor.proofs.Sets.{no_member}
 use Rattle.rv_monitor.proofs.Steps.{after_more, after_none, in_time_after}
 use Rattle.rv_recording.specs.Out.{open_at}
+use Rattle.rv_recording.specs.Support.Steps.{first_end}
 use Rattle.rv_recording.specs.Until.{comes, watched_value}
 use Rattle.rv_recording.specs.declared.until.Condition.{Condition}
 use Rattle.rv_recording.specs.declared.until.End.{End}
-use Rattle.rv_recording.specs.declared.until.End.TheVariants.{Breakpoint, Halted, Reached, Stuck}
 use Rattle.rv_recording.specs.declared.until.Watched.{Watched}
 use Rattle.rv_runs.specs.Ends.{Stops, goal_after, guarded_ends, guards_after, plain_ends, run_ends}
 use Rattle.rv_runs.specs.Guards.{counted, counted_by, end_here, hits, is_hit, is_met, passing}
@@ -23,10 +23,6 @@ use Rattle.rv_runs.specs.declared.goal.Goal.{Goal}
 use Rattle.rv_runs.specs.declared.goal.Goal.TheVariants as goal
 use Rattle.rv_runs.specs.declared.guard.Guard.{Guard}
 
-abbrev pub end_is : Option ℕ → Bool → Bool → Bool → Option End
-end_is h r b l = if is_some h then Some Halted
-    else (if r then Some Reached else (if b then Some Breakpoint else (if l then None else Some Stuck)))
-
 pub taken_after : (s : TimedState) (n : ℕ) → (after s n).taken ≡ s.taken + n
 unfolding after
 taken_after s n = refl
@@ -35,13 +31,13 @@ taken_after s n = refl
 
 -- also where it went on at a breakpoint
 goes_on_past : (gs : List Guard) (t : SessionState) (h : Option ℕ) (r b : Bool)
-    → is_some (option_and_then (end_here gs t) (end_is h r b (nat_lt t.timed.taken t.limit))) ≡ false
-    → end_is h false false (nat_lt t.timed.taken t.limit) ≡ None
+    → is_some (option_and_then (end_here gs t) (first_end h r b (nat_lt t.timed.taken t.limit))) ≡ false
+    → first_end h false false (nat_lt t.timed.taken t.limit) ≡ None
 goes_on_past gs t h r b e = grind arith
 
 -- steps past any breakpoint come to none
 no_break : (gs : List Guard) (t : SessionState) (b : Bool) (h : Option ℕ) (z l : Bool) → b ≡ false
-    → end_is h (z && false) (z && b) l ≡ option_and_then (end_here gs t) (end_is h (z && false) (z && b) l)
+    → first_end h (z && false) (z && b) l ≡ option_and_then (end_here gs t) (first_end h (z && false) (z && b) l)
 no_break gs t b h z l e = grind arith
 
 -- why a run is over by why it would be without guards
@@ -98,23 +94,17 @@ module _ (s : SessionState) (k : ℕ) (h : IsInTime s.timed) where
     unfolding hits
     hits_later g p zero = simp unary_clauses refl
     hits_later g p (suc i) =
-        let more : suc (k + i) ≡ k + suc i = omega arith in
-        by_hit (is_hit (record g { passes = p }) mid F (suc i)) (is_hit g s E (suc (k + i)))
-        (hit_later g p i ∙ sym (ap (is_hit g s E) more)) (hits_later g p i) ∙ ap (hits g s E) more
-      where
-        by_hit : (b c : Bool) → b ≡ c → hits g s E k + hits (record g { passes = p }) mid F i ≡ hits g s E (k + i)
-            → hits g s E k + (if b then suc (hits (record g { passes = p }) mid F i) else hits (record g { passes = p }) mid F i)
-            ≡ (if c then suc (hits g s E (k + i)) else hits g s E (k + i))
-        by_hit true c e so = rw (sym e) (omega (arith, so))
-        by_hit false c e so = rw (sym e) so
+        let here = hit_later g p i in
+        let before = hits_later g p i in
+        let more : k + suc i ≡ suc (k + i) = omega arith in
+        rw more (rw (rw more at here) (grind (arith, nat_tests)))
 
     one_later : (i : ℕ) (g : Guard) → counted_by mid F i (counted_by s E k g) ≡ counted_by s E (k + i) g
     one_later i g = grind (arith, nat_tests, hits_later)
 
     pub counted_later : (gs : List Guard) (i : ℕ) → counted (counted gs s E k) mid F i ≡ counted gs s E (k + i)
     counted_later [] i = refl
-    counted_later (g ∷ gs) i = ap (λ (x : Guard). x ∷ counted (counted gs s E k) mid F i) (one_later i g)
-        ∙ ap (λ (xs : List Guard). counted_by s E (k + i) g ∷ xs) (counted_later gs i)
+    counted_later (g ∷ gs) i = rw (one_later i g, counted_later gs i) refl
 
   pub open_later : (calls i : ℕ) → open_at (open_at calls s.timed k) mid.timed i ≡ open_at calls s.timed (k + i)
   unfolding open_at
@@ -123,9 +113,7 @@ module _ (s : SessionState) (k : ℕ) (h : IsInTime s.timed) where
 
   comes_later : (c : Condition) (j : ℕ) → comes c mid.timed (suc j) ≡ comes c s.timed (k + suc j)
   unfolding comes
-  comes_later c j =
-      let one : pred (k + suc j) ≡ k + j = omega arith in
-      rw (one, later j, later (suc j))
+  comes_later c j = simp (later, unary_clauses)
 
   -- why the rest of a run would be over without guards, after its first step
   plain_later : (ms : List ℕ) (g : Goal) (j : ℕ)
@@ -140,24 +128,16 @@ module _ (s : SessionState) (k : ℕ) (h : IsInTime s.timed) where
   -- why it is over where nothing is watched
   pub guarded_later : (ms : List ℕ) (gs : List Guard) (g : Goal) → is_some (guarded_ends ms gs g s k) ≡ false → (i : ℕ)
       → guarded_ends ms (guards_after ms gs g s k) (goal_after g s.timed k) mid i ≡ guarded_ends ms gs g s (k + i)
-  guarded_later ms gs g e zero =
-      let none : k + 0 ≡ k = omega arith in
-      is_passing ms (guards_after ms gs g s k) (goal_after g s.timed k) mid 0 ∙ rw (first_open ms gs g e)
-      (sym (ap (guarded_ends ms gs g s) none ∙ none_of (guarded_ends ms gs g s k) e))
+  guarded_later ms gs g e zero = simp unary_clauses (rw (is_passing, first_open ms gs g e) (sym (none_of _ e)))
   guarded_later ms gs g e (suc j) =
       let one : pred (k + suc j) ≡ k + j = omega arith in
-      is_passing ms (guards_after ms gs g s k) (goal_after g s.timed k) mid (suc j)
-      ∙ (rw (one, guards_later ms gs g j, plain_later ms g j, later (suc j)) refl ∙ sym (is_passing ms gs g s (k + suc j)))
+      rw (is_passing, is_passing ms gs g s (k + suc j), one, guards_later ms gs g j, plain_later ms g j, later (suc j))
 
   -- its steps change what those of the whole run do
   changes_later : (ws : List Watched) → changes_at ws s.timed k ≡ false → (i : ℕ)
       → changes_at ws mid.timed i ≡ changes_at ws s.timed (k + i)
-  changes_later ws e zero =
-      let none : k + 0 ≡ k = omega arith in
-      rw (none, e) (no_change (after mid.timed 0).board ws)
-  changes_later ws e (suc j) =
-      let one : pred (k + suc j) ≡ k + j = omega arith in
-      rw (one, later j, later (suc j))
+  changes_later ws e zero = grind (arith, no_change)
+  changes_later ws e (suc j) = simp (later, unary_clauses)
 
   pub watched_later : (st : Stops) (g : Goal) → is_some (watched_ends st g s k) ≡ false → (i : ℕ)
       → watched_ends (stops_after st g s k) (goal_after g s.timed k) mid i ≡ watched_ends st g s (k + i)

@@ -1,7 +1,7 @@
 -- Runs by their parts: what is left of a run makes it whole.
 use Rattle.std.proofs.lemmas.Bool.Decides.{nat_tests}
 use Rattle.std.proofs.lemmas.Bool.{cases_lt}
-use Rattle.std.proofs.Common.{◌≡◌, ◌∙◌, ℕ, zero, suc, ◌+◌, ◌-◌, ◌<◌, ◌≤◌, false, refl, sym, ap, arith, inl, inr}
+use Rattle.std.proofs.Common.{◌≡◌, ◌∙◌, ℕ, ◌+◌, ◌-◌, ◌<◌, ◌≤◌, false, refl, sym, ap, arith, inl, inr}
 use Rattle.std.specs.Prelude.{is_some, unwrap_or, IsErr, OnErr, Option, Some, None, Result, Ok, Err}
 use Rattle.rv_base.specs.declared.memory.NoMemory.{NoMemory}
 use Rattle.rv_monitor.specs.State.{IsInTime, SessionState, TimedState, after, with_due}
@@ -12,7 +12,7 @@ use Rattle.rv_recording.specs.Refused.{IsRefusedIn, NoneEnds}
 use Rattle.rv_recording.specs.Until.{steps_of}
 use Rattle.rv_recording.specs.declared.until.End.{End}
 use Rattle.rv_recording.specs.declared.until.End.TheVariants.{Limit}
-use Rattle.rv_recording.proofs.Counting.{all_steps, over_at, over_or_all, steps_within, takes_more}
+use Rattle.rv_recording.proofs.Counting.{as_far, over_or_all, steps_within, takes_more}
 use Rattle.rv_runs.specs.Support.Plain.{Ran}
 use Rattle.rv_runs.proofs.Later.{taken_after}
 
@@ -28,16 +28,6 @@ on_err r P p = grind (arith, nat_tests)
 -- a run that isn't over after the steps that it takes takes all that it may
 pub all_of : (ends : ℕ → Option End) (m : ℕ) → is_some (ends (steps_of ends m)) ≡ false → steps_of ends m ≡ m
 all_of ends m going = grind (arith, steps_within, over_or_all)
-
-pub as_far : (full : ℕ → Option End) (k most : ℕ) → k ≤ most → NoneEnds full k → (is_some (full k) ≡ false → k ≡ most)
-    → steps_of full most ≡ k
-as_far full k most within none last = grind (arith, over_at full k most, all_steps full most, all_steps full k)
-
--- a run isn't over before the steps that it takes
-pub none_before : (ends : ℕ → Option End) (m : ℕ) → NoneEnds ends (steps_of ends m)
-unfolding steps_of
-none_before ends zero i l = absurd (omega (arith, l))
-none_before ends (suc m) i l = search (arith, none_before ends m, cases_lt)
 
 pub between : (s : TimedState) (n : ℕ) → n ≡ steps_between s (after s n)
 between s n = omega (arith, taken_after s n)

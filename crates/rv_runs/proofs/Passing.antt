@@ -13,18 +13,19 @@ use Rattle.rv_recording.specs.Out.{out_ends}
 use Rattle.rv_recording.specs.Recording.{RecordingState}
 use Rattle.rv_recording.specs.Refused.{NoneEnds}
 use Rattle.rv_recording.specs.Until.{steps_of}
+use Rattle.rv_recording.specs.Support.Steps.{first_end}
 use Rattle.rv_recording.specs.declared.until.End.{End}
 use Rattle.rv_recording.specs.declared.until.End.TheVariants.{Breakpoint, Limit}
-use Rattle.rv_recording.proofs.Counting.{steps_within}
+use Rattle.rv_recording.proofs.Counting.{none_before, steps_within}
 use Rattle.rv_runs.specs.Ends.{guards_after, plain_ends}
-use Rattle.rv_runs.specs.Guards.{counted, counted_by, end_here, hits, is_break, is_hit, is_met}
+use Rattle.rv_runs.specs.Guards.{counted, counted_by, end_here, hits, is_break, is_hit}
 use Rattle.rv_runs.specs.Marks.{is_marked, mark_ends}
 use Rattle.rv_runs.specs.Support.Plain.{Aim, Ran, aim_after, bare_ends, goal_at, guards_here, hit_here, hit_once, mark_here, past_ends, past_here, plain_here}
 use Rattle.rv_runs.specs.declared.goal.Goal.{Goal}
 use Rattle.rv_runs.specs.declared.goal.Goal.TheVariants as goal
 use Rattle.rv_runs.specs.declared.guard.Guard.{Guard}
-use Rattle.rv_runs.proofs.Later.{end_is, goal_later, guarded_later, guards_later, is_passing}
-use Rattle.rv_runs.proofs.Parts.{Part, Rests, all_of, between, none_before, short}
+use Rattle.rv_runs.proofs.Later.{goal_later, guarded_later, guards_later, is_passing}
+use Rattle.rv_runs.proofs.Parts.{Part, Rests, all_of, between, short}
 
 -- ---- the ends of a run without guards by those of one that heeds no mark
 
@@ -45,7 +46,7 @@ plain_none ms g s n none i l = grind (arith, plain_at)
 
 -- before the first step none is over that didn't halt, and may go on
 plain_first : (ms : List ℕ) (g : Goal) (s : SessionState)
-    → plain_ends ms g s 0 ≡ end_is (halted_of (after s.timed 0).board) false false (nat_lt (after s.timed 0).taken s.limit)
+    → plain_ends ms g s 0 ≡ first_end (halted_of (after s.timed 0).board) false false (nat_lt (after s.timed 0).taken s.limit)
 plain_first ms g s = grind arith
 
 bare_first : (ms : List ℕ) (g : Goal) (s : SessionState) → plain_ends ms g s 0 ≡ bare_ends g s 0
@@ -71,12 +72,9 @@ module _ (s : SessionState) (ends : ℕ → Option End) where
       → counted_by s ends n g ≡ (if is_break (ends n) then hit_once (after s.timed n).board g else g)
   unfolding hits is_hit
   one_hit g zero none first = unhit g 0 (λ i l. absurd (omega (arith, l))) ∙ rw first refl
-  one_hit g (suc n) none first = hit_by g (is_break (ends (suc n))) (is_met g (after s.timed (suc n)).board) (hits g s ends n)
-      (no_hits g n (λ i l. ap is_break (none (suc i) (omega (arith, l)))))
-    where
-      hit_by : (g : Guard) (b c : Bool) (n : ℕ) → n ≡ 0 → record g { passes = g.passes - (if b && c then suc n else n) }
-          ≡ (if b then (if c then record g { passes = g.passes - 1 } else g) else g)
-      hit_by g b c n e = grind arith
+  one_hit g (suc n) none first =
+      let before : hits g s ends n ≡ 0 = no_hits g n (λ i l. ap is_break (none (suc i) (omega (arith, l)))) in
+      grind (arith, nat_tests)
 
 -- the guards after the steps up to the first end, by why it ended
 counted_here : (s : SessionState) (ends : ℕ → Option End) (gs : List Guard) (n : ℕ) → NoneEnds ends n → is_break (ends 0) ≡ false
@@ -89,7 +87,7 @@ counted_here s ends gs n none first = (λ i. map (λ g. one_hit s ends g n none 
     by o = map-id gs
 
 -- steps past any breakpoint count none
-no_break_by : (b : Bool) (h : Option ℕ) (z l : Bool) → b ≡ false → is_break (end_is h (z && false) (z && b) l) ≡ false
+no_break_by : (b : Bool) (h : Option ℕ) (z l : Bool) → b ≡ false → is_break (first_end h (z && false) (z && b) l) ≡ false
 no_break_by b h z l e = grind arith
 
 pub traced_guards : (ms : List ℕ) (gs : List Guard) (s : SessionState) (n : ℕ) → guards_after ms gs goal.Trace s n ≡ gs
@@ -120,11 +118,11 @@ in_turn : (f g : End → Option End) (o : Option End)
     → option_and_then f (option_and_then g o) ≡ option_and_then (λ end. option_and_then f (g end)) o
 in_turn f g o = grind arith
 
-not_before : (h : Option ℕ) (l : Bool) → is_break (end_is h false false l) ≡ false
+not_before : (h : Option ℕ) (l : Bool) → is_break (first_end h false false l) ≡ false
 not_before h l = grind arith
 
 first_by : (gs : List Guard) (t : SessionState) (h : Option ℕ) (l : Bool)
-    → option_and_then (end_here gs t) (end_is h false false l) ≡ end_is h false false l
+    → option_and_then (end_here gs t) (first_end h false false l) ≡ first_end h false false l
 first_by gs t h l = grind arith
 
 past_first : (ms : List ℕ) (a : Aim) (s : SessionState) → past_ends ms a s 0 ≡ bare_ends a.goal s 0

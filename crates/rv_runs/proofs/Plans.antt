@@ -6,42 +6,28 @@ use Rattle.rv_monitor.specs.State.{IsInTime, SessionState, after}
 use Rattle.rv_recording.specs.Until.{steps_of}
 use Rattle.rv_recording.specs.declared.until.End.{End}
 use Rattle.rv_recording.specs.declared.until.End.TheVariants.{Limit}
-use Rattle.rv_recording.proofs.Counting.{joins, same_steps, steps_within}
-use Rattle.rv_runs.specs.Ends.{Stops, goal_after, heeds, run_ends}
-use Rattle.rv_runs.specs.Plans.{plan_after, rest_of, resumed_by, resumes_after, resumes_of}
-use Rattle.rv_runs.specs.Watches.{changes_at, watching}
+use Rattle.rv_recording.proofs.Counting.{as_far, joins, none_before, same_steps, steps_within}
+use Rattle.rv_runs.specs.Ends.{Stops, goal_after, run_ends}
+use Rattle.rv_runs.specs.Plans.{plan_after, rest_of, resumes_after, resumes_of}
 use Rattle.rv_runs.specs.declared.goal.Goal.{Goal}
-use Rattle.rv_runs.specs.declared.goal.Goal.TheVariants as goal
 use Rattle.rv_runs.specs.declared.plan.Plan.{Plan}
 use Rattle.rv_runs.proofs.Later.{ends_later, goal_later, stops_after}
-use Rattle.rv_runs.proofs.Parts.{all_of, as_far, none_before}
+use Rattle.rv_runs.proofs.Parts.{all_of}
 use Rattle.rv_runs.proofs.Watching.{is_limit, never}
 
 -- ---- after a call that ended so
 
-never_watching : (b changes : Bool) (o : Option End) → is_limit o ≡ false
-    → is_limit (if b then watching changes o else o) ≡ false
-never_watching b changes o e = grind arith
-
 never_run : (st : Stops) (g : Goal) (s : SessionState) (n : ℕ) → is_limit (run_ends st g s n) ≡ false
-never_run st g s n = never_watching (heeds g) (changes_at st.watches s.timed n) _ (never st.marks st.guards g s n)
-
-rest_by : (p : Plan) (g : Goal) (n : ℕ) (o : Option End) → is_limit o ≡ false → rest_of p g (unwrap_or o Limit) n
-    ≡ (if is_none o && nat_lt n p.left then Some (record p { goal = g; left = p.left - n }) else None)
-rest_by p g n o e = grind arith
+never_run st g s n = grind (arith, never)
 
 pub plan_is : (st : Stops) (p : Plan) (s : SessionState) (n : ℕ)
     → rest_of p (goal_after p.goal s.timed n) (unwrap_or (run_ends st p.goal s n) Limit) n ≡ plan_after st p s n
 unfolding plan_after
-plan_is st p s n = rest_by p (goal_after p.goal s.timed n) n (run_ends st p.goal s n) (never_run st p.goal s n)
-
-resumes_by : (g : Goal) (o : Option End) → is_limit o ≡ false
-    → resumes_of g (unwrap_or o Limit) ≡ (if is_none o then resumed_by g else goal.Break)
-resumes_by g o e = grind arith
+plan_is st p s n = grind (arith, nat_tests, never_run)
 
 pub resumes_is : (st : Stops) (g : Goal) (s : SessionState) (n : ℕ)
     → resumes_of (goal_after g s.timed n) (unwrap_or (run_ends st g s n) Limit) ≡ resumes_after st g s n
-resumes_is st g s n = resumes_by (goal_after g s.timed n) (run_ends st g s n) (never_run st g s n)
+resumes_is st g s n = grind (arith, never_run)
 
 -- what `c` goes on for after the rest of a run
 pub resumes_later : (s : SessionState) (k : ℕ) → IsInTime s.timed → (st : Stops) (g : Goal) → is_some (run_ends st g s k) ≡ false
@@ -55,10 +41,6 @@ resumes_later s k h st g e i = rw (ends_later s k h st g e i, goal_later s k h g
 kept_by : (o : Option End) (b : Bool) (q r : Plan) → (if is_none o && b then Some q else None) ≡ Some r
     → (is_some o ≡ false) × (b ≡ true) × (q ≡ r)
 kept_by o b q r e = grind arith
-
-lost_by : (o : Option End) (b : Bool) (q : Plan) → (if is_none o && b then Some q else None) ≡ None
-    → (is_some o ≡ false → b ≡ false)
-lost_by o b q e h = grind arith
 
 module _ (st : Stops) (p : Plan) (s : SessionState) (m : ℕ) where
   abbrev ends : ℕ → Option End
@@ -74,7 +56,7 @@ module _ (st : Stops) (p : Plan) (s : SessionState) (m : ℕ) where
 
   lost : plan_after st p s k ≡ None → is_some (ends k) ≡ false → nat_lt k p.left ≡ false
   unfolding plan_after
-  lost e = lost_by (ends k) (nat_lt k p.left) _ e
+  lost e going = grind arith
 
   -- where no plan is left, the steps are all of the run
   pub all_taken : plan_after st p s k ≡ None → steps_of ends p.left ≡ k

@@ -9,10 +9,11 @@ use Rattle.rv_monitor.proofs.Steps.{after_none}
 use Rattle.rv_recording.specs.Recording.{RecordingState}
 use Rattle.rv_recording.specs.Refused.{IsRefusedIn, NoneEnds}
 use Rattle.rv_recording.specs.Until.{HasRun, steps_of}
+use Rattle.rv_recording.specs.Support.Steps.{first_end}
 use Rattle.rv_recording.specs.declared.until.End.{End}
 use Rattle.rv_recording.specs.declared.until.End.TheVariants.{Limit}
 use Rattle.rv_recording.specs.declared.until.Watched.{Watched}
-use Rattle.rv_recording.proofs.Counting.{steps_within}
+use Rattle.rv_recording.proofs.Counting.{none_before, steps_within}
 use Rattle.rv_runs.specs.Ends.{Stops, guarded_ends, heeds, run_ends}
 use Rattle.rv_runs.specs.Guards.{end_here}
 use Rattle.rv_runs.specs.Support.Plain.{Aim, Ran, aim_after, past_ends, stop_here, watch_ends, watched_ends}
@@ -20,8 +21,8 @@ use Rattle.rv_runs.specs.Watches.{differs, watching}
 use Rattle.rv_runs.specs.declared.guard.Guard.{Guard}
 use Rattle.rv_runs.specs.declared.goal.Goal.{Goal}
 use Rattle.rv_runs.specs.declared.goal.Goal.TheVariants as goal
-use Rattle.rv_runs.proofs.Later.{end_is, no_change, watched_later}
-use Rattle.rv_runs.proofs.Parts.{Part, Rests, all_of, between, in_time, none_before, short}
+use Rattle.rv_runs.proofs.Later.{no_change, watched_later}
+use Rattle.rv_runs.proofs.Parts.{Part, Rests, all_of, between, in_time, short}
 use Rattle.rv_runs.proofs.Passing.{aims_later}
 
 -- ---- a run that isn't over ends for no limit
@@ -30,11 +31,11 @@ abbrev pub is_limit : Option End → Bool
 is_limit (Some Limit) = true
 is_limit _ = false
 
-never_by : (h : Option ℕ) (r b l : Bool) → is_limit (end_is h r b l) ≡ false
+never_by : (h : Option ℕ) (r b l : Bool) → is_limit (first_end h r b l) ≡ false
 never_by h r b l = grind arith
 
 never_past : (gs : List Guard) (t : SessionState) (h : Option ℕ) (r b l : Bool)
-    → is_limit (option_and_then (end_here gs t) (end_is h r b l)) ≡ false
+    → is_limit (option_and_then (end_here gs t) (first_end h r b l)) ≡ false
 never_past gs t h r b l = grind arith
 
 pub never : (ms : List ℕ) (gs : List Guard) (g : Goal) (s : SessionState) (n : ℕ)
