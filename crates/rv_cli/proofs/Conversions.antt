@@ -8,7 +8,6 @@ use Rattle.rv_monitor.specs.Opening.{Opens}
 use Rattle.rv_program.specs.Faults.{Gives}
 use Rattle.rv_program.specs.Program.{Assembly}
 use Rattle.rv_program.specs.declared.fault.AsmFault.{AsmFault}
-use Rattle.rv_program.specs.declared.fault.FaultKind.TheVariants as kind
 use Rattle.rv_io.specs.Support.Calls.{Texts}
 use Rattle.rv_io.specs.declared.fault.ReadFault.{ReadFault}
 use Rattle.rv_io.specs.declared.fault.ReadFault.TheVariants as read

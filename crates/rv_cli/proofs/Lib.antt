@@ -1,5 +1,4 @@
 pub mod Conversions
-pub mod Digits
 pub mod Obeyed
 pub mod Refusals
 pub mod OneRun

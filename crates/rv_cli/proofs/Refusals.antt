@@ -7,11 +7,9 @@ use Rattle.rv_io.specs.Readers.{Reads}
 use Rattle.rv_io.specs.Texts.{Side, Wrote}
 use Rattle.rv_io.proofs.Sound.{sound}
 use Rattle.rv_io.specs.declared.fault.ReadFault.{ReadFault}
-use Rattle.rv_io.specs.declared.fault.ReadFault.TheVariants as read
 use Rattle.rv_cli.specs.Conversions.{unread_fault}
 use Rattle.rv_cli.specs.declared.fault.CliFault.{CliFault}
 use Rattle.rv_cli.specs.declared.fault.CliFault.TheVariants.{OutOfMemory, Write}
-use Rattle.rv_io.specs.declared.fault.TextName.TheVariants as text
 use Rattle.rv_cli.specs.declared.fault.Ending.{Ending}
 use Rattle.rv_cli.specs.Output.{IsOutput}
 use Rattle.rv_cli.specs.Run.{Runs}

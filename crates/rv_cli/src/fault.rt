@@ -212,7 +212,7 @@ fn plain_line(fault: CliFault) -> &'static str
 }
 
 /// Appends `text` to a line, which is left as it was where memory runs out.
-fn append(text: &str, line: &mut Vec<u8>) -> Result<(), NoMemory>
+pub(crate) fn append(text: &str, line: &mut Vec<u8>) -> Result<(), NoMemory>
     ensures ok { OnOk result (line.new.items ≡ line.old.items ++ text.now) }
     ensures err { OnErr result (line.new.items ≡ line.old.items) }
 {
@@ -221,7 +221,7 @@ fn append(text: &str, line: &mut Vec<u8>) -> Result<(), NoMemory>
 }
 
 /// Appends the text of a value and a line end to a line, which is left as it was where memory runs out.
-pub(crate) fn append_line<D: fmt::Display>(shown: &D, line: &mut Vec<u8>) -> Result<(), NoMemory>
+fn append_line<D: fmt::Display>(shown: &D, line: &mut Vec<u8>) -> Result<(), NoMemory>
     ensures ok { OnOk result (IsAppended (D.output shown.now) line.old.items line.new.items) }
     ensures err { OnErr result (line.new.items ≡ line.old.items) }
 {

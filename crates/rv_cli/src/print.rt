@@ -5,7 +5,7 @@ ghost use Rattle.rv_cli.specs.Support.Meanings.{ending_of};
 ghost use Rattle.rv_cli.specs.Output.{printed, with_line_end};
 
 use crate::fault::Ending;
-use crate::status::{Status, append_status};
+use crate::status::append_status;
 use rv_base::NoMemory;
 use rv_board::Board;
 use rv_cache::Decoded;
@@ -30,12 +30,7 @@ pub(crate) fn print_board<M: ByteMemory, C: Decoded>(
     ensures { OnOk result (text.new.items ≡ text.old.items ++ printed board.now) }
 {
     append_with_line_end(text, board.console())?;
-    let status = Status {
-        halted: board.halted(),
-        pc: board.pc(),
-        steps: board.steps(),
-    };
-    append_status(status, text)
+    append_status(board.halted(), board.pc(), board.steps(), text)
 }
 
 /// Returns how a board's run ended.
