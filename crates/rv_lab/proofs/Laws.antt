@@ -1,17 +1,17 @@
 -- Laws of the lab: runs in pieces, and sessions that repeat what was saved.
-use Rattle.std.proofs.Common.{rules, arith, ◌≡◌, ◌∙◌, ℕ, ◌-◌, refl, sym, ap, subst, ◌<◌, ◌≤◌, Bool, true}
-use Rattle.std.specs.Prelude.{max, Option, Some, None, ◌⊎◌, ◌&&◌, nat_lt, is_none}
+use Rattle.std.proofs.Common.{rules, arith, ◌≡◌, ◌∙◌, ℕ, ◌-◌, refl, sym, ap, subst, ◌<◌, ◌≤◌}
+use Rattle.std.specs.Prelude.{max, Option, Some, None, ◌⊎◌, nat_lt}
 use Rattle.std.proofs.lemmas.Bool.Decides.{nat_tests}
 use Rattle.std.specs.FinSet as set
 use Rattle.rv_program.specs.Program.{Assembly}
-use Rattle.rv_board.specs.Support.State.{BoardState, halted_of}
+use Rattle.rv_board.specs.Support.State.{BoardState}
 use Rattle.rv_monitor.specs.State.{IsInTime, SessionState, after, TimedState, begun, new_session, with_due}
+use Rattle.rv_monitor.proofs.Sets.{no_member}
 use Rattle.rv_monitor.proofs.Steps.{after_more, in_time_after}
 use Rattle.rv_monitor.specs.Laws.{IsReached}
 use Rattle.rv_monitor.specs.Stops.{Took, stop_of}
 use Rattle.rv_recording.specs.Until.{steps_of, step_ends}
 use Rattle.rv_recording.specs.Support.Steps.{end_by}
-use Rattle.rv_recording.specs.declared.until.End.{End}
 use Rattle.rv_recording.proofs.Counting.{all_steps}
 use Rattle.rv_recording.proofs.Taken.{took_ran}
 use Rattle.rv_runs.specs.Ends.{goal_after, run_ends}
@@ -21,7 +21,6 @@ use Rattle.rv_runs.proofs.Later.{guards_later, stops_after, taken_after}
 use Rattle.rv_runs.proofs.Plans.{all_taken, kept, rest_steps, resumes_later}
 use Rattle.rv_lab.specs.State.{LabState, timed}
 use Rattle.rv_lab.specs.Commands.{InPieces, cut, ended, gone_on, guards_by, piece_steps, stops_of, with_console, with_steps}
-use Rattle.rv_lab.proofs.Runs.{goes_while}
 
 -- ---- a run in pieces of any sizes
 
@@ -36,9 +35,6 @@ whole_of p l n = record (with_console (with_steps n l)) {
 
 abbrev whole : Plan → LabState → LabState
 whole p l = whole_of p l (steps_of (run_ends (stops_of l) p.goal l.recording.session) p.left)
-
-no_pieces : (end l : LabState) → InPieces end l → l.plan ≡ None → end ≡ l
-no_pieces end l k none = search (rules, arith)
 
 whole_again : (p r : Plan) (l : LabState) (n : ℕ) → IsInTime (timed l)
     → plan_after (stops_of l) p l.recording.session (piece_steps p (record l { piece = n })) ≡ Some r
@@ -60,41 +56,27 @@ at_last : (p : Plan) (l : LabState) (n : ℕ)
     → record (gone_on p (record l { piece = n })) { piece = 0 } ≡ whole p l
 at_last p l n none = search (rules, arith, all_taken)
 
-whole_by : (end l : LabState) (q : Plan) (n : ℕ) → IsInTime (timed l)
-    → InPieces end (gone_on q (record l { piece = n }))
-    → ((r : Plan) → plan_after (stops_of l) q l.recording.session (piece_steps q (record l { piece = n })) ≡ Some r
-    → record end { piece = 0 } ≡ whole r (gone_on q (record l { piece = n })))
-    → (o : Option Plan) → plan_after (stops_of l) q l.recording.session (piece_steps q (record l { piece = n })) ≡ o
-    → record end { piece = 0 } ≡ whole q l
-whole_by end l q n h rest again None none =
-    let last : end ≡ gone_on q (record l { piece = n }) = no_pieces end _ rest none in
-    ap (λ (x : LabState). record x { piece = 0 }) last ∙ at_last q l n none
-whole_by end l q n h rest again (Some r) some = again r some ∙ whole_again q r l n h some
+-- what all calls of a run that isn't over leave, or of none
+abbrev all_of : Option Plan → LabState → LabState
+all_of None l = record l { piece = 0 }
+all_of (Some p) l = whole p l
 
-made_whole : (end l : LabState) (p : Plan) → IsInTime (timed l) → InPieces end l → l.plan ≡ Some p
-    → record end { piece = 0 } ≡ whole p l
-made_whole end _ p h (ended is) e = absurd cc
-made_whole end _ p h (cut l q n is rest) e =
-    let same : q ≡ p = cc in
-    subst (λ (o : Plan). record end { piece = 0 } ≡ whole o l) same
-    (whole_by end l q n h rest (λ r some. made_whole end _ r (in_time_after (timed l) _ h) rest some)
-    (plan_after (stops_of l) q l.recording.session (piece_steps q (record l { piece = n }))) refl)
+one_call : (p : Plan) (l : LabState) (n : ℕ) → IsInTime (timed l) → (o : Option Plan)
+    → plan_after (stops_of l) p l.recording.session (piece_steps p (record l { piece = n })) ≡ o
+    → all_of o (gone_on p (record l { piece = n })) ≡ whole p l
+one_call p l n h None none = at_last p l n none
+one_call p l n h (Some r) some = whole_again p r l n h some
+
+all_calls : (end l : LabState) → IsInTime (timed l) → InPieces end l → record end { piece = 0 } ≡ all_of l.plan l
+all_calls end _ h (ended is) = ap (λ (o : Option Plan). all_of o end) (sym is)
+all_calls end _ h (cut l p n is rest) = all_calls end _ (in_time_after (timed l) _ h) rest
+    ∙ (one_call p l n h _ refl ∙ ap (λ (o : Option Plan). all_of o l) (sym is))
 
 pub join : (l a b : LabState) → IsInTime (timed l) → InPieces a l → InPieces b l
     → record a { piece = 0 } ≡ record b { piece = 0 }
-join l a b h x y = by_plan l.plan refl where
-  by_plan : (o : Option Plan) → l.plan ≡ o → record a { piece = 0 } ≡ record b { piece = 0 }
-  by_plan None none =
-      ap (λ (e : LabState). record e { piece = 0 }) (no_pieces a l x none ∙ sym (no_pieces b l y none))
-  by_plan (Some p) some = made_whole a l p h x some ∙ sym (made_whole b l p h y some)
+join l a b h x y = all_calls a l h x ∙ sym (all_calls b l h y)
 
 -- ---- a session that repeats what was saved
-
-none_of : (o : Option End) → is_none o ≡ true → o ≡ None
-none_of o h = search (rules, arith, nat_tests)
-
-may_by : (h : Option ℕ) (b : Bool) → h ≡ None → b ≡ true → (is_none h && b) ≡ true
-may_by h b e f = search (rules, arith)
 
 module _ (first : BoardState) (s : TimedState) (program : Assembly) (limit : ℕ) (r : IsReached first s)
     (most : s.taken ≤ limit) where
@@ -102,11 +84,7 @@ module _ (first : BoardState) (s : TimedState) (program : Assembly) (limit : ℕ
   opened = new_session first s.inputs program limit
 
   goes : (i : ℕ) → i < s.taken → step_ends opened i ≡ None
-  goes i l =
-      let room : (after (begun first s.inputs) i).taken < limit =
-      omega (arith, taken_after (begun first s.inputs) i, l, most) in
-      none_of (step_ends opened i) (goes_while opened i ∙ may_by (halted_of (after (begun first s.inputs) i).board)
-      (nat_lt (after (begun first s.inputs) i).taken limit) (r.running i l) (grind (arith, nat_tests, room)))
+  goes i l = search (rules, arith, nat_tests, taken_after, no_member, (r.running i l))
 
   pub repeats : (new : SessionState) → Took set.empty s.taken opened new → (s ≡ new.timed) ⊎ (s ≡ with_due new.timed)
   repeats new t =

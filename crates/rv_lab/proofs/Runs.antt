@@ -95,7 +95,7 @@ pub traced_all : {A : Type 0} (r : Result A NoMemory) (n : ℕ) (old mid new : L
 traced_all r n old mid new h e t = search (rules, arith, one_and_more)
 
 -- steps past any breakpoint are over where none may be taken
-pub goes_while : (s : SessionState) (n : ℕ) → is_none (step_ends s n) ≡ may_step (record s { timed = after s.timed n })
+goes_while : (s : SessionState) (n : ℕ) → is_none (step_ends s n) ≡ may_step (record s { timed = after s.timed n })
 goes_while s n = search (rules, arith, no_member)
 
 -- n steps and one more
@@ -197,12 +197,7 @@ pub refused_err : (r : Result End NoMemory) (st lent : Stops) (g : Goal) (most :
     → OnErr r (StopsIn g (run_ends st g old.recording.session) most old (record inside { recording = q; guards = gs }))
 refused_err (Ok end) st lent g most inside old q gs whole same h refused others counts = tt
 refused_err (Err why) st lent g most inside old q gs whole same h refused others counts =
-    let rising = subst (λ (l : LabState). never_falls (timed l).inputs ≡ true) (sym same) h.rising in
-    let new : LabState = record inside { recording = q; guards = gs } in
-    subst (λ (l : LabState). StopsIn g (run_ends st g l.recording.session) most l new) same
-    (refused_stops g (run_ends st g inside.recording.session) most inside new rising
-    (subst (λ (xs : Stops). IsRefusedIn (run_ends xs g inside.recording.session) most inside.recording.session q.session)
-    whole refused) (ran_over g inside q gs others counts))
+    rw (← whole, ← same) (refused_stops g _ most inside _ (rw same h.rising) refused (ran_over g inside q gs others counts))
 
 pub stops_are : (gs hs : List Guard) (ws vs : List Watched) (ms ns : List ℕ) → gs ≡ hs → ws ≡ vs → ms ≡ ns
     → ◌≡◌ {A = Stops} (record { guards = gs; watches = ws; marks = ms }) (record { guards = hs; watches = vs; marks = ns })

@@ -6,6 +6,10 @@ use Rattle.std.specs.FinSet as set
 use Rattle.std.specs.List.{range_with_len, prefix_len, position_or_len}
 use Rattle.std.specs.Option.{option_map}
 use Rattle.std.proofs.lemmas.List.{drop_all, get_or_past}
+use Rattle.std.proofs.lemmas.List.FromFn.{get_or-range_with_len, length-range_with_len}
+use Rattle.std.proofs.lemmas.List.Sums.{position_or_len_is}
+use Rattle.std.proofs.lemmas.Option.{get_or_from_slice_get, slice_get_within}
+use Rattle.std.proofs.Math.Seq.{drop-cons}
 use Rattle.rv_asm.specs.Lines.{Listed, HasByteAt}
 use Rattle.rv_operands.specs.Operands.{only_of}
 use Rattle.rv_why.specs.Repeats.{comes_again}
@@ -45,27 +49,14 @@ found p n s (suc k) low high is only = search (rules, arith, first_or, later, (f
 
 none : (p : ℕ → Bool) (s k : ℕ) → ((m : ℕ) → s ≤ m → p m ≡ true → ⊥) → find p (range_with_len s k) ≡ None
 none p s zero never = refl
-none p s (suc k) never = first_or (p s) s (find p (range_with_len (s + 1) k)) None
-    (λ e. absurd (never s (omega arith) e)) (λ e. none p (s + 1) k (λ m h. never m (omega (arith, h))))
-
-first : (p : ℕ → Bool) (s n i : ℕ) → i ≤ n → ((k : ℕ) → s ≤ k → k < s + i → p k ≡ false)
-    → (i < n → p (s + i) ≡ true) → prefix_len (λ k. not (p k)) (range_with_len s n) ≡ i
-first p s zero i below none is = omega arith
-first p s (suc n) zero below none is =
-    let here : s + 0 ≡ s = omega arith in
-    let passes : p s ≡ true = ap p (sym here) ∙ is (omega arith) in rw passes refl
-first p s (suc n) (suc i) below none is =
-    let here : p s ≡ false = none s (omega arith) (omega arith) in
-    let on : s + 1 + i ≡ s + suc i = omega arith in
-    let more : 1 + i ≡ suc i = omega arith in
-    rw here (ap (λ k. 1 + k) (first p (s + 1) n i (omega (arith, below))
-    (λ k h g. none k (omega (arith, h)) (omega (arith, g))) (λ h. ap p on ∙ is (omega (arith, h)))) ∙ more)
+none p s (suc k) never = search (rules, arith, first_or, never, (none p (s + 1) k))
 
 pub ends_at : (p : ℕ → Bool) (n i : ℕ) → i ≤ n → ((k : ℕ) → k < i → p k ≡ false) → (i < n → p i ≡ true)
     → position_or_len p (range_with_len 0 n) ≡ i
-ends_at p n i below none is =
-    let here : 0 + i ≡ i = omega arith in
-    first p 0 n i below (λ k h g. none k (omega (arith, g))) (λ h. ap p here ∙ is h)
+ends_at p n i below none is = position_or_len_is p (range_with_len 0 n) i 0 (simp length-range_with_len below)
+    (λ k h. ap p (get_or-range_with_len 0 n k 0 (omega (arith, h, below)) ∙ omega arith) ∙ none k h)
+    (λ h. let l : i < n = simp length-range_with_len at h in
+    ap p (get_or-range_with_len 0 n i 0 l ∙ omega arith) ∙ is l)
 
 -- ---- the line of an address
 
@@ -155,9 +146,7 @@ module _ (l : LabState) where
 
 -- those from one on
 more : (ts : List TrapRecord) (i : ℕ) (t : TrapRecord) → Some t ≡ slice_get ts i → drop i ts ≡ t ∷ drop (suc i) ts
-more [] i t e = search (rules, arith)
-more (u ∷ us) zero t e = search (rules, arith)
-more (u ∷ us) (suc i) t e = more us i t e
+more ts i t e = rw (drop-cons ts i t (slice_get_within ts i t (sym e)), get_or_from_slice_get ts i t t (sym e)) refl
 
 front : (ts : List TrapRecord) (i : ℕ) → slice_get (drop i ts) 0 ≡ slice_get ts i
 front [] zero = refl
