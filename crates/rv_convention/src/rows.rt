@@ -111,6 +111,7 @@ fn place(rows: &mut Vec<Spent>, row: Option<Spent>) -> Result<(), NoMemory>
 }
 
 /// Returns the parts of a source with the steps that were spent in them, of its lines with theirs.
+#[tactic(auto, using(crate::proofs::Tallies::told_first, crate::proofs::Tallies::told_next, crate::proofs::Tallies::told_last))]
 fn told(
     alloc: Global,
     listing: Listing<'_>,
