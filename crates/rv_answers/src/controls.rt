@@ -1,5 +1,6 @@
 //! The text of control registers.
 use crate::Printer;
+use crate::interrupts::sign;
 use crate::memory::append_word;
 use crate::traps::cause_name;
 use crate::values::{Bits, ControlValue};
@@ -14,22 +15,25 @@ fn append_bits(bits: Bits, text: &mut Printer) {
             mprv,
             tw,
         } => {
-            let values = [mie as u64, mpie as u64, mpp as u64, mprv as u64, tw as u64];
-            let form = "  MIE %d  MPIE %d  MPP %{user|machine}  MPRV %d  TW %d";
-            text.fill(form, &values);
+            let (mie, mpie, mprv, tw) = (mie as u8, mpie as u8, mprv as u8, tw as u8);
+            let mpp = sign(mpp, "machine", "user");
+            write!(
+                text,
+                "  MIE {mie}  MPIE {mpie}  MPP {mpp}  MPRV {mprv}  TW {tw}"
+            );
         }
         Bits::Lines {
             software,
             timer,
             external,
         } => {
-            let values = [software as u64, timer as u64, external as u64];
-            text.fill("  software %d  timer %d  external %d", &values);
+            let (software, timer, external) = (software as u8, timer as u8, external as u8);
+            write!(
+                text,
+                "  software {software}  timer {timer}  external {external}"
+            );
         }
-        Bits::Cause(cause) => {
-            text.say("  ");
-            text.say(cause_name(cause));
-        }
+        Bits::Cause(cause) => write!(text, "  {}", cause_name(cause)),
     }
 }
 

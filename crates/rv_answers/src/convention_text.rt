@@ -1,6 +1,9 @@
 //! The text of breaches of the calling convention.
 use crate::convention::{Breach, Checked, Deviation, Entry, Return, Unrestored};
-use crate::registers::{append_register, append_value, register_name};
+use crate::count::Count;
+use crate::interrupts::sign;
+use crate::profile_text::append_length;
+use crate::registers::{Value, register_name};
 use crate::{Lines, Printer};
 
 /// Returns what is called by what entered code.
@@ -13,31 +16,31 @@ fn entry_name(entry: Entry) -> &'static str {
 
 /// Appends a register that wasn't restored.
 fn append_unrestored(one: Unrestored, entry: Entry, text: &mut Printer) {
-    text.say("  ");
-    append_register(one.register, one.now, text);
-    text.say("; at ");
-    text.say(entry_name(entry));
-    text.say(" it was ");
-    append_value(one.entry, text);
-    text.end();
+    let (name, now, before) = (
+        register_name(one.register),
+        Value(one.now),
+        Value(one.entry),
+    );
+    let entry = entry_name(entry);
+    writeln!(text, "  {name} = {now}; at {entry} it was {before}");
 }
 
 /// Appends where code returned to, if it had to return elsewhere.
 fn append_target(back: &Return, text: &mut Printer) {
     if back.target != back.wanted {
-        let form = "  it returns to %x, and not to %x\n";
-        text.fill(form, &[u64::from(back.target), u64::from(back.wanted)]);
+        let (target, wanted) = (back.target, back.wanted);
+        writeln!(
+            text,
+            "  it returns to {target:08x}, and not to {wanted:08x}"
+        );
     }
 }
 
 impl Lines<'_> {
     /// Appends what a return didn't restore.
     fn append_return(self, back: &Return, text: &mut Printer) {
-        text.say("  after ");
-        text.say(entry_name(back.entry));
-        text.say(" at");
-        self.append_short_place(self.place_at(back.from, None), text);
-        text.end();
+        let from = self.short(self.place_at(back.from, None));
+        writeln!(text, "  after {} at{from}", entry_name(back.entry));
         for one in back.registers.items() {
             append_unrestored(*one, back.entry, text);
         }
@@ -46,12 +49,10 @@ impl Lines<'_> {
 
     /// Appends a breach.
     fn append_breach(self, breach: &Breach, text: &mut Printer) {
-        text.fill("step %d: ", &[breach.step]);
+        write!(text, "step {}: ", breach.step);
         self.append_here(self.place_at(breach.address, None), text);
         match &breach.deviation {
-            Deviation::Below(address) => {
-                text.fill("  it uses %x, below sp\n", &[u64::from(*address)]);
-            }
+            Deviation::Below(address) => writeln!(text, "  it uses {address:08x}, below sp"),
             Deviation::Return(back) => self.append_return(back, text),
         }
     }
@@ -59,11 +60,10 @@ impl Lines<'_> {
     /// Appends the breaches of a run.
     pub(crate) fn append_checked(self, checked: &Checked, text: &mut Printer) {
         let count = checked.breaches.items().len() as u64;
-        let halted = checked.has_halted as u64;
-        let form = "%d step%{s||s}%{ and it goes on|, up to the halt}: ";
-        text.fill(form, &[checked.steps, checked.steps, halted]);
-        let form = "%d breach%{es||es} of the calling convention%{||, each where it came first}\n";
-        text.fill(form, &[count, count, count]);
+        let breaches = Count(count, "breach");
+        append_length(checked.steps, checked.has_halted, text);
+        write!(text, ": {breaches} of the calling convention");
+        text.say(sign(count > 1, ", each where it came first\n", "\n"));
         for breach in checked.breaches.items() {
             self.append_breach(breach, text);
         }

@@ -1,5 +1,6 @@
 //! The text of the frames of calls.
 use crate::frames::{Backtrace, Frame, Outermost, Reached, is_guess};
+use crate::interrupts::sign;
 use crate::{Lines, Printer};
 
 /// Returns how a frame was reached, in words.
@@ -11,41 +12,40 @@ fn reached_word(reached: Reached) -> &'static str {
     }
 }
 
-/// Returns why no frame is told above the last one, and the number that belongs to it.
-fn outermost_form(outermost: Outermost) -> (&'static str, u32) {
+/// Appends why no frame is told above the last one.
+fn append_outermost(outermost: Outermost, text: &mut Printer) {
     match outermost {
-        Outermost::Start => ("the program begins with that function\n", 0),
-        Outermost::Resumed => ("an mret began that function\n", 0),
-        Outermost::NoFunction => ("no function is known to lie there\n", 0),
-        Outermost::NoRa => ("it isn't known where that returns to: ra isn't kept\n", 0),
-        Outermost::NoSp => ("it isn't known where its caller's sp is\n", 0),
+        Outermost::Start => text.say("the program begins with that function\n"),
+        Outermost::Resumed => text.say("an mret began that function\n"),
+        Outermost::NoFunction => text.say("no function is known to lie there\n"),
+        Outermost::NoRa => text.say("it isn't known where that returns to: ra isn't kept\n"),
+        Outermost::NoSp => text.say("it isn't known where its caller's sp is\n"),
         Outermost::NoMepc => {
-            (
-                "a trap came in that handler, so mepc isn't where it was entered\n",
-                0,
-            )
+            text.say("a trap came in that handler, so mepc isn't where it was entered\n");
         }
-        Outermost::Outside(address) => {
-            (
-                "the next one would be at %x, where the source has no line\n",
-                address,
-            )
+        Outermost::Outside(pc) => {
+            writeln!(
+                text,
+                "the next one would be at {pc:08x}, where the source has no line"
+            );
         }
-        Outermost::Below(sp) => ("the next one's sp would be %x, and not further up\n", sp),
-        Outermost::More => ("there are more\n", 0),
+        Outermost::Below(sp) => {
+            writeln!(
+                text,
+                "the next one's sp would be {sp:08x}, and not further up"
+            );
+        }
+        Outermost::More => text.say("there are more\n"),
     }
 }
 
 impl Lines<'_> {
     /// Appends a frame with its number.
     fn append_frame(self, number: usize, frame: Frame, text: &mut Printer) {
-        text.fill("#%d ", &[number as u64]);
-        text.say(reached_word(frame.reached));
-        text.say(if is_guess(frame.reached) { "? " } else { "  " });
+        let guess = sign(is_guess(frame.reached), "?", " ");
+        write!(text, "#{number} {}{guess} ", reached_word(frame.reached));
         self.append_place(self.place_at(frame.address, None), text);
-        text.say("  sp = ");
-        text.word(frame.sp);
-        text.end();
+        writeln!(text, "  sp = {:08x}", frame.sp);
     }
 
     /// Appends frames, the innermost first, and why no more are told.
@@ -54,7 +54,6 @@ impl Lines<'_> {
         for number in 0..frames.len() {
             self.append_frame(number, frames[number], text);
         }
-        let (form, value) = outermost_form(backtrace.outermost);
-        text.fill(form, &[u64::from(value)]);
+        append_outermost(backtrace.outermost, text);
     }
 }

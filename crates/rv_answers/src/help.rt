@@ -2,17 +2,13 @@
 use crate::Printer;
 use crate::command::{Command, CommandRow, command_row, command_word, commands};
 use crate::nearest::Nearest;
+use crate::shown::Shown;
 use rv_base::{first_word, look_up};
-
-/// The width of a command's form in the list.
-const FORM_WIDTH: usize = 30;
 
 /// Appends the list of all commands.
 fn append_commands(text: &mut Printer) {
     for (_, row) in commands() {
-        text.padded(row.form.as_bytes(), FORM_WIDTH);
-        text.say(row.does);
-        text.end();
+        writeln!(text, "{:<30}{}", row.form, row.does);
     }
     text.say(
         "An empty line repeats the last step or list command, or takes a step. WHERE is a line's number, 0x and a\nnumber, a name of the source, a register or pc, also with +N or -N. Only events change the board: there is no\ncommand that sets a register or memory.\n",
@@ -21,12 +17,8 @@ fn append_commands(text: &mut Printer) {
 
 /// Appends what a command does, with an example.
 fn append_command(row: CommandRow, text: &mut Printer) {
-    text.say(row.form);
-    text.say(": ");
-    text.say(row.does);
-    text.say("\n  example: ");
-    text.say(row.example);
-    text.end();
+    writeln!(text, "{}: {}", row.form, row.does);
+    writeln!(text, "  example: {}", row.example);
 }
 
 /// Appends the help of a command, or of all.
@@ -126,13 +118,9 @@ fn meant(word: &[u8]) -> Option<&'static str> {
 
 /// Appends that a word is no command, and what is meant or which is the nearest.
 pub(crate) fn append_unknown(word: &[u8], text: &mut Printer) {
-    text.say("`");
-    text.shown(word);
-    text.say("` is no command");
+    write!(text, "`{}` is no command", Shown(word));
     if let Some(meant) = meant(word) {
-        text.say(": ");
-        text.say(meant);
-        return text.end();
+        return writeln!(text, ": {meant}");
     }
     let mut nearest = Nearest::new(text.alloc(), word);
     offer_commands(&mut nearest);

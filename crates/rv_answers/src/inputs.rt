@@ -1,18 +1,21 @@
 //! The text of what commands answer that change breakpoints, give inputs or save.
 use crate::Printer;
+use crate::count::Count;
+use crate::interrupts::sign;
 use crate::lines::Lines;
 use crate::many::Many;
 use crate::moves::{BreakCondition, Breakpoint, Breakpoints, Cleared, Given, Saved};
 use crate::runs::append_watches;
+use crate::shown::Shown;
 
 /// Appends the condition of a breakpoint, if it has one, and how many hits are passed before one stops a run.
 fn append_condition(condition: &Option<Many<u8>>, passes: u64, text: &mut Printer) {
     if let Some(condition) = condition {
-        text.say(" if ");
-        text.shown(condition.items());
+        write!(text, " if {}", Shown(condition.items()));
     }
     if passes > 0 {
-        text.fill(", %d hit%{s are| is|s are} passed first", &[passes, passes]);
+        let verb = sign(passes == 1, "is", "are");
+        write!(text, ", {} {verb} passed first", Count(passes, "hit"));
     }
 }
 
@@ -29,8 +32,7 @@ impl Lines<'_> {
     /// Appends that a breakpoint is at a place, and its condition.
     pub(crate) fn append_break(self, set: &Breakpoint, text: &mut Printer) {
         let place = set.place;
-        text.say("breakpoint at");
-        self.append_short_place(place, text);
+        write!(text, "breakpoint at{}", self.short(place));
         append_condition(&set.condition, set.passes, text);
         if place.address % 4 != 0 || place.word.is_none() {
             text.say(", where no instruction can be");
@@ -54,13 +56,8 @@ impl Lines<'_> {
 
     /// Appends that no breakpoint is at a place.
     pub(crate) fn append_cleared(self, cleared: Cleared, text: &mut Printer) {
-        text.say(if cleared.was_there {
-            "no more breakpoint at"
-        } else {
-            "no breakpoint is at"
-        });
-        self.append_short_place(cleared.place, text);
-        text.end();
+        let which = sign(cleared.was_there, "no more breakpoint", "no breakpoint is");
+        writeln!(text, "{which} at{}", self.short(cleared.place));
     }
 }
 
@@ -69,38 +66,36 @@ pub(crate) fn append_given(given: Given, text: &mut Printer) {
     if given.is_halted {
         return text.say("the board has halted, and takes no input\n");
     }
-    let inputs = given.inputs as u64;
-    let values = [inputs, inputs, given.steps];
-    text.fill("%d input%{s||s} before step %d\n", &values);
+    let inputs = Count(given.inputs as u64, "input");
+    writeln!(text, "{inputs} before step {}", given.steps);
 }
 
 /// Appends the options with which rvboard repeats what was done.
 fn append_options(saved: &Saved, text: &mut Printer) {
-    text.fill(
-        "--steps %d --pages %d\n",
-        &[saved.limit, u64::from(saved.pages)],
-    );
-    if saved.steps > saved.limit {
-        let more = saved.steps - saved.limit;
-        let form =
-            "# rvboard takes at most %d steps, and so not the last %d; `u %d` goes back to there, and then save again\n";
-        text.fill(form, &[saved.limit, more, more]);
+    let limit = saved.limit;
+    writeln!(text, "--steps {limit} --pages {}", saved.pages);
+    if saved.steps > limit {
+        let more = saved.steps - limit;
+        writeln!(
+            text,
+            "# rvboard takes at most {limit} steps, and so not the last {more}; `u {more}` goes back to there, and then save again"
+        );
     }
 }
 
 /// Appends that what was done is saved under a name, and how rvboard repeats it.
 fn append_named(name: &[u8], saved: &Saved, text: &mut Printer) {
-    let (inputs, steps) = (saved.inputs as u64, saved.steps);
-    text.say("wrote ");
-    text.shown(name);
-    text.fill(".input (%d input%{s||s}) and ", &[inputs, inputs]);
-    text.shown(name);
-    let form = ".commands (%d step%{s||s}); repeat them by\n  ./rvboard SOURCE --input ";
-    text.fill(form, &[steps, steps]);
-    text.shown(name);
-    text.say(".input --commands ");
-    text.shown(name);
-    text.say(".commands ");
+    let name = Shown(name);
+    let inputs = Count(saved.inputs as u64, "input");
+    let steps = Count(saved.steps, "step");
+    writeln!(
+        text,
+        "wrote {name}.input ({inputs}) and {name}.commands ({steps}); repeat them by"
+    );
+    write!(
+        text,
+        "  ./rvboard SOURCE --input {name}.input --commands {name}.commands "
+    );
     append_options(saved, text);
 }
 

@@ -2,7 +2,9 @@
 ghost use Rattle.std.specs.Prelude.{◌<◌};
 
 use crate::Printer;
+use crate::count::Count;
 use crate::protection::append_regions;
+use crate::standing::mode_name;
 use crate::states::has_bit;
 use crate::values::{Clock, Devices, Interrupts, Port, SourceState};
 
@@ -11,9 +13,14 @@ pub(crate) fn sign(stands: bool, yes: &'static str, no: &'static str) -> &'stati
     if stands { yes } else { no }
 }
 
+/// Returns the level of a line.
+fn level(is_high: bool) -> &'static str {
+    sign(is_high, "high", "low")
+}
+
 /// Appends the timer: the largest time to compare with never comes.
 fn append_clock(clock: Clock, text: &mut Printer) {
-    text.fill("timer: mtime %d, mtimecmp ", &[clock.time]);
+    write!(text, "timer: mtime {}, mtimecmp ", clock.time);
     if clock.compare == u64::MAX {
         text.say("never");
     } else {
@@ -22,17 +29,16 @@ fn append_clock(clock: Clock, text: &mut Printer) {
             text.say(" (its high half is as at reset: write both halves)");
         }
     }
-    let values = [clock.is_due as u64, clock.software as u64];
-    text.fill(", its line is %{low|high}; msip %d\n", &values);
+    let line = level(clock.is_due);
+    writeln!(text, ", its line is {line}; msip {}", clock.software as u8);
 }
 
 /// Appends the serial port.
 fn append_port(port: Port, text: &mut Printer) {
-    let waiting = port.waiting as u64;
-    let values = [waiting, waiting, port.sent as u64, port.overrun as u64];
-    let form =
-        "serial: %d byte%{s||s} waiting, %d sent%{|; a byte was lost since the last look at the status}\n";
-    text.fill(form, &values);
+    let waiting = Count(port.waiting as u64, "byte");
+    write!(text, "serial: {waiting} waiting, {} sent", port.sent);
+    let lost = "; a byte was lost since the last look at the status\n";
+    text.say(sign(port.overrun, lost, "\n"));
 }
 
 /// Returns what comes of an interrupt.
@@ -52,23 +58,22 @@ fn append_interrupt(name: &str, place: u32, interrupts: Interrupts, text: &mut P
 {
     let is_high = has_bit(interrupts.mip, place);
     let is_enabled = has_bit(interrupts.mie, place);
-    text.say(name);
-    text.say(sign(is_high, " line high, ", " line low, "));
+    write!(text, "{name} line {}, ", level(is_high));
     if is_enabled {
         text.say("enabled in mie");
     } else {
-        text.fill("not enabled in mie (bit %d)", &[place as u64]);
+        write!(text, "not enabled in mie (bit {place})");
     }
     text.say(outcome(is_high, is_enabled, interrupts.next, 0x8000_0000 + place));
 }
 
 /// Appends the interrupts of a hart.
 fn append_interrupts(interrupts: Interrupts, text: &mut Printer) {
-    let mie = has_bit(interrupts.mstatus, 3) as u64;
-    let is_user = !interrupts.mode.is_machine() as u64;
-    let form =
-        "interrupts: mstatus.MIE %d, %{machine mode|user mode, where they are always let in}\n";
-    text.fill(form, &[mie, is_user]);
+    let mie = has_bit(interrupts.mstatus, 3) as u8;
+    let mode = mode_name(interrupts.mode);
+    let is_machine = interrupts.mode.is_machine();
+    let always = sign(is_machine, "", ", where they are always let in");
+    writeln!(text, "interrupts: mstatus.MIE {mie}, {mode}{always}");
     append_interrupt("  external", 11, interrupts, text);
     append_interrupt("  software", 3, interrupts, text);
     append_interrupt("  timer   ", 7, interrupts, text);
@@ -76,27 +81,24 @@ fn append_interrupts(interrupts: Interrupts, text: &mut Printer) {
 
 /// Appends a source of the interrupt controller, unless it is as at reset.
 fn append_source(state: SourceState, threshold: u32, text: &mut Printer) {
-    let request = if state.is_pending {
-        2
-    } else {
-        state.is_claimed as u64
-    };
-    let (line, enabled) = (state.is_high as u64, state.is_enabled as u64);
-    let (priority, edges) = (u64::from(state.priority), u64::from(state.edges));
-    if line == 0 && request == 0 && enabled == 0 && priority == 0 && edges == 0 {
+    let is_requested = state.is_pending || state.is_claimed;
+    let (source, priority, edges) = (state.source, state.priority, state.edges);
+    if !state.is_high && !is_requested && !state.is_enabled && priority == 0 && edges == 0 {
         return;
     }
-    let form =
-        "  source %d: line %{low|high}, %{not pending|claimed and not completed|pending}, %{not enabled|enabled}, priority %d";
-    text.fill(
-        form,
-        &[u64::from(state.source), line, request, enabled, priority],
+    let claimed = sign(state.is_claimed, "claimed and not completed", "not pending");
+    let request = sign(state.is_pending, "pending", claimed);
+    let enabled = sign(state.is_enabled, "enabled", "not enabled");
+    let line = level(state.is_high);
+    write!(
+        text,
+        "  source {source}: line {line}, {request}, {enabled}, priority {priority}"
     );
-    if state.is_enabled && state.priority <= threshold {
+    if state.is_enabled && priority <= threshold {
         text.say(", not above the threshold");
     }
     if edges > 0 {
-        text.fill(", %d pending edge%{s||s}", &[edges, edges]);
+        write!(text, ", {}", Count(u64::from(edges), "pending edge"));
     }
     text.end();
 }
@@ -106,11 +108,13 @@ pub(crate) fn append_devices(devices: &Devices, text: &mut Printer) {
     append_clock(devices.clock, text);
     append_port(devices.port, text);
     append_interrupts(devices.interrupts, text);
-    let values = [u64::from(devices.threshold), devices.is_notified as u64];
-    let form = "interrupt controller: threshold %d, its line is %{low|high}\n";
-    text.fill(form, &values);
+    let (threshold, line) = (devices.threshold, level(devices.is_notified));
+    writeln!(
+        text,
+        "interrupt controller: threshold {threshold}, its line is {line}"
+    );
     for state in devices.sources.items() {
-        append_source(*state, devices.threshold, text);
+        append_source(*state, threshold, text);
     }
     append_regions(devices.regions.items(), text);
 }

@@ -7,10 +7,10 @@ mod console;
 mod controls;
 mod convention;
 mod convention_text;
+mod count;
 mod devices;
 mod explained;
 mod extent;
-mod forms;
 mod frames;
 mod frames_text;
 mod help;
@@ -43,6 +43,7 @@ mod why_text;
 pub use answer::{Answer, Refusal, Why};
 pub use command::{Command, Move, command_named, command_word};
 pub use convention::{Breach, Checked, Deviation, Entry, Return, Unrestored};
+pub use count::Count;
 pub use devices::threshold;
 pub use explained::{
     Area, Barrier, Before, Explained, Explanation, Handler, Origin, Reason, Repeated, Sum,
@@ -59,6 +60,7 @@ pub use moves::{
 };
 pub use printer::Printer;
 pub use profile::{Profiled, Spent};
+pub use shown::Shown;
 pub use states::{bits_of, clock_of, has_bit, port_of, region_of, regions_of, sources_of};
 pub use values::{
     Bits, Cells, Clock, ControlValue, Devices, Dump, Edges, Interrupts, Place, Port, Range, Region,

@@ -1,10 +1,11 @@
 //! A source with its lines and labels, and places in it.
 use crate::Printer;
-use crate::places::{append_instruction, append_label, line_text};
-use crate::shown::append_shown;
-use crate::traps::append_trap;
-use crate::values::{Place, Trap};
+use crate::places::{append_instruction, line_text};
+use crate::shown::Shown;
+use crate::values::Place;
 use rv_asm::Listing;
+use std::fmt;
+use std::fmt::{Display, Formatter};
 
 /// A source with its lines and labels, which the values name by numbers.
 #[derive(Clone, Copy)]
@@ -13,26 +14,55 @@ pub struct Lines<'a> {
     pub listing: Listing<'a>,
 }
 
-impl Lines<'_> {
-    /// Appends the label before a place.
-    pub(crate) fn append_near(self, place: Place, text: &mut Printer) {
-        if let Some(distance) = place.distance
-            && let Some(near) = self.listing.label_before(place.address)
+/// The label before a place and the distance from it, as ` <loop+8>`, if the place lies in the image.
+#[derive(Clone, Copy)]
+pub(crate) struct Near<'a>(Lines<'a>, Place);
+
+impl Display for Near<'_> {
+    fn fmt<W: fmt::Write>(&self, f: &mut Formatter<W>) -> fmt::Result {
+        if let Some(distance) = self.1.distance
+            && let Some(near) = self.0.listing.label_before(self.1.address)
         {
-            append_label(near.name.bytes(), distance, text);
+            write!(f, " <{}", Shown(near.name.bytes()))?;
+            if distance > 0 {
+                write!(f, "+{distance}")?;
+            }
+            write!(f, ">")?;
         }
+        Ok(())
+    }
+}
+
+/// A place: its line's number, its label, and its address.
+#[derive(Clone, Copy)]
+pub(crate) struct Short<'a>(Lines<'a>, Place);
+
+impl Display for Short<'_> {
+    fn fmt<W: fmt::Write>(&self, f: &mut Formatter<W>) -> fmt::Result {
+        let Short(lines, place) = *self;
+        if let Some(line) = place.line {
+            write!(f, " line {line}")?;
+        }
+        write!(f, "{} ({:08x})", lines.near(place), place.address)
+    }
+}
+
+impl<'a> Lines<'a> {
+    /// Returns the label before a place, to be printed.
+    pub(crate) fn near(self, place: Place) -> Near<'a> {
+        Near(self, place)
+    }
+
+    /// Returns a place, to be printed by its line's number, its label, and its address.
+    pub(crate) fn short(self, place: Place) -> Short<'a> {
+        Short(self, place)
     }
 
     /// Appends a place: its address, its label, and its line or its instruction.
     pub fn append_place(self, place: Place, text: &mut Printer) {
-        text.word(place.address);
-        self.append_near(place, text);
-        text.say("  ");
+        write!(text, "{:08x}{}  ", place.address, self.near(place));
         match place.line {
-            Some(line) => {
-                text.line_number(line);
-                append_shown(line_text(self.source, line), text);
-            }
+            Some(line) => text.line(line, line_text(self.source, line)),
             None => append_instruction(place.word, text),
         }
     }
@@ -41,23 +71,5 @@ impl Lines<'_> {
     pub(crate) fn append_here(self, place: Place, text: &mut Printer) {
         self.append_place(place, text);
         text.end();
-    }
-
-    /// Appends a place: its line's number, its label, and its address.
-    pub fn append_short_place(self, place: Place, text: &mut Printer) {
-        if let Some(line) = place.line {
-            text.fill(" line %d", &[line as u64]);
-        }
-        self.append_near(place, text);
-        text.say(" (");
-        text.word(place.address);
-        text.say(")");
-    }
-
-    /// Appends a trap and where it came.
-    pub(crate) fn append_trap_at(self, trap: Trap, text: &mut Printer) {
-        append_trap(trap, text);
-        text.say(", at");
-        self.append_short_place(trap.place, text);
     }
 }

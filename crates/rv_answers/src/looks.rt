@@ -1,16 +1,18 @@
 //! The text of what commands answer that only look at the board or the source.
+use crate::count::Count;
 use crate::lines::Lines;
 use crate::places::{append_instruction, lines_from};
 use crate::registers::append_registers;
 use crate::rows::append_row;
-use crate::standing::{append_halt, append_mode, append_step};
+use crate::standing::{append_halt, mode_name};
 use crate::values::{Edges, Place, RegisterFile, Standing, Trap};
 use crate::{Printer, Row};
 
 impl Lines<'_> {
     /// Appends where a board stands.
     pub(crate) fn append_standing(self, standing: Standing, text: &mut Printer) {
-        append_step(standing.steps, standing.mode, text);
+        let (steps, mode) = (standing.steps, mode_name(standing.mode));
+        writeln!(text, "step {steps}, {mode}");
         append_halt(standing, text);
         self.append_place(standing.here, text);
         text.say("\n  ");
@@ -21,18 +23,13 @@ impl Lines<'_> {
     /// Appends all registers.
     pub(crate) fn append_file(self, file: &RegisterFile, text: &mut Printer) {
         append_registers(&file.before, &file.now, text);
-        text.say("  pc   ");
-        text.word(file.here.address);
-        self.append_near(file.here, text);
-        text.say("  ");
-        append_mode(file.mode, text);
+        let (address, near) = (file.here.address, self.near(file.here));
+        writeln!(text, "  pc   {address:08x}{near}  {}", mode_name(file.mode));
     }
 
     /// Appends an address with its label and its instruction.
     pub(crate) fn append_instruction_at(self, place: Place, text: &mut Printer) {
-        text.word(place.address);
-        self.append_near(place, text);
-        text.say("  ");
+        write!(text, "{:08x}{}  ", place.address, self.near(place));
         append_instruction(place.word, text);
         text.end();
     }
@@ -54,9 +51,9 @@ impl Lines<'_> {
             text.say("no trap so far\n");
         }
         for trap in traps {
-            self.append_trap_at(*trap, text);
+            write!(text, "{trap}, at{}", self.short(trap.place));
             if trap.times > 1 {
-                text.fill(", %d times", &[trap.times]);
+                write!(text, ", {} times", trap.times);
             }
             text.end();
         }
@@ -65,13 +62,11 @@ impl Lines<'_> {
 
 /// Appends how many lines a source has.
 pub(crate) fn append_count(lines: usize, text: &mut Printer) {
-    let count = lines as u64;
-    text.fill("the source has %d line%{s||s}\n", &[count, count]);
+    writeln!(text, "the source has {}", Count(lines as u64, "line"));
 }
 
 /// Appends the pending edges of a source of interrupts.
 pub(crate) fn append_edges(edges: Edges, text: &mut Printer) {
-    let (source, pending) = (u64::from(edges.source), u64::from(edges.pending));
-    let values = [source, pending, pending];
-    text.fill("source %d: %d pending edge%{s||s}\n", &values);
+    let pending = Count(u64::from(edges.pending), "pending edge");
+    writeln!(text, "source {}: {pending}", edges.source);
 }

@@ -10,59 +10,51 @@ use crate::values::{Cells, Dump};
 const ROW_BYTES: usize = 16;
 
 /// Appends a byte of memory, or `--` where there is none.
-fn append_byte(byte: Option<u8>, answer: &mut Printer) {
+fn append_byte(byte: Option<u8>, text: &mut Printer) {
     match byte {
-        Some(byte) => answer.digits(byte),
-        None => answer.say("--"),
+        Some(byte) => write!(text, "{byte:02x} "),
+        None => text.say("-- "),
     }
-    answer.say(" ");
 }
 
 /// Returns a byte as a character, or a dot.
-fn character(byte: Option<u8>) -> u8 {
+fn character(byte: Option<u8>) -> char {
     match byte {
-        Some(byte @ 32..=126) => byte,
-        _ => b'.',
+        Some(byte @ 32..=126) => char::from(byte),
+        _ => '.',
     }
-}
-
-/// Appends an address and the bytes there, and spaces for those that are missing to a row.
-fn append_cells(address: u32, bytes: &[Option<u8>], answer: &mut Printer) {
-    answer.word(address);
-    answer.say(": ");
-    for byte in bytes {
-        append_byte(*byte, answer);
-    }
-    answer.spaces(3 * ROW_BYTES.saturating_sub(bytes.len()));
 }
 
 /// Appends a row of at most 16 bytes: the address, the bytes, and their characters.
-fn append_bytes_row(address: u32, bytes: &[Option<u8>], answer: &mut Printer) {
-    append_cells(address, bytes, answer);
-    answer.say(" ");
+fn append_bytes_row(address: u32, bytes: &[Option<u8>], text: &mut Printer) {
+    write!(text, "{address:08x}: ");
     for byte in bytes {
-        answer.byte(character(*byte));
+        append_byte(*byte, text);
     }
-    answer.end();
+    let missing = 3 * ROW_BYTES.saturating_sub(bytes.len());
+    write!(text, "{:missing$} ", "");
+    for byte in bytes {
+        write!(text, "{}", character(*byte));
+    }
+    text.end();
 }
 
 /// Appends a word of memory, or `--------` where there is none.
-pub(crate) fn append_word(word: Option<u32>, answer: &mut Printer) {
+pub(crate) fn append_word(word: Option<u32>, text: &mut Printer) {
     match word {
-        Some(word) => answer.word(word),
-        None => answer.say("--------"),
+        Some(word) => write!(text, "{word:08x}"),
+        None => text.say("--------"),
     }
 }
 
 /// Appends a row of words: the address, and the words.
-fn append_words_row(address: u32, words: &[Option<u32>], answer: &mut Printer) {
-    answer.word(address);
-    answer.say(":");
+fn append_words_row(address: u32, words: &[Option<u32>], text: &mut Printer) {
+    write!(text, "{address:08x}:");
     for word in words {
-        answer.say(" ");
-        append_word(*word, answer);
+        text.say(" ");
+        append_word(*word, text);
     }
-    answer.end();
+    text.end();
 }
 
 /// What stands for a byte after a backslash.
@@ -83,36 +75,22 @@ pub fn escapes() -> &'static [(&'static str, u8)]
     &ESCAPES
 }
 
-/// Returns what stands for a byte after a backslash in a table, if it is there.
-fn escape_in(table: &'static [(&'static str, u8)], byte: u8) -> Option<&'static str> {
-    let [row, rest @ ..] = table else {
-        return None;
-    };
-    if row.1 == byte {
-        return Some(row.0);
-    }
-    escape_in(rest, byte)
-}
-
-/// Appends a byte that has no escape: as it is, or as `\x` and its digits.
-fn append_plain(byte: u8, answer: &mut Printer) {
-    match byte {
-        32..=126 => answer.byte(byte),
-        _ => {
-            answer.say("\\x");
-            answer.digits(byte);
+/// Returns what stands for a byte after a backslash, if something does.
+fn escape_of(byte: u8) -> Option<&'static str> {
+    for (escape, escaped) in escapes() {
+        if *escaped == byte {
+            return Some(*escape);
         }
     }
+    None
 }
 
-/// Appends a byte as it stands in a string of the language.
-pub(crate) fn append_escaped(byte: u8, answer: &mut Printer) {
-    match escape_in(escapes(), byte) {
-        Some(escape) => {
-            answer.say("\\");
-            answer.say(escape);
-        }
-        None => append_plain(byte, answer),
+/// Appends a byte as it stands in a string of the language: by its escape, as it is, or as `\x` and its digits.
+pub(crate) fn append_escaped(byte: u8, text: &mut Printer) {
+    match (escape_of(byte), byte) {
+        (Some(escape), _) => write!(text, "\\{escape}"),
+        (None, 32..=126) => write!(text, "{}", char::from(byte)),
+        (None, _) => write!(text, "\\x{byte:02x}"),
     }
 }
 
@@ -136,8 +114,7 @@ fn append_words(address: u32, words: &[Option<u32>], text: &mut Printer) {
 
 /// Appends bytes as a string.
 fn append_string(address: u32, bytes: &[u8], text: &mut Printer) {
-    text.word(address);
-    text.say(": \"");
+    write!(text, "{address:08x}: \"");
     for byte in bytes {
         append_escaped(*byte, text);
     }

@@ -1,5 +1,6 @@
 //! The nearest of some names to a word.
 use crate::Printer;
+use crate::shown::Shown;
 use std::alloc::Global;
 use strsim::generic_levenshtein;
 
@@ -43,9 +44,7 @@ impl<'a> Nearest<'a> {
     /// Appends that the nearest name is near, if there is one.
     pub(crate) fn append(&self, text: &mut Printer) {
         if !self.name.is_empty() {
-            text.say("; `");
-            text.put(self.name);
-            text.say("` is near");
+            write!(text, "; `{}` is near", Shown(self.name));
         }
     }
 }

@@ -2,8 +2,7 @@
 use crate::explained::{Origin, Write};
 use crate::moves::Watch;
 use crate::places::append_instruction;
-use crate::registers::{append_register, append_value};
-use crate::runs::append_watched;
+use crate::registers::Value;
 use crate::values::RegisterValue;
 use crate::{Lines, Printer};
 
@@ -12,8 +11,7 @@ fn append_read(read: Option<RegisterValue>, text: &mut Printer) {
     if let Some(one) = read
         && one.register.number() > 0
     {
-        text.say(", with ");
-        append_register(one.register, one.value, text);
+        write!(text, ", with {one}");
     }
 }
 
@@ -24,49 +22,29 @@ pub(crate) fn append_writer(write: Write, text: &mut Printer) {
     append_read(write.first, text);
     append_read(write.second, text);
     if let Some(address) = write.accessed {
-        text.fill(", at %x", &[u64::from(address)]);
+        write!(text, ", at {address:08x}");
     }
     text.end();
-}
-
-/// Appends what was there before a write, if that is known, and ends the line.
-fn append_old(before: Option<u32>, text: &mut Printer) {
-    if let Some(word) = before {
-        text.say("; before, it was ");
-        append_value(word, text);
-    }
-    text.end();
-}
-
-/// Appends what is watched, with its value.
-fn append_now(origin: &Origin, text: &mut Printer) {
-    let watch = Watch {
-        target: origin.target,
-        value: origin.value,
-    };
-    append_watched(watch, text);
 }
 
 impl Lines<'_> {
-    /// Appends the last write of a value.
-    fn append_write(self, origin: &Origin, write: Write, text: &mut Printer) {
-        text.fill("step %d: ", &[write.step]);
-        append_now(origin, text);
-        append_old(write.before, text);
-        text.say("  ");
-        self.append_here(self.place_at(write.address, write.word), text);
-        append_writer(write, text);
-    }
-
     /// Appends where a value came from.
     pub(crate) fn append_origin(self, origin: &Origin, text: &mut Printer) {
-        match origin.write {
-            Some(write) => self.append_write(origin, write, text),
-            None => {
-                append_now(origin, text);
-                let form = ", as at reset: no step up to step %d wrote it\n";
-                text.fill(form, &[origin.steps]);
-            }
+        let Origin { target, value, .. } = *origin;
+        let now = Watch { target, value };
+        let Some(write) = origin.write else {
+            let steps = origin.steps;
+            return writeln!(
+                text,
+                "{now}, as at reset: no step up to step {steps} wrote it"
+            );
+        };
+        write!(text, "step {}: {now}", write.step);
+        if let Some(word) = write.before {
+            write!(text, "; before, it was {}", Value(word));
         }
+        text.say("\n  ");
+        self.append_here(self.place_at(write.address, write.word), text);
+        append_writer(write, text);
     }
 }

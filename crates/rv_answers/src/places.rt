@@ -19,26 +19,14 @@ pub(crate) fn line_text(source: &[u8], line: usize) -> &[u8] {
     lines_from(source, line).next().unwrap_or(b"")
 }
 
-/// Appends a label, and the distance from it, as ` <loop+8>`.
-pub(crate) fn append_label(name: &[u8], distance: u32, answer: &mut Printer) {
-    answer.say(" <");
-    answer.put(name);
-    if distance > 0 {
-        answer.say("+");
-        answer.number(u64::from(distance));
-    }
-    answer.say(">");
-}
-
 /// Appends a word of memory and its instruction, or that no memory is there.
-pub(crate) fn append_instruction(word: Option<u32>, answer: &mut Printer) {
+pub(crate) fn append_instruction(word: Option<u32>, text: &mut Printer) {
     let Some(word) = word else {
-        return answer.say("no memory is here");
+        return text.say("no memory is here");
     };
-    answer.word(word);
-    answer.say("  ");
+    write!(text, "{word:08x}  ");
     match decode(word) {
-        Some(instr) => answer.instruction(instr),
-        None => answer.say("no instruction"),
+        Some(instr) => text.instruction(instr),
+        None => text.say("no instruction"),
     }
 }

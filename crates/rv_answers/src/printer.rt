@@ -1,10 +1,12 @@
 //! The text of an answer.
 use crate::many::Many;
-use crate::shown::append_shown;
+use crate::shown::Shown;
 use itoa::Buffer;
-use rv_base::{NoMemory, byte_digits, word_digits};
+use rv_base::NoMemory;
 use rv_isa::{Instr, write_instr};
 use std::alloc::Global;
+use std::fmt;
+use std::fmt::Display;
 use std::marker::Model;
 
 /// A text that answers are appended to. Where memory runs out it takes nothing more, and remembers that.
@@ -107,21 +109,6 @@ impl Printer {
         self.put(text.as_bytes());
     }
 
-    /// Appends a byte.
-    pub fn byte(&mut self, byte: u8) {
-        self.put(&[byte]);
-    }
-
-    /// Appends the eight hexadecimal digits of a word.
-    pub fn word(&mut self, word: u32) {
-        self.put(&word_digits(word));
-    }
-
-    /// Appends the two hexadecimal digits of a byte.
-    pub fn digits(&mut self, byte: u8) {
-        self.put(&byte_digits(byte));
-    }
-
     /// Appends a number in decimal.
     pub fn number(&mut self, number: u64)
         ensures { Appended self.old self.new (decimal number) }
@@ -130,55 +117,24 @@ impl Printer {
         self.put(buffer.format(number).as_bytes());
     }
 
-    /// Appends a signed number in decimal.
-    pub fn signed(&mut self, number: i32) {
+    /// Appends the number of a line of a source, and its text.
+    pub(crate) fn line(&mut self, number: usize, line: &[u8]) {
         let mut buffer = Buffer::new();
-        self.put(buffer.format(number).as_bytes());
-    }
-
-    /// Appends `count` spaces.
-    pub fn spaces(&mut self, count: usize) {
-        for _ in 0..count {
-            self.byte(b' ');
-        }
-    }
-
-    /// Appends a text, and spaces up to a width.
-    pub fn padded(&mut self, text: &[u8], width: usize) {
-        self.put(text);
-        self.spaces(width.saturating_sub(text.len()));
-    }
-
-    /// Appends the number of a line and a colon, and spaces up to a width.
-    pub fn line_number(&mut self, number: usize) {
-        let mut buffer = Buffer::new();
-        let digits = buffer.format(number).as_bytes();
+        let digits = buffer.format(number);
         let width = 5usize.saturating_sub(digits.len());
-        self.put(digits);
-        self.put(b":");
-        self.spaces(width);
+        write!(self, "{digits}:{:width$}{}", "", Shown(line));
     }
 
-    /// Appends a text that others wrote: a byte that may drive a terminal, and one that is in no character, is told by
-    /// its digits.
-    pub fn shown(&mut self, text: &[u8]) {
-        append_shown(text, self);
+    /// Appends a format, as `write!` does.
+    pub fn write_fmt<D: Display + Drop>(&mut self, format: D) {
+        if fmt::Write::write_fmt(self, format).is_err() {
+            self.cut();
+        }
     }
 
     /// Appends that a text, without the blanks at its ends, isn't what a command wants, and why.
     pub fn refuse(&mut self, command: &str, text: &[u8], why: &str) {
-        self.say(command);
-        self.say(": `");
-        self.shown(text.trim_ascii());
-        self.say("` ");
-        self.say(why);
-    }
-
-    /// Ends a line with where to find an example of a command.
-    pub fn see_help(&mut self, command: &str) {
-        self.say("; `help ");
-        self.say(command);
-        self.say("` has an example\n");
+        write!(self, "{command}: `{}` {why}", Shown(text.trim_ascii()));
     }
 
     /// Ends the line.
@@ -191,5 +147,12 @@ impl Printer {
         if !self.is_cut {
             self.is_cut = write_instr(instr, &mut self.bytes).is_err();
         }
+    }
+}
+
+impl fmt::Write for Printer {
+    fn write_str(&mut self, text: &str) -> fmt::Result {
+        self.say(text);
+        Ok(())
     }
 }

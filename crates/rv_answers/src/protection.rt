@@ -2,41 +2,37 @@
 use crate::Printer;
 use crate::interrupts::sign;
 use crate::values::{Region, Rights};
+use std::fmt;
+use std::fmt::{Display, Formatter};
 
-/// Appends the letters of what a mode may do.
-fn append_rights(rights: Rights, text: &mut Printer) {
-    text.say(sign(rights.read, "r", "-"));
-    text.say(sign(rights.write, "w", "-"));
-    text.say(sign(rights.execute, "x", "-"));
+impl Display for Rights {
+    fn fmt<W: fmt::Write>(&self, f: &mut Formatter<W>) -> fmt::Result {
+        let (read, write) = (sign(self.read, "r", "-"), sign(self.write, "w", "-"));
+        write!(f, "{read}{write}{}", sign(self.execute, "x", "-"))
+    }
 }
 
-/// Appends an entry of protection: its bytes, and what each mode may do there.
-pub(crate) fn append_region(region: Region, text: &mut Printer) {
-    let number = region.entry as u64;
-    let Some(range) = region.range else {
-        return text.fill("entry %d, no byte", &[number]);
-    };
-    let values = [
-        number,
-        range.first >> 32,
-        range.first,
-        range.last >> 32,
-        range.last,
-    ];
-    text.fill("entry %d, %{|1|2|3}%x to %{|1|2|3}%x: user ", &values);
-    append_rights(region.user, text);
-    text.say(", machine ");
-    append_rights(region.machine, text);
-    text.say(sign(region.is_locked, " (locked)", ""));
+impl Display for Region {
+    fn fmt<W: fmt::Write>(&self, f: &mut Formatter<W>) -> fmt::Result {
+        let entry = self.entry;
+        let Some(range) = self.range else {
+            return write!(f, "entry {entry}, no byte");
+        };
+        let (first, last) = (range.first, range.last);
+        let (user, machine) = (self.user, self.machine);
+        let locked = sign(self.is_locked, " (locked)", "");
+        write!(
+            f,
+            "entry {entry}, {first:08x} to {last:08x}: user {user}, machine {machine}{locked}"
+        )
+    }
 }
 
 /// Appends protection.
 pub(crate) fn append_regions(regions: &[Region], text: &mut Printer) {
     text.say("protection:\n");
     for region in regions {
-        text.say("  ");
-        append_region(*region, text);
-        text.end();
+        writeln!(text, "  {region}");
     }
     text.say(if regions.is_empty() {
         "  no entry is on: machine rwx everywhere, user nothing\n"

@@ -30,6 +30,9 @@ static CONTROL_REGISTERS: [&str; 20] = [
     "pmpaddr1",
 ];
 
+/// What `m` wants.
+const EXTENT: &str = "a number from 0 to 4096 is wanted, and w, b or t";
+
 /// What `rx` wants.
 const BYTES: &str =
     "a text between quotes is wanted, in which \\n \\r \\t \\0 \\\" \\\\ may stand, or bytes of two hexadecimal digits each";
@@ -48,7 +51,7 @@ const NO_HITS: &str =
 
 /// Why there is no next place of the C source.
 const NO_MARKS: &str =
-    "no label of the source is a function and a line of C, as `main.16`: tools/cc writes them; `next` goes on past a line of this source\n";
+    "no label of the source is a function and a line of C, as `main.16`: tools/cc writes them; `next` goes on past a line of this source";
 
 /// Appends that a name is no control register, and which is the nearest.
 fn refuse_control_register(command: &str, name: &[u8], text: &mut Printer) {
@@ -63,21 +66,18 @@ fn refuse_control_register(command: &str, name: &[u8], text: &mut Printer) {
 
 /// Appends what a command says to its operands.
 fn say_of(command: &str, sentence: &str, text: &mut Printer) {
-    text.say(command);
-    text.say(": ");
-    text.say(sentence);
+    writeln!(text, "{command}: {sentence}");
 }
 
 /// Appends what a command wants, and where to find an example.
 fn want(command: &str, wanted: &str, text: &mut Printer) {
-    say_of(command, wanted, text);
-    text.see_help(command);
+    writeln!(text, "{command}: {wanted}; `help {command}` has an example");
 }
 
 /// Appends that an operand isn't what a command wants, and where to find an example.
 fn refuse_operand(command: &str, operand: &[u8], why: &str, text: &mut Printer) {
     text.refuse(command, operand, why);
-    text.see_help(command);
+    writeln!(text, "; `help {command}` has an example");
 }
 
 /// Appends that a command wants one word.
@@ -85,7 +85,7 @@ fn want_one(command: Command, text: &mut Printer) {
     let word = command_word(command);
     match command {
         Command::Save => want(word, "one name is wanted", text),
-        _ => say_of(word, "one line, address or name is wanted\n", text),
+        _ => say_of(word, "one line, address or name is wanted", text),
     }
 }
 
@@ -106,13 +106,6 @@ fn no_condition(command: Command) -> &'static str {
         Command::Break => NO_GUARD,
         _ => NO_CONDITION,
     }
-}
-
-/// Appends that no line is at an address.
-fn refuse_line(command: &str, address: u32, text: &mut Printer) {
-    say_of(command, "no line of the source is at ", text);
-    text.word(address);
-    text.end();
 }
 
 impl Lines<'_> {
@@ -141,39 +134,30 @@ impl Lines<'_> {
         match refusal.why {
             Why::NoAddress => self.refuse_address(word, operand, text),
             Why::Missing => want(word, "an address is missing", text),
-            Why::NoExtent => {
-                want(
-                    word,
-                    "a number from 0 to 4096 is wanted, and w, b or t",
-                    text,
-                );
-            }
-            Why::NoLine(address) => refuse_line(word, address, text),
-            Why::NoCount => say_of(word, "the number of lines is from 0 to 1000\n", text),
+            Why::NoExtent => want(word, EXTENT, text),
+            Why::NoLine(at) => writeln!(text, "{word}: no line of the source is at {at:08x}"),
+            Why::NoCount => say_of(word, "the number of lines is from 0 to 1000", text),
             Why::NoRegister => {
-                text.refuse(
-                    word,
-                    operand,
-                    "is no register; `p` shows a control register\n",
-                );
+                let why = "is no register; `p` shows a control register\n";
+                text.refuse(word, operand, why);
             }
             Why::NoControlRegister => refuse_control_register(word, operand, text),
             Why::NoEdgeSource => {
-                let sentence = "a source from 24 to 31 is wanted; `dev` shows the others\n";
+                let sentence = "a source from 24 to 31 is wanted; `dev` shows the others";
                 say_of(word, sentence, text);
             }
             Why::NoSteps => refuse_operand(word, operand, no_steps(refusal.command), text),
             Why::NoCondition => refuse_operand(word, operand, no_condition(refusal.command), text),
             Why::NoHits => want(word, NO_HITS, text),
             Why::NoMarks => say_of(word, NO_MARKS, text),
-            Why::NeverMet => say_of(word, "it held after no earlier step\n", text),
+            Why::NeverMet => say_of(word, "it held after no earlier step", text),
             Why::NotOne => want_one(refusal.command, text),
             Why::NoBytesThere => self.refuse_lines(text),
             Why::NoBytes => want(word, BYTES, text),
             Why::NoLevel => want(word, "a source from 1 to 31 and 0 or 1 are wanted", text),
             Why::NoCommand => text.refuse(word, operand, "is no command; `help` shows them all\n"),
-            Why::NotWritten => say_of(word, "the files can't be written\n", text),
-            Why::TooMany => say_of(word, "at most 16 registers and words are watched\n", text),
+            Why::NotWritten => say_of(word, "the files can't be written", text),
+            Why::TooMany => say_of(word, "at most 16 registers and words are watched", text),
         }
     }
 }

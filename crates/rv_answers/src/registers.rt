@@ -2,8 +2,10 @@
 ghost use Rattle.std.specs.Prelude.{◌≡◌, length};
 
 use crate::Printer;
-use crate::values::Registers;
+use crate::values::{RegisterValue, Registers};
 use rv_isa::Reg;
+use std::fmt;
+use std::fmt::{Display, Formatter};
 
 /// The names of the registers in the calling convention, by number.
 static NAMES: [&str; 32] = [
@@ -24,41 +26,39 @@ pub(crate) fn register_name(register: Reg) -> &'static str {
     names()[register.index()]
 }
 
-/// Appends a word, and in decimal too where it is a small number.
-pub(crate) fn append_value(word: u32, answer: &mut Printer) {
-    answer.word(word);
-    if word < 1_000_000 || word >= 0xffff_f000 {
-        answer.say(" (");
-        answer.signed(word.cast_signed());
-        answer.say(")");
+/// A word, and in decimal too where it is a small number.
+#[derive(Clone, Copy)]
+pub(crate) struct Value(pub(crate) u32);
+
+impl Display for Value {
+    fn fmt<W: fmt::Write>(&self, f: &mut Formatter<W>) -> fmt::Result {
+        let word = self.0;
+        write!(f, "{word:08x}")?;
+        if word < 1_000_000 || word >= 0xffff_f000 {
+            write!(f, " ({})", word.cast_signed())?;
+        }
+        Ok(())
     }
 }
 
-/// Appends a register's name and value.
-pub(crate) fn append_register(register: Reg, word: u32, answer: &mut Printer) {
-    answer.say(register_name(register));
-    answer.say(" = ");
-    append_value(word, answer);
-}
-
-/// Appends a register's cell in the list of all: a star where it changed.
-fn append_register_cell(register: Reg, before: &Registers, now: &Registers, answer: &mut Printer) {
-    let word = now[register.index()];
-    answer.say(if word == before[register.index()] {
-        "  "
-    } else {
-        " *"
-    });
-    answer.padded(register_name(register).as_bytes(), 5);
-    answer.word(word);
-    if register.index() % 4 == 3 {
-        answer.end();
+impl Display for RegisterValue {
+    fn fmt<W: fmt::Write>(&self, f: &mut Formatter<W>) -> fmt::Result {
+        let name = register_name(self.register);
+        write!(f, "{name} = {}", Value(self.value))
     }
 }
 
 /// Appends all registers, four in a line, with a star before each that changed.
-pub(crate) fn append_registers(before: &Registers, now: &Registers, answer: &mut Printer) {
+pub(crate) fn append_registers(before: &Registers, now: &Registers, text: &mut Printer) {
     for number in 0..32u8 {
-        append_register_cell(Reg::of(number), before, now, answer);
+        let register = Reg::of(number);
+        let word = now[register.index()];
+        text.say(if word == before[register.index()] {
+            "  "
+        } else {
+            " *"
+        });
+        write!(text, "{:<5}{word:08x}", register_name(register));
+        text.say(if number % 4 == 3 { "\n" } else { "" });
     }
 }

@@ -12,16 +12,8 @@ use crate::interrupts::append_devices;
 use crate::lines::Lines;
 use crate::looks::{append_count, append_edges};
 use crate::memory::append_dump;
-use crate::registers::append_register;
-use crate::runs::{append_all_watches, append_display, append_unwatched, append_watches};
+use crate::runs::{append_all_watches, append_unwatched, append_watches};
 use crate::standing::{append_halt, append_stuck};
-use crate::values::RegisterValue;
-
-/// Appends a register as a line.
-fn append_one(one: RegisterValue, text: &mut Printer) {
-    append_register(one.register, one.value, text);
-    text.end();
-}
 
 impl Lines<'_> {
     /// Appends what a command answers, with what the console got meanwhile: before its answer, but after the text of
@@ -52,7 +44,7 @@ impl Lines<'_> {
         match answer {
             Answer::Where(standing) => self.append_standing(*standing, text),
             Answer::Registers(file) => self.append_file(file, text),
-            Answer::Register(one) => append_one(*one, text),
+            Answer::Register(one) => writeln!(text, "{one}"),
             Answer::ControlRegister(value) => append_control(value, text),
             Answer::Memory(dump) => append_dump(dump, text),
             Answer::Instruction(place) => self.append_instruction_at(*place, text),
@@ -83,7 +75,7 @@ impl Lines<'_> {
             Answer::Backtrace(backtrace) => self.append_backtrace(backtrace, text),
             Answer::Checked(checked) => self.append_checked(checked, text),
             Answer::Profiled(profile) => self.append_profile(profile, text),
-            Answer::Display(watch) => append_display(*watch, text),
+            Answer::Display(watch) => writeln!(text, "{watch}"),
             Answer::Watch(watch) => append_watches(&[*watch], text),
             Answer::Watches(watches) => append_all_watches(watches.items(), text),
             Answer::Unwatched(count) => append_unwatched(*count, text),

@@ -1,76 +1,75 @@
 //! The text of what commands answer that move the board.
 use crate::Printer;
+use crate::count::Count;
+use crate::interrupts::sign;
 use crate::lines::Lines;
 use crate::many::Many;
 use crate::moves::{Aim, Change, Ending, Run, Step, Stepped, Target, Trace, Watch};
-use crate::registers::{append_register, append_value, register_name};
+use crate::registers::{Value, register_name};
 use crate::standing::{append_halt, append_stuck};
-use crate::traps::append_trap;
-use crate::values::{RegisterValue, Standing, Trap};
+use crate::values::{RegisterValue, Standing};
+use std::fmt;
+use std::fmt::{Display, Formatter};
 
 /// How many changed registers are told in a line.
 const IN_LINE: usize = 8;
 
 /// Appends the registers that a command changed, each after two blanks or a comma.
 fn append_changed(changed: &Many<RegisterValue>, text: &mut Printer) {
-    let mut before = "  ";
-    let mut told: usize = 0;
-    for one in changed.items() {
-        text.say(before);
-        append_register(one.register, one.value, text);
-        told = told.saturating_add(1);
-        before = if told % IN_LINE == 0 { ",\n  " } else { ", " };
+    for (told, one) in changed.items().iter().enumerate() {
+        let before = match told {
+            0 => "  ",
+            _ if told % IN_LINE == 0 => ",\n  ",
+            _ => ", ",
+        };
+        write!(text, "{before}{one}");
     }
 }
 
 /// Appends what a step did: a trap, and the registers that it changed.
 fn append_outcome(step: &Step, text: &mut Printer) {
     if let Some(trap) = step.trap {
-        text.say("  ");
-        append_trap(trap, text);
+        write!(text, "  {trap}");
     }
     append_changed(&step.changed, text);
     text.end();
 }
 
-/// Appends what is watched.
-fn append_target(target: Target, text: &mut Printer) {
-    match target {
-        Target::Register(register) => text.say(register_name(register)),
-        Target::Word(address) => {
-            text.say("[");
-            text.word(address);
-            text.say("]");
+impl Display for Target {
+    fn fmt<W: fmt::Write>(&self, f: &mut Formatter<W>) -> fmt::Result {
+        match *self {
+            Target::Register(register) => write!(f, "{}", register_name(register)),
+            Target::Word(address) => write!(f, "[{address:08x}]"),
         }
     }
 }
 
-/// Appends the value of what is watched, if it has one.
-fn append_watched_value(value: Option<u32>, text: &mut Printer) {
-    match value {
-        Some(word) => append_value(word, text),
-        None => text.say("--------"),
+/// The value of what is watched, if it has one.
+#[derive(Clone, Copy)]
+struct Watched(Option<u32>);
+
+impl Display for Watched {
+    fn fmt<W: fmt::Write>(&self, f: &mut Formatter<W>) -> fmt::Result {
+        match self.0 {
+            Some(word) => write!(f, "{}", Value(word)),
+            None => write!(f, "--------"),
+        }
     }
 }
 
-/// Appends what is watched, with its value.
-pub(crate) fn append_watched(watch: Watch, text: &mut Printer) {
-    append_target(watch.target, text);
-    text.say(" = ");
-    append_watched_value(watch.value, text);
+impl Display for Watch {
+    fn fmt<W: fmt::Write>(&self, f: &mut Formatter<W>) -> fmt::Result {
+        write!(f, "{} = {}", self.target, Watched(self.value))
+    }
 }
 
 /// Appends what a step changed of what is watched, as the rest of a line.
 fn append_changes(changes: &[Change], text: &mut Printer) {
-    let mut before = ": ";
+    let mut sign = ":";
     for change in changes {
-        text.say(before);
-        append_target(change.target, text);
-        text.say(" = ");
-        append_watched_value(change.value, text);
-        text.say(", before ");
-        append_watched_value(change.before, text);
-        before = "; ";
+        let (target, now, before) = (change.target, Watched(change.value), Watched(change.before));
+        write!(text, "{sign} {target} = {now}, before {before}");
+        sign = ";";
     }
     text.end();
 }
@@ -78,8 +77,7 @@ fn append_changes(changes: &[Change], text: &mut Printer) {
 /// Appends that registers and words are watched, each as a line.
 pub(crate) fn append_watches(watches: &[Watch], text: &mut Printer) {
     for watch in watches {
-        text.say("watching ");
-        append_display(*watch, text);
+        writeln!(text, "watching {watch}");
     }
 }
 
@@ -96,14 +94,7 @@ pub(crate) fn append_unwatched(count: usize, text: &mut Printer) {
     if count == 0 {
         return text.say("unwatch: nothing of it is watched\n");
     }
-    let count = count as u64;
-    text.fill("%d watch%{es||es} ended\n", &[count, count]);
-}
-
-/// Appends what is watched, with its value, as a line.
-pub(crate) fn append_display(watch: Watch, text: &mut Printer) {
-    append_watched(watch, text);
-    text.end();
+    writeln!(text, "{} ended", Count(count as u64, "watch"));
 }
 
 /// Appends what the step with which the board halted changed of what is watched.
@@ -114,15 +105,15 @@ fn append_halting(changes: &[Change], text: &mut Printer) {
     }
 }
 
-/// Returns how it is told that as many steps were taken as were asked for.
-fn limit_form(aim: Aim) -> &'static str {
-    match aim {
-        Aim::Steps => "stopped after %d step%{s||s}\n",
-        Aim::Breakpoint => "still running after %d step%{s||s}; c goes on\n",
-        Aim::Return => "not returned after %d step%{s||s}; c goes on\n",
-        Aim::Mark | Aim::Trap(_) | Aim::Console | Aim::Arrival | Aim::Watch(_) =>
-            "not reached after %d step%{s||s}; c goes on\n",
-    }
+/// Appends that as many steps were taken as were asked for.
+fn append_limit(aim: Aim, steps: Count, text: &mut Printer) {
+    let state = match aim {
+        Aim::Steps => return writeln!(text, "stopped after {steps}"),
+        Aim::Breakpoint => "still running",
+        Aim::Return => "not returned",
+        Aim::Mark | Aim::Trap(_) | Aim::Console | Aim::Arrival | Aim::Watch(_) => "not reached",
+    };
+    writeln!(text, "{state} after {steps}; c goes on");
 }
 
 impl Lines<'_> {
@@ -140,41 +131,33 @@ impl Lines<'_> {
     /// Appends what was reached.
     fn append_reached(self, aim: Aim, text: &mut Printer) {
         match aim {
-            Aim::Watch(watch) => {
-                text.say(": ");
-                append_watched(watch, text);
-            }
-            Aim::Trap(Some(trap)) => self.append_reached_trap(trap, text),
+            Aim::Watch(watch) => write!(text, ": {watch}"),
+            Aim::Trap(Some(trap)) => write!(text, ": {trap}, at{}", self.short(trap.place)),
             _ => {}
         }
         text.end();
     }
 
-    /// Appends the trap that was reached.
-    fn append_reached_trap(self, trap: Trap, text: &mut Printer) {
-        text.say(": ");
-        self.append_trap_at(trap, text);
-    }
-
     /// Appends why a run is over.
     fn append_ending(self, run: &Run, text: &mut Printer) {
-        let steps = run.steps;
+        let steps = Count(run.steps, "step");
+        let watched = run.watched.items();
         match run.ending {
             Ending::Stuck => {}
-            Ending::Halted => append_halting(run.watched.items(), text),
+            Ending::Halted => append_halting(watched, text),
             Ending::Breakpoint => {
-                let is_aim = matches!(run.aim, Aim::Breakpoint) as u64;
-                let form = "breakpoint after %d step%{s||s}%{, before the goal is reached|}\n";
-                text.fill(form, &[steps, steps, is_aim]);
+                let is_aim = matches!(run.aim, Aim::Breakpoint);
+                let rest = sign(is_aim, "", ", before the goal is reached");
+                writeln!(text, "breakpoint after {steps}{rest}");
             }
             Ending::Reached => {
-                text.fill("stopped after %d step%{s||s}", &[steps, steps]);
-                if run.watched.items().is_empty() {
+                write!(text, "stopped after {steps}");
+                if watched.is_empty() {
                     return self.append_reached(run.aim, text);
                 }
-                append_changes(run.watched.items(), text);
+                append_changes(watched, text);
             }
-            Ending::Limit => text.fill(limit_form(run.aim), &[steps, steps]),
+            Ending::Limit => append_limit(run.aim, steps, text),
         }
     }
 
@@ -193,7 +176,7 @@ impl Lines<'_> {
 
     /// Appends what a single step did, and where the board stands.
     pub(crate) fn append_stepped(self, stepped: &Stepped, text: &mut Printer) {
-        text.fill("step %d", &[stepped.step.number]);
+        write!(text, "step {}", stepped.step.number);
         append_outcome(&stepped.step, text);
         self.append_rest(stepped.standing, text);
     }
@@ -201,7 +184,7 @@ impl Lines<'_> {
     /// Appends steps, each with its number and its line.
     pub(crate) fn append_trace(self, trace: &Trace, text: &mut Printer) {
         for step in trace.steps.items() {
-            text.fill("%d  ", &[step.number]);
+            write!(text, "{}  ", step.number);
             self.append_place(step.place, text);
             append_outcome(step, text);
         }
@@ -212,7 +195,7 @@ impl Lines<'_> {
 
     /// Appends that the board went back.
     pub(crate) fn append_back(self, standing: Standing, text: &mut Printer) {
-        text.fill("back at step %d\n", &[standing.steps]);
+        writeln!(text, "back at step {}", standing.steps);
         append_halt(standing, text);
         self.append_here(standing.here, text);
     }

@@ -1,6 +1,7 @@
 //! Traps and their causes in words.
-use crate::Printer;
 use crate::values::Trap;
+use std::fmt;
+use std::fmt::{Display, Formatter};
 
 /// Returns the name of a cause.
 pub(crate) fn cause_name(cause: u32) -> &'static str {
@@ -22,20 +23,24 @@ pub(crate) fn cause_name(cause: u32) -> &'static str {
     }
 }
 
-/// Appends the number of a cause, of an interrupt in hexadecimal, and its name.
-pub(crate) fn append_cause(cause: u32, answer: &mut Printer) {
-    if cause < 0x8000_0000 {
-        answer.number(u64::from(cause));
-    } else {
-        answer.word(cause);
+/// The number of a cause, of an interrupt in hexadecimal, and its name.
+#[derive(Clone, Copy)]
+pub(crate) struct Cause(pub(crate) u32);
+
+impl Display for Cause {
+    fn fmt<W: fmt::Write>(&self, f: &mut Formatter<W>) -> fmt::Result {
+        let cause = self.0;
+        let name = cause_name(cause);
+        if cause < 0x8000_0000 {
+            write!(f, "{cause}, {name}")
+        } else {
+            write!(f, "{cause:08x}, {name}")
+        }
     }
-    answer.say(", ");
-    answer.say(cause_name(cause));
 }
 
-/// Appends a trap: its cause, and mtval.
-pub(crate) fn append_trap(trap: Trap, text: &mut Printer) {
-    text.say("trap ");
-    append_cause(trap.cause, text);
-    text.fill(", mtval %x", &[u64::from(trap.value)]);
+impl Display for Trap {
+    fn fmt<W: fmt::Write>(&self, f: &mut Formatter<W>) -> fmt::Result {
+        write!(f, "trap {}, mtval {:08x}", Cause(self.cause), self.value)
+    }
 }

@@ -2,11 +2,11 @@
 use crate::explained::{
     Area, Barrier, Before, Explained, Explanation, Handler, Reason, Repeated, Sum, Unfetched, Write,
 };
+use crate::interrupts::sign;
 use crate::origin_text::append_writer;
 use crate::places::append_instruction;
-use crate::protection::append_region;
 use crate::registers::register_name;
-use crate::traps::append_cause;
+use crate::traps::Cause;
 use crate::values::Place;
 use crate::{Lines, Printer};
 use rv_isa::{Kind, decode};
@@ -29,31 +29,28 @@ fn area_name(area: Area) -> &'static str {
 fn append_barrier(barrier: Barrier, address: u32, mode: Mode, text: &mut Printer) {
     match barrier {
         Barrier::Absent(area) => {
-            text.fill("  at %x is ", &[u64::from(address)]);
-            text.say(area_name(area));
-            text.end();
+            writeln!(text, "  at {address:08x} is {}", area_name(area));
         }
         Barrier::Protection { mode: asked, entry } => {
-            let is_lent = (mode.is_machine() && !asked.is_machine()) as u64;
-            let form = "  protection refused it%{| to user mode, whose rights MPRV gave it}: ";
-            text.fill(form, &[is_lent]);
+            let is_lent = mode.is_machine() && !asked.is_machine();
+            let whose = sign(is_lent, " to user mode, whose rights MPRV gave it", "");
+            write!(text, "  protection refused it{whose}: ");
             match entry {
-                Some(region) => append_region(region, text),
-                None => text.say("no entry has the address, so user mode gets nothing there"),
+                Some(region) => writeln!(text, "{region}"),
+                None => text.say("no entry has the address, so user mode gets nothing there\n"),
             }
-            text.end();
         }
     }
 }
 
-/// Appends the register and the offset of which an address was made, and ends the line.
-fn append_sum(sum: Sum, text: &mut Printer) {
-    text.say(": ");
-    text.say(register_name(sum.base));
-    text.fill(" is %x", &[u64::from(sum.value)]);
+/// Appends the register and the offset of which an address was made, if it was, and ends the line.
+fn append_sum(sum: Option<Sum>, text: &mut Printer) {
+    let Some(sum) = sum else {
+        return text.end();
+    };
+    write!(text, ": {} is {:08x}", register_name(sum.base), sum.value);
     if sum.offset != 0 {
-        text.say(", and the offset ");
-        text.signed(sum.offset);
+        write!(text, ", and the offset {}", sum.offset);
     }
     if sum.base.number() == 2 && sum.value >= 0xffff_0000 {
         text.say("; sp is 0 at reset: was it set?");
@@ -61,71 +58,64 @@ fn append_sum(sum: Sum, text: &mut Printer) {
     text.end();
 }
 
-/// Appends an address with what it was made of, if that was a register.
-fn append_address(form: &str, address: u32, sum: Option<Sum>, text: &mut Printer) {
-    text.fill(form, &[u64::from(address)]);
-    match sum {
-        Some(sum) => append_sum(sum, text),
-        None => text.end(),
-    }
-}
-
-/// Appends that a word is an instruction that may not be done.
-fn append_refused(word: u32, why: &str, text: &mut Printer) {
-    text.fill("  the word %x is ", &[u64::from(word)]);
-    if let Some(instr) = decode(word) {
-        text.instruction(instr);
-    }
-    text.say(why);
-}
-
 /// Appends that no instruction was fetched from an address.
 fn append_unfetched(why: Unfetched, trap: &Explained, text: &mut Printer) {
     match why {
         Unfetched::Refused(barrier) => append_barrier(barrier, trap.address, trap.mode, text),
         Unfetched::NoInstruction(word) => {
-            let form = "  the word %x is no instruction: did the program run on into data?\n";
-            text.fill(form, &[u64::from(word)]);
+            writeln!(
+                text,
+                "  the word {word:08x} is no instruction: did the program run on into data?"
+            );
         }
     }
 }
 
 /// Appends why an instruction was illegal.
 fn append_illegal(reason: Reason, word: u32, text: &mut Printer) {
-    match reason {
-        Reason::NoRegister(_) => {
-            append_refused(word, ", whose control register doesn't exist\n", text);
-        }
-        Reason::ReadOnly(_) => {
-            append_refused(word, ", whose control register can't be written\n", text);
-        }
-        Reason::MachineOnly => append_refused(word, ", which user mode may not do\n", text),
-        _ => {}
+    let why = match reason {
+        Reason::NoRegister(_) => "whose control register doesn't exist",
+        Reason::ReadOnly(_) => "whose control register can't be written",
+        Reason::MachineOnly => "which user mode may not do",
+        _ => return,
+    };
+    write!(text, "  the word {word:08x} is ");
+    if let Some(instr) = decode(word) {
+        text.instruction(instr);
     }
+    writeln!(text, ", {why}");
 }
 
 /// Appends why a trap came.
 fn append_reason(trap: &Explained, text: &mut Printer) {
+    let value = trap.value;
     match trap.reason {
         Reason::NotFetched(why) => append_unfetched(why, trap, text),
-        Reason::Target(sum) => append_address("  the target is %x", trap.value, sum, text),
+        Reason::Target(sum) => {
+            write!(text, "  the target is {value:08x}");
+            append_sum(sum, text);
+        }
         Reason::Misaligned { sum, .. } => {
-            let form = "  the address %x is no multiple of the access's size";
-            append_address(form, trap.value, Some(sum), text);
+            write!(
+                text,
+                "  the address {value:08x} is no multiple of the access's size"
+            );
+            append_sum(Some(sum), text);
         }
         Reason::Refused { sum, barrier } => {
-            append_address("  the address is %x", trap.value, Some(sum), text);
-            append_barrier(barrier, trap.value, trap.mode, text);
+            write!(text, "  the address is {value:08x}");
+            append_sum(Some(sum), text);
+            append_barrier(barrier, value, trap.mode, text);
         }
-        reason => append_illegal(reason, trap.value, text),
+        reason => append_illegal(reason, value, text),
     }
 }
 
 /// Appends that the word of an instruction was another one at reset.
 fn append_overwritten(word: Option<u32>, text: &mut Printer) {
-    if let Some(word) = word {
+    if word.is_some() {
         text.say("  the program changed it: at reset it was ");
-        append_instruction(Some(word), text);
+        append_instruction(word, text);
         text.end();
     }
 }
@@ -158,8 +148,8 @@ impl Repeated {
 
     /// Appends how often it came in a row.
     fn append_times(self, text: &mut Printer) {
-        let form = " came %d times in a row%{| or more}";
-        text.fill(form, &[self.times, self.is_endless() as u64]);
+        let more = sign(self.is_endless(), " or more", "");
+        write!(text, " came {} times in a row{more}", self.times);
     }
 }
 
@@ -193,17 +183,16 @@ impl Handler {
 
 /// Appends that a trap met no handler. From the base of mtvec each further step traps to it again.
 fn append_missing(handler: Handler, missing: Unfetched, text: &mut Printer) {
-    let values = [u64::from(handler.mtvec)];
-    text.fill("  it met no handler: mtvec is %x, ", &values);
+    let (Handler { address, mtvec, .. }, name) = (handler, missing_name(missing));
+    write!(text, "  it met no handler: mtvec is {mtvec:08x}, ");
     if handler.is_slot() {
-        let form = "and at %x, the place of this interrupt, ";
-        text.fill(form, &[u64::from(handler.address)]);
-        text.say(missing_name(missing));
-        return text.end();
+        writeln!(
+            text,
+            "and at {address:08x}, the place of this interrupt, {name}"
+        );
+    } else {
+        writeln!(text, "where {name}, so each further step trapped as well");
     }
-    text.say("where ");
-    text.say(missing_name(missing));
-    text.say(", so each further step trapped as well\n");
 }
 
 impl Lines<'_> {
@@ -226,8 +215,7 @@ impl Lines<'_> {
     fn append_trap_place(self, trap: &Explained, text: &mut Printer) {
         let place = self.place_at(trap.address, trap.word);
         text.say("  ");
-        self.append_place(place, text);
-        text.end();
+        self.append_here(place, text);
         if place.line.is_some() {
             text.say("  ");
             append_instruction(trap.word, text);
@@ -237,9 +225,9 @@ impl Lines<'_> {
 
     /// Appends the step that wrote a word of the program last.
     fn append_changer(self, write: Write, text: &mut Printer) {
-        let is_stack = write.second.is_some_and(|one| one.register.number() == 2) as u64;
-        let form = "  step %d wrote it%{|: the stack ran into it}: ";
-        text.fill(form, &[write.step, is_stack]);
+        let is_stack = write.second.is_some_and(|one| one.register.number() == 2);
+        let how = sign(is_stack, ": the stack ran into it", "");
+        write!(text, "  step {} wrote it{how}: ", write.step);
         self.append_here(self.place_at(write.address, write.word), text);
         append_writer(write, text);
     }
@@ -247,10 +235,10 @@ impl Lines<'_> {
     /// Appends the instruction from which pc came.
     fn append_before(self, before: Before, target: u32, text: &mut Printer) {
         text.say("  pc came from ");
-        self.append_place(self.place_at(before.address, before.word), text);
-        text.end();
-        if let Some(sum) = before.sum {
-            append_address("  the target is %x", target, Some(sum), text);
+        self.append_here(self.place_at(before.address, before.word), text);
+        if before.sum.is_some() {
+            write!(text, "  the target is {target:08x}");
+            append_sum(before.sum, text);
         }
     }
 
@@ -259,16 +247,13 @@ impl Lines<'_> {
         if let Some(missing) = handler.missing {
             return append_missing(handler, missing, text);
         }
-        text.say("  it went to");
-        self.append_short_place(self.place_at(handler.address, None), text);
-        text.end();
+        let place = self.short(self.place_at(handler.address, None));
+        writeln!(text, "  it went to{place}");
     }
 
     /// Appends a trap with why it came and where it went.
     fn append_explained(self, trap: &Explained, text: &mut Printer) {
-        text.fill("step %d: trap ", &[trap.step]);
-        append_cause(trap.cause, text);
-        text.end();
+        writeln!(text, "step {}: trap {}", trap.step, Cause(trap.cause));
         self.append_trap_place(trap, text);
         append_reason(trap, text);
         append_overwritten(trap.overwritten, text);
@@ -285,14 +270,12 @@ impl Lines<'_> {
 
     /// Returns whether two addresses lie behind the same label.
     fn is_near(self, first: u32, second: u32) -> bool {
-        let (first, second) = (
-            self.listing.label_before(first),
-            self.listing.label_before(second),
-        );
-        match (first, second) {
-            (Some(first), Some(second)) => first.name.bytes() == second.name.bytes(),
-            _ => false,
+        if let Some(first) = self.listing.label_before(first)
+            && let Some(second) = self.listing.label_before(second)
+        {
+            return first.name.bytes() == second.name.bytes();
         }
+        false
     }
 
     /// Appends why an explained trap came again, and ends the line.
@@ -324,30 +307,25 @@ impl Lines<'_> {
 
     /// Appends a trap that came again and again.
     fn append_last(self, last: Repeated, text: &mut Printer) {
-        text.say("  the last trap, ");
-        append_cause(last.cause, text);
-        text.say(", at");
-        self.append_short_place(self.place_at(last.address, None), text);
-        text.say(",");
+        let place = self.short(self.place_at(last.address, None));
+        write!(text, "  the last trap, {}, at{place},", Cause(last.cause));
         last.append_times(text);
     }
 
     /// Appends what is told of the traps of some steps.
     pub fn append_explanation(self, told: &Explanation, text: &mut Printer) {
-        let is_cut = (told.unseen > 0) as u64;
-        match told.trap {
-            None => text.fill("no trap %{so far|in the first 20000000 steps}\n", &[is_cut]),
-            Some(trap) => {
-                if trap.handler.missing.is_none() {
-                    let form =
-                        "each trap %{|of the first 20000000 steps }met a handler; the last one:\n";
-                    text.fill(form, &[is_cut]);
-                }
-                self.append_explained(&trap, text);
-                if let Some(last) = told.repeated {
-                    self.append_repeated(&trap, last, text);
-                }
-            }
+        let is_cut = told.unseen > 0;
+        let Some(trap) = told.trap else {
+            let when = sign(is_cut, "in the first 20000000 steps", "so far");
+            return writeln!(text, "no trap {when}");
+        };
+        if trap.handler.missing.is_none() {
+            let which = sign(is_cut, "of the first 20000000 steps ", "");
+            writeln!(text, "each trap {which}met a handler; the last one:");
+        }
+        self.append_explained(&trap, text);
+        if let Some(last) = told.repeated {
+            self.append_repeated(&trap, last, text);
         }
     }
 }

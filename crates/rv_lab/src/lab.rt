@@ -21,7 +21,7 @@ use crate::fault::LabFault;
 use crate::marks::marks_in;
 use crate::order::Order;
 use crate::trail::Trail;
-use rv_answers::{Answer, Command, Printer, Registers};
+use rv_answers::{Answer, Command, Count, Printer, Registers};
 use rv_asm::{Listing, Places, Program, list};
 use rv_base::NoMemory;
 use rv_board::BootedBoard;
@@ -253,17 +253,18 @@ impl Lab {
 
     /// Appends the source's name and size, and where the board stands.
     pub fn greet(&self, name: &str, answer: &mut Printer) {
-        let lines = self.listing().len() as u64;
-        let bytes = self.program().bytes().len() as u64;
-        let form = ": %d line%{s||s}, %d byte%{s||s} from 80000000; `help` shows the commands\n";
-        answer.say(name);
-        answer.fill(form, &[lines, lines, bytes, bytes]);
+        let lines = Count(self.listing().len() as u64, "line");
+        let bytes = Count(self.program().bytes().len() as u64, "byte");
+        writeln!(
+            answer,
+            "{name}: {lines}, {bytes} from 80000000; `help` shows the commands"
+        );
         self.append_here(answer);
     }
 
     /// Appends the progress of a long run.
     pub fn append_progress(&self, answer: &mut Printer) {
-        answer.fill("running: step %d\n", &[self.steps()]);
+        writeln!(answer, "running: step {}", self.steps());
     }
 
     /// Makes the lab ready for a command: ends the run that isn't over and what `why` follows, unless it is `why`, and

@@ -1,6 +1,6 @@
 //! The source read again.
 use crate::words::Words;
-use rv_answers::{Answer, BreakCondition, Breakpoints, Place, Target, Watch};
+use rv_answers::{Answer, BreakCondition, Breakpoints, Place, Shown, Target, Watch};
 use rv_base::{NoMemory, TEXT_LIMIT};
 use rv_lab::{Lab, LabFault, Printer, append_diagnosis};
 use rv_options::read_file;
@@ -23,13 +23,9 @@ pub struct SourceFile<'a> {
 /// Returns the command for a breakpoint at the line of a place, or at its address where it has none.
 fn break_line(rt: &HostRuntime, place: Place) -> Printer {
     let mut line = Printer::new(rt.alloc());
-    line.say("b ");
     match place.line {
-        Some(number) => line.number(number as u64),
-        None => {
-            line.say("0x");
-            line.word(place.address);
-        }
+        Some(number) => write!(line, "b {number}"),
+        None => write!(line, "b 0x{:08x}", place.address),
     }
     line
 }
@@ -40,8 +36,7 @@ fn append_condition(condition: &BreakCondition, line: &mut Printer) {
         line.say(" if ");
         line.put(text.items());
     }
-    line.say(" after ");
-    line.number(condition.passes.saturating_add(1));
+    write!(line, " after {}", condition.passes.saturating_add(1));
 }
 
 /// Gives the breakpoint at a place its condition and the hits that it still passes, if it had some. A condition that means
@@ -87,32 +82,22 @@ fn copy_breaks(rt: &HostRuntime, old: &Lab, new: &mut Lab) -> Result<(), NoMemor
 /// image.
 fn watch_line(rt: &HostRuntime, target: Target, lab: &Lab) -> Printer {
     let mut line = Printer::new(rt.alloc());
-    line.say("watch ");
     match target {
-        Target::Register(register) => {
-            line.say("x");
-            line.number(u64::from(register.number()));
-        }
+        Target::Register(register) => write!(line, "watch x{}", register.number()),
         Target::Word(address) => append_word(lab, address, &mut line),
     }
     line
 }
 
-/// Appends the word at an address as it is watched.
+/// Appends the command to watch the word at an address.
 fn append_word(lab: &Lab, address: u32, line: &mut Printer) {
-    line.say("[");
     match lab.listing().label_before(address) {
         Some(label) if lab.listing().line_at(address).is_some() => {
-            line.put(label.name.bytes());
-            line.say("+");
-            line.number(u64::from(label.distance));
+            let name = Shown(label.name.bytes());
+            write!(line, "watch [{name}+{}]", label.distance);
         }
-        _ => {
-            line.say("0x");
-            line.word(address);
-        }
+        _ => write!(line, "watch [0x{address:08x}]"),
     }
-    line.say("]");
 }
 
 /// Has a lab watch what another one watches. What means nothing in the new source is left out.

@@ -3,7 +3,7 @@ use crate::displays::Displays;
 use crate::reload::SourceFile;
 use crate::save::saved;
 use crate::stop::StopFile;
-use rv_answers::{Command, command_named};
+use rv_answers::{Command, Shown, command_named};
 use rv_base::{NoMemory, first_word};
 use rv_lab::{Lab, Next, Printer, Reply};
 use std::io::{BufRead, IsTerminal, StdinLock, Write};
@@ -227,8 +227,7 @@ fn echo(rt: &HostRuntime, line: &[u8], text: &mut Printer) -> Result<(), TalkFau
     if rt.stdin().is_terminal() {
         return Ok(());
     }
-    text.shown(line);
-    text.end();
+    writeln!(text, "{}", Shown(line));
     print_answer(rt, text)
 }
 
