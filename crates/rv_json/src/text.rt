@@ -33,21 +33,25 @@ impl<T: ToJson> Serialize for Told<'_, T> {
     }
 }
 
-/// Returns the JSON of an answer of a lab with a listing, in one line without spaces.
+/// Returns the JSON of a value by the labels of a listing, in one line without spaces.
 #[tactic(auto, using(crate::proofs::Lists::text_of))]
+fn text_of<T: ToJson>(alloc: Global, listing: Listing<'_>, value: &T) -> Result<String, NoMemory>
+    ensures { IfOk result
+        (λ s. string_bytes s ≡ compact_text (T.json (seen listing.entry).labels value.now)) }
+{
+    let names = Names { listing, alloc };
+    match serde_json::to_string(alloc, &Told { value, names }) {
+        Ok(text) => Ok(text),
+        Err(_) => Err(NoMemory),
+    }
+}
+
+/// Returns the JSON of an answer of a lab with a listing, in one line without spaces.
 pub fn answer_json(alloc: Global, listing: Listing<'_>, answer: &Answer) -> Result<String, NoMemory>
     ensures { IfOk result
         (λ s. string_bytes s ≡ compact_text (answer_data (seen listing.entry).labels answer.now)) }
 {
-    let names = Names { listing, alloc };
-    let told = Told {
-        value: answer,
-        names,
-    };
-    match serde_json::to_string(alloc, &told) {
-        Ok(text) => Ok(text),
-        Err(_) => Err(NoMemory),
-    }
+    text_of(alloc, listing, answer)
 }
 
 /// What a command answers, a word for what follows it, and what the console got meanwhile.
@@ -69,7 +73,6 @@ impl ToJson for Exchange<'_> {
 
 /// Returns the JSON of what a command answers, with a word for what follows it and what the console got
 /// meanwhile, in one line without spaces.
-#[tactic(auto, using(crate::proofs::Lists::text_of))]
 pub fn reply_json(
     alloc: Global,
     listing: Listing<'_>,
@@ -85,19 +88,10 @@ pub fn reply_json(
         next,
         console,
     };
-    let names = Names { listing, alloc };
-    let told = Told {
-        value: &exchange,
-        names,
-    };
-    match serde_json::to_string(alloc, &told) {
-        Ok(text) => Ok(text),
-        Err(_) => Err(NoMemory),
-    }
+    text_of(alloc, listing, &exchange)
 }
 
 /// Returns the JSON of the faults of a source that is rejected, in one line without spaces.
-#[tactic(auto, using(crate::proofs::Lists::text_of))]
 pub fn faults_json(alloc: Global, faults: &Many<Fault>) -> Result<String, NoMemory>
     ensures { IfOk result (λ s. string_bytes s ≡ compact_text (faults_data faults.now)) }
 {
@@ -105,16 +99,9 @@ pub fn faults_json(alloc: Global, faults: &Many<Fault>) -> Result<String, NoMemo
     let Ok((program, places)) = list(alloc, b"") else {
         return Err(NoMemory);
     };
-    let names = Names {
-        listing: Listing {
-            program: &program,
-            places: &places,
-        },
-        alloc,
+    let listing = Listing {
+        program: &program,
+        places: &places,
     };
-    let value = &Faults(faults);
-    match serde_json::to_string(alloc, &Told { value, names }) {
-        Ok(text) => Ok(text),
-        Err(_) => Err(NoMemory),
-    }
+    text_of(alloc, listing, &Faults(faults))
 }
