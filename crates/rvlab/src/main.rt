@@ -50,25 +50,15 @@ fn refuse(rt: &HostRuntime, words: &Words<'_>, source: &[u8], fault: LabFault) -
     )
 }
 
-/// Greets, and talks until no command follows.
-fn greet_and_talk(
-    rt: &HostRuntime,
-    words: &Words<'_>,
-    lab: &mut Lab,
-    answer: &mut Printer,
-) -> Result<(), TalkFault> {
-    lab.greet(words.opening.source, answer);
-    print_answer(rt, answer)?;
-    talk(rt, lab, SourceFile::new(rt, *words), answer)
-}
-
 /// Talks with a lab until no command follows, as the words ask for it.
 fn talk_as_asked(rt: &HostRuntime, words: &Words<'_>, lab: &mut Lab) -> Result<(), TalkFault> {
     if words.is_json {
         return talk_json(rt, lab);
     }
     let mut answer = Printer::new(rt.alloc());
-    greet_and_talk(rt, words, lab, &mut answer)
+    lab.greet(words.opening.source, &mut answer);
+    print_answer(rt, &mut answer)?;
+    talk(rt, lab, SourceFile::new(rt, *words), &mut answer)
 }
 
 /// Talks with a lab until no command follows. Returns the exit status.

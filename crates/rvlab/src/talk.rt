@@ -281,8 +281,6 @@ pub fn talk(
             _ => break,
         }
     }
-    match goes_on {
-        Ok(_) => Ok(()),
-        Err(fault) => Err(fault),
-    }
+    goes_on?;
+    Ok(())
 }
