@@ -34,12 +34,9 @@ mark_at : (ms : List ℕ) (calls : ℕ) (s : SessionState) (n : ℕ)
 unfolding is_marked
 mark_at ms calls s n = grind arith
 
-kept : (o : Option End) → o ≡ option_and_then (λ end. Some end) o
-kept o = grind arith
-
 plain_at : (ms : List ℕ) (g : Goal) (s : SessionState) (n : ℕ)
     → plain_ends ms g s n ≡ option_and_then (plain_here ms (goal_at g s n) (record s { timed = after s.timed n })) (bare_ends g s n)
-plain_at ms g s n = grind (arith, mark_at, kept)
+plain_at ms g s n = grind (arith, mark_at)
 
 plain_none : (ms : List ℕ) (g : Goal) (s : SessionState) (n : ℕ) → NoneEnds (bare_ends g s) n → NoneEnds (plain_ends ms g s) n
 plain_none ms g s n none i l = grind (arith, plain_at)
@@ -48,9 +45,6 @@ plain_none ms g s n none i l = grind (arith, plain_at)
 plain_first : (ms : List ℕ) (g : Goal) (s : SessionState)
     → plain_ends ms g s 0 ≡ first_end (halted_of (after s.timed 0).board) false false (nat_lt (after s.timed 0).taken s.limit)
 plain_first ms g s = grind arith
-
-bare_first : (ms : List ℕ) (g : Goal) (s : SessionState) → plain_ends ms g s 0 ≡ bare_ends g s 0
-bare_first ms g s = grind arith
 
 -- ---- the hits
 
@@ -114,19 +108,8 @@ module _ (here : End → Option End) (limit : here Limit ≡ Some Limit) (o x : 
   goes_by : here end ≡ None → (x ≡ None) × (is_some o ≡ true)
   goes_by is = grind arith
 
-in_turn : (f g : End → Option End) (o : Option End)
-    → option_and_then f (option_and_then g o) ≡ option_and_then (λ end. option_and_then f (g end)) o
-in_turn f g o = grind arith
-
-not_before : (h : Option ℕ) (l : Bool) → is_break (first_end h false false l) ≡ false
-not_before h l = grind arith
-
-first_by : (gs : List Guard) (t : SessionState) (h : Option ℕ) (l : Bool)
-    → option_and_then (end_here gs t) (first_end h false false l) ≡ first_end h false false l
-first_by gs t h l = grind arith
-
 past_first : (ms : List ℕ) (a : Aim) (s : SessionState) → past_ends ms a s 0 ≡ bare_ends a.goal s 0
-past_first ms a s = grind (arith, nat_tests, is_passing, plain_first, first_by, bare_first)
+past_first ms a s = grind arith
 
 module _ (ms : List ℕ) (a : Aim) (s : SessionState) (n : ℕ) (none : NoneEnds (bare_ends a.goal s) n) where
   abbrev there : SessionState
@@ -142,7 +125,7 @@ module _ (ms : List ℕ) (a : Aim) (s : SessionState) (n : ℕ) (none : NoneEnds
             (λ i l. ap is_break (plain_none ms a.goal s n none (suc i) (omega (arith, l)))),
         plain_at ms a.goal s n,
       )
-      (in_turn (end_here a.guards there) (plain_here ms (goal_at a.goal s n) there) (bare_ends a.goal s n))
+      (grind arith)
 
   limit_here : plain_here ms (goal_at a.goal s n) there Limit ≡ Some Limit
   limit_here = grind arith
@@ -151,7 +134,7 @@ module _ (ms : List ℕ) (a : Aim) (s : SessionState) (n : ℕ) (none : NoneEnds
       → guards_here ms (record a { goal = goal_at a.goal s n }) there end ≡ guards_after ms a.guards a.goal s n
   guards_at end e =
       sym (counted_here s (plain_ends ms a.goal s) a.guards n (plain_none ms a.goal s n none)
-      (ap is_break (plain_first ms a.goal s) ∙ not_before (halted_of (after s.timed 0).board) _)
+      (rw (plain_first ms a.goal s) (grind arith))
       ∙ rw (plain_at ms a.goal s n) (by_bare (plain_here ms (goal_at a.goal s n) there) a.guards there
       (bare_ends a.goal s n) end limit_here e))
 
