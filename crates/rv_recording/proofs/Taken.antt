@@ -1,5 +1,5 @@
 -- Calls of a session are runs.
-use Rattle.std.proofs.Common.{rules, ◌≡◌, ℕ, ◌+◌, ◌<◌, true, false, refl, ap, subst, arith, ⊎_elim}
+use Rattle.std.proofs.Common.{rules, ◌≡◌, ℕ, ◌+◌, ◌<◌, true, false, refl, ap, subst, arith}
 use Rattle.std.specs.Prelude.{nat_lt, is_some, Option, None, Result, OnErr}
 use Rattle.rv_base.specs.declared.memory.NoMemory.{NoMemory}
 use Rattle.std.proofs.lemmas.Bool.{cases_lt, false≢true}
@@ -12,7 +12,7 @@ use Rattle.rv_recording.specs.Until.{HasRun, end_at, steps_of}
 use Rattle.rv_recording.specs.Refused.{IsRefusedIn, NoneEnds}
 use Rattle.rv_recording.specs.Support.Steps.{end_by}
 use Rattle.rv_recording.specs.declared.until.End.{End}
-use Rattle.rv_recording.proofs.Counting.{all_steps, over_at, takes_more}
+use Rattle.rv_recording.proofs.Counting.{as_far, takes_more}
 
 -- memory ran out after n steps, fewer than the run takes
 pub refused_at : {ends : ℕ → Option End} {most : ℕ} {old new : SessionState} (n : ℕ)
@@ -43,15 +43,12 @@ module _ (a : Addresses) (n : ℕ) (s t : SessionState) where
     going : NoneEnds ends r.count
     going i l = none_at i (omega (arith, l, r.within)) (r.going i l)
 
-    last_over : r.count < n → is_some (ends r.count) ≡ true
+    all_of : is_some (ends r.count) ≡ false → r.count ≡ n
     unfolding stop_after
-    last_over l = search (rules, arith, false≢true, taken, cases_lt)
+    all_of e = search (rules, arith, false≢true, taken, cases_lt)
 
     steps_are : steps_of ends n ≡ r.count
-    steps_are = ⊎_elim (λ less. over_at ends r.count n (omega (arith, less)) going (last_over less))
-        (λ all.
-        let same : r.count ≡ n = omega (arith, all, r.within) in
-        subst (λ (m : ℕ). steps_of ends m ≡ r.count) same (all_steps ends r.count going)) (cases_lt r.count n)
+    steps_are = as_far ends r.count n (omega (arith, r.within)) going all_of
 
     pub took_ran : (stop : Stop) (end : End) → stop ≡ stop_of a s t → end ≡ end_by stop (nat_lt t.timed.taken t.limit)
         → HasRun ends n s t end
