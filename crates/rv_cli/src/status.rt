@@ -18,7 +18,8 @@ fn append_stand(halted: Option<u16>, pc: u32, text: &mut Vec<u8>) -> Result<(), 
     Ok(text.extend_from_slice(&word_digits(pc))?)
 }
 
-/// Appends the status line, with its line end: how a board stands, and how many steps it has taken.
+/// Appends the status line, with its line end: how a board stands, and how many steps it has taken. Where memory runs
+/// out, the text ends with a prefix of it.
 pub(crate) fn append_status(
     halted: Option<u16>,
     pc: u32,
