@@ -1,6 +1,6 @@
 -- A walk up the calls.
-use Rattle.std.proofs.Common.{◌≡◌, ◌∙◌, ℕ, suc, ◌+◌, ◌-◌, ◌<◌, ◌≤◌, List, [], ◌∷◌, ◌++◌, sym, ap, append_assoc, append-nil, arith}
-use Rattle.std.specs.Prelude.{Ok, Err}
+use Rattle.std.proofs.Common.{◌≡◌, ◌∙◌, ℕ, suc, ◌+◌, ◌-◌, ◌<◌, ◌≤◌, List, [], ◌∷◌, ◌++◌, refl, ap, append_assoc, append-nil, arith}
+use Rattle.std.specs.Prelude.{Result, Ok, Err}
 use Rattle.rv_board.specs.BoardState.{BoardState}
 use Rattle.rv_asm.specs.Lines.{Listed}
 use Rattle.rv_answers.specs.declared.frames.Backtrace.{Backtrace}
@@ -19,12 +19,6 @@ told frames rest = record { frames = frames ++ rest.0; outermost = rest.1 }
 abbrev pub alone : List Frame → Outermost → Backtrace
 alone frames why = record { frames = frames; outermost = why }
 
-told_one : (frames : List Frame) (f : Frame) (rest : Rest) → told (frames ++ f ∷ []) rest ≡ told frames (f ∷ rest.0, rest.1)
-told_one frames f rest = ap (λ fs. alone fs rest.1) (append_assoc frames (f ∷ []) rest.0)
-
-told_none : (frames : List Frame) (why : Outermost) → told frames ([], why) ≡ alone frames why
-told_none frames why = ap (λ fs. alone fs why) (append-nil frames)
-
 module _ (l : Listed) (rows : List FrameRow) (b : BoardState) where
   -- some frames were told: those above a level, of which as many are left, follow them
   abbrev pub Walked : List Frame → Level → ℕ → Type 0
@@ -33,40 +27,34 @@ module _ (l : Listed) (rows : List FrameRow) (b : BoardState) where
   pub begins : (first : Frame) (v : Level) → first ≡ frame_of reached.Here (innermost b) → v ≡ innermost b
       → Walked ([] ++ first ∷ []) v 0
   unfolding backtrace
-  begins first v e f = ap (λ x. told (x ∷ []) (frames_above l rows b 63 v)) e
-      ∙ ap (λ x. told (frame_of reached.Here (innermost b) ∷ []) (frames_above l rows b 63 x)) f
+  begins first v e f = rw (e, f) refl
 
-  up : (n : ℕ) (v : Level) → n < 63
-      → frames_above l rows b (63 - n) v ≡ joined (frames_above l rows b (63 - (n + 1))) (above l rows b v)
+  up : (n : ℕ) (v : Level) {r : Result (Level × Frame) Outermost} → n < 63 → above l rows b v ≡ r
+      → frames_above l rows b (63 - n) v ≡ joined (frames_above l rows b (63 - (n + 1))) r
   unfolding frames_above
-  up n v less =
+  up n v less e =
       let more : 63 - n ≡ suc (63 - (n + 1)) = omega (arith, less) in
-      ap (λ k. frames_above l rows b k v) more
+      ap (λ k. frames_above l rows b k v) more ∙ ap (joined (frames_above l rows b (63 - (n + 1)))) e
 
-  last : (n : ℕ) (v : Level) → 63 ≤ n → frames_above l rows b (63 - n) v ≡ ended (above l rows b v)
+  last : (n : ℕ) (v : Level) {r : Result (Level × Frame) Outermost} → 63 ≤ n → above l rows b v ≡ r
+      → frames_above l rows b (63 - n) v ≡ ended r
   unfolding frames_above
-  last n v past =
+  last n v past e =
       let none : 63 - n ≡ 0 = omega (arith, past) in
-      ap (λ k. frames_above l rows b k v) none
+      ap (λ k. frames_above l rows b k v) none ∙ ap ended e
 
   pub goes_up : (frames later : List Frame) (v u : Level) (frame : Frame) (n : ℕ) → n < 63
       → above l rows b v ≡ Ok (u, frame) → Walked frames v n → later ≡ frames ++ frame ∷ [] → Walked later u (n + 1)
-  goes_up frames later v u frame n less e w g =
-      ap (λ fs. told fs (frames_above l rows b (63 - (n + 1)) u)) g
-      ∙ (told_one frames frame (frames_above l rows b (63 - (n + 1)) u)
-      ∙ (ap (told frames) (sym (up n v less ∙ ap (joined (frames_above l rows b (63 - (n + 1)))) e)) ∙ w))
+  goes_up frames later v u frame n less e w g = rw (g, append_assoc) (rw (up n v less e) at w)
 
   pub ends : (frames : List Frame) (v : Level) (why : Outermost) (n : ℕ) → n < 63 → above l rows b v ≡ Err why
       → Walked frames v n → alone frames why ≡ backtrace l rows b
-  ends frames v why n less e w = sym (told_none frames why)
-      ∙ (ap (told frames) (sym (up n v less ∙ ap (joined (frames_above l rows b (63 - (n + 1)))) e)) ∙ w)
+  ends frames v why n less e w = rw (up n v less e, append-nil) at w
 
   pub has_more : (frames : List Frame) (v : Level) (u : Level × Frame) (n : ℕ) → 63 ≤ n → above l rows b v ≡ Ok u
       → Walked frames v n → alone frames outermost.More ≡ backtrace l rows b
-  has_more frames v u n past e w = sym (told_none frames outermost.More)
-      ∙ (ap (told frames) (sym (last n v past ∙ ap ended e)) ∙ w)
+  has_more frames v u n past e w = rw (last n v past e, append-nil) at w
 
   pub all_told : (frames : List Frame) (v : Level) (why : Outermost) (n : ℕ) → 63 ≤ n → above l rows b v ≡ Err why
       → Walked frames v n → alone frames why ≡ backtrace l rows b
-  all_told frames v why n past e w = sym (told_none frames why)
-      ∙ (ap (told frames) (sym (last n v past ∙ ap ended e)) ∙ w)
+  all_told frames v why n past e w = rw (last n v past e, append-nil) at w

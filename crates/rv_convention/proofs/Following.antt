@@ -52,11 +52,8 @@ module _ {P : Type 0} (follows : P → ℕ → Turn → BoardState → P) (steps
       let running = runs_by now.timed.board.machine.bus.halt (both_by _ _ took.0) in
       let rest : most - n ≡ suc (most - (n + 1)) = omega (arith, less) in
       record {
-        all = f.all ∙ (ap (λ k. known follows seen (moments k now.timed)) rest
-            ∙ (ap (λ ms. known follows seen ms) (more_moments (most - (n + 1)) now.timed running)
-            ∙ (ap (λ (p : P). known follows p (moments (most - (n + 1)) (after now.timed 1))) (sym took.2)
-            ∙ ap (λ (s : SessionState). known follows later (moments (most - (n + 1)) s.timed)) (sym took.1))));
-        limit = ap (λ (s : SessionState). s.limit) took.1 ∙ f.limit;
+        all = f.all ∙ rw (rest, more_moments (most - (n + 1)) now.timed running, took.1, took.2) refl;
+        limit = rw took.1 f.limit;
         taken = let sum = ap (λ (s : SessionState). s.timed.taken) took.1 in omega (arith, sum, f.taken);
         count = let sum = took.3 in omega (arith, sum, f.count);
       }

@@ -1,5 +1,5 @@
 -- What is counted of a run, by its lines.
-use Rattle.std.proofs.Common.{◌≡◌, ◌∙◌, ℕ, zero, suc, ◌+◌, ◌-◌, ◌<◌, ◌≤◌, Bool, true, false, add-one, cond, List, [], ◌∷◌, drop, fold, get_or, length, map, replicate, set, take, refl, sym, ap, subst, nat_lt, arith}
+use Rattle.std.proofs.Common.{rules, ◌≡◌, ◌∙◌, ℕ, zero, suc, ◌+◌, ◌-◌, ◌<◌, ◌≤◌, Bool, true, false, add-one, cond, List, [], ◌∷◌, drop, fold, get_or, length, map, replicate, set, take, refl, sym, ap, subst, nat_lt, arith}
 use Rattle.std.specs.Prelude.{◌&&◌, ◌||◌, Option, Some, None, filter_map, if◌then◌else◌, is_some, not}
 use Rattle.std.specs.List.{cons_option, list_any, prefix_len, range_with_len}
 use Rattle.std.proofs.Math.Bool.{or_assoc, or-false}
@@ -39,10 +39,7 @@ is_listed l a n k h e = grind (arith, get_or_past)
 
 module _ (l : Listed) (a : ℕ) (change : Tallied → Tallied) where
   kept : (n : ℕ) → 1 ≤ n → (HasByteAt l a n → ⊥) → (t : Tallied) → changed_in l a change n t ≡ t
-  kept n low never t = by (is_in l n a) refl where
-    by : (b : Bool) → is_in l n a ≡ b → (if b then change t else t) ≡ t
-    by true e = absurd (never (inside l a n low e))
-    by false e = refl
+  kept n low never t = search (rules, arith, inside, never)
 
   -- the line at a place, by its number k
   set_at : (n i k : ℕ) (ts : List Tallied) (t : Tallied) → 1 ≤ n → k ≡ n + i → i < length ts → HasByteAt l a k
@@ -168,19 +165,7 @@ module _ (l : Listed) (s : TimedState) (ms : List Moment) where
   unfolding tallied changed
   all_lines = lines_after (none_counted l s.board.machine.pc) ms
       ∙ (each_each _ _ 1 (replicate (length l.addresses - 1) nothing)
-      ∙ each_of_none _ _ parts 1 (length l.addresses - 1))
-    where
-      parts : (n : ℕ) → fold (line_after l n) (changed_in l s.board.machine.pc entered n nothing) ms
-          ≡ record { steps = steps_in l ms n; begins = begins_in l s ms n }
-      parts n = line_parts l n (changed_in l s.board.machine.pc entered n nothing) ms
-          ∙ by (is_in l n s.board.machine.pc) where
-            by : (b : Bool) → ◌≡◌ {A = Tallied} (record {
-              steps = fold (λ (a : ℕ) (m : Moment). a + cond (is_in l n m.before.machine.pc) 1 0)
-                  (if b then entered nothing else nothing).steps ms;
-              begins = (if b then entered nothing else nothing).begins || list_any (enters l n) ms;
-            }) (record { steps = steps_in l ms n; begins = b || list_any (enters l n) ms })
-            by true = refl
-            by false = refl
+      ∙ each_of_none _ _ (λ n. search (rules, arith, line_parts)) 1 (length l.addresses - 1))
 
   steps_all : all_counted.steps ≡ length ms
   steps_all = omega (arith, steps_after (none_counted l s.board.machine.pc) ms)
@@ -229,8 +214,7 @@ module _ (l : Listed) (lines : List Tallied) (part : Part) where
 
   with_row : (rows left : List Spent) (o : Option Spent)
       → fold placed rows (cons_option o left) ≡ fold placed (placed_if rows o) left
-  with_row rows left None = refl
-  with_row rows left (Some row) = refl
+  with_row rows left o = search rules
 
   pub told_next : (n : ℕ) (rows later : List Spent) (o : Option Spent) → n < length lines
       → o ≡ row_of l (n + 1) (part_steps part (drop n lines)) → later ≡ placed_if rows o

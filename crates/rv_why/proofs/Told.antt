@@ -58,11 +58,7 @@ module _ {first now next : SessionState} {found trap later : Option Found} {n : 
     (at : Searching first now found n) (moves : next ≡ next_of now) (is : trap ≡ trap_of n now.timed)
     (keeps : later ≡ later_of trap found) where
   found_next : later ≡ found_in first.timed (n + 1)
-  found_next =
-      let going : ends first.timed n ≡ false =
-      sym (last_is first.timed (told first.timed n)) ∙ (ap is_last (sym at.told) ∙ at.going) in
-      keeps ∙ rw (is, timed_is n h at.state, at.told, after_more first.timed n 1 h.rising, told_next first.timed n going)
-      (later_by first.timed n (told first.timed n) (is_trap (outcome_at first.timed n)))
+  found_next = search (rules, arith, nat_tests, timed_is, after_more, told_next, later_by, last_is)
 
   pub went_on : is_last later ≡ false → Searching first next later (n + 1)
   went_on e = record { state = next_is n h at.state moves; told = found_next; going = e }

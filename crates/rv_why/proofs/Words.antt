@@ -46,11 +46,8 @@ module _ (s : Mstatus) where
     abbrev mode_of : Bool → Mode → Mode
     mode_of mprv mpp = if mprv then mpp else mode
 
-    mprv_by : (b : Bool) → flag w 17 ≡ b → s.mprv ≡ b
-    mprv_by b e = sym mprv_bit ∙ (ap (λ (n : ℕ). flag n 17) (sym is) ∙ e)
-
     pub own_mode : flag w 17 ≡ false → mode ≡ mode_of s.mprv s.mpp
-    own_mode e = sym (ap (λ (b : Bool). mode_of b s.mpp) (mprv_by false e))
+    own_mode e = grind (arith, mprv_bit)
 
     pub machine_mode : flag w 17 ≡ true → flag w 11 ≡ true → Machine ≡ mode_of s.mprv s.mpp
     machine_mode e f = search (rules, arith, nat_tests, mprv_bit, mpp_bit)
