@@ -62,14 +62,6 @@ module _ (block biases : List ℕ) where
   index_in off l = omega (arith, length_paged)
 
 module _ (block biases : List ℕ) (a : IsPaged block biases) where
-  pub some_pages : 1 ≤ length biases
-  unfolding IsPaged
-  some_pages = a.some
-
-  pub most_pages : length biases ≤ 4096
-  unfolding IsPaged
-  most_pages = a.most
-
   pub block_small : length block < 2 ^ 32
   unfolding IsPaged
   block_small = omega (arith, a.size, a.most, count_at_most (made_in biases), length_made biases)

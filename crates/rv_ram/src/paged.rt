@@ -177,7 +177,7 @@ impl ByteMemory for PagedRam {
 
     ghost wants_room = { wants_page };
 
-    #[tactic(auto, using(crate::proofs::Blocks::length_paged, crate::proofs::Blocks::some_pages, crate::proofs::Blocks::most_pages))]
+    #[tactic(auto, using(crate::proofs::Blocks::length_paged), unfolding(crate::specs::Support::Table::IsPaged))]
     fn size(&self) -> u32 {
         PAGE_BYTES * self.biases.len() as u32
     }
