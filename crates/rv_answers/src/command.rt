@@ -76,322 +76,113 @@ pub(crate) struct CommandRow {
     pub(crate) command: Command,
     /// The command with its operands.
     pub(crate) form: &'static str,
-    /// What it does.
-    pub(crate) does: &'static str,
     /// An example.
     pub(crate) example: &'static str,
+    /// What it does.
+    pub(crate) does: &'static str,
 }
 
-/// The commands by their words, in the order of the help: the first word is that of the help, and the others
-/// are as other tools have them.
-static COMMANDS: [(&str, CommandRow); 34] = [
-    (
-        "s step si",
-        CommandRow {
-            command: Command::Step,
-            form: "s [N]",
-            does: "takes N steps, or one",
-            example: "s 5",
-        },
-    ),
-    (
-        "c continue run go",
-        CommandRow {
-            command: Command::Moves(Move::Go),
-            form: "c [N]",
-            does: "goes on up to a breakpoint, for N steps at most (1000000 without N)",
-            example: "c 500",
-        },
-    ),
-    (
-        "next n ni",
-        CommandRow {
-            command: Command::Over,
-            form: "next",
-            does: "goes on past the line here, and past the calls that it makes",
-            example: "next",
-        },
-    ),
-    (
-        "nextc",
-        CommandRow {
-            command: Command::NextC,
-            form: "nextc",
-            does: "goes on to the next place of the C source, past calls: to a label as `main.16` of tools/cc",
-            example: "nextc",
-        },
-    ),
-    (
-        "finish fin",
-        CommandRow {
-            command: Command::Moves(Move::Finish),
-            form: "finish",
-            does: "goes on until the present function or handler has returned",
-            example: "finish",
-        },
-    ),
-    (
-        "until",
-        CommandRow {
-            command: Command::Moves(Move::Until),
-            form: "until WHAT [N]",
-            does: "goes on until `trap`, `console`, a line or an address, `REG` or `[ADDR]` changes, or `REG = V` (also != < <= > >=) holds, for N steps at most (1000000 without N)",
-            example: "until [0x80001000] != 0",
-        },
-    ),
-    (
-        "trace",
-        CommandRow {
-            command: Command::Moves(Move::Trace),
-            form: "trace [N]",
-            does: "takes N steps (10 without N), and tells each: its line, and what it changed",
-            example: "trace 20",
-        },
-    ),
-    (
-        "u undo back",
-        CommandRow {
-            command: Command::Moves(Move::Back),
-            form: "u [N|until WHAT]",
-            does: "goes N steps back, or back to before the last command, or to the last step before now after which WHAT held",
-            example: "u 3",
-        },
-    ),
-    (
-        "w where",
-        CommandRow {
-            command: Command::Where,
-            form: "w",
-            does: "tells where the program is",
-            example: "w",
-        },
-    ),
-    (
-        "bt backtrace",
-        CommandRow {
-            command: Command::Backtrace,
-            form: "bt",
-            does: "tells by which calls and traps the program came here, as far as the code tells it",
-            example: "bt",
-        },
-    ),
-    (
-        "l list",
-        CommandRow {
-            command: Command::List,
-            form: "l [WHERE] [N]",
-            does: "lists N lines of the source (11 without N) round a line, an address or a name, or here",
-            example: "l main 5",
-        },
-    ),
-    (
-        "b break",
-        CommandRow {
-            command: Command::Break,
-            form: "b [WHERE [if WHAT] [after N]]",
-            does: "sets a breakpoint at a line, an address or a name, which stops a run only if WHAT holds, as in `until`, and from the Nth such time on; or lists them, and what is watched",
-            example: "b 12 after 3",
-        },
-    ),
-    (
-        "d delete clear",
-        CommandRow {
-            command: Command::Clear,
-            form: "d WHERE",
-            does: "clears a breakpoint",
-            example: "d 12",
-        },
-    ),
-    (
-        "r reg regs registers",
-        CommandRow {
-            command: Command::Registers,
-            form: "r [REG]",
-            does: "shows the registers, with a star where the last command changed one",
-            example: "r sp",
-        },
-    ),
-    (
-        "p",
-        CommandRow {
-            command: Command::ControlRegister,
-            form: "p CSR",
-            does: "shows a control register, and what its bits say",
-            example: "p mstatus",
-        },
-    ),
-    (
-        "m mem x",
-        CommandRow {
-            command: Command::Memory,
-            form: "m WHERE [N] [w|t]",
-            does: "shows N bytes of memory (64 without N, at most 4096), N words with `w`, the text with `t`",
-            example: "m sp 8 w",
-        },
-    ),
-    (
-        "i",
-        CommandRow {
-            command: Command::Instruction,
-            form: "i [WHERE]",
-            does: "shows an instruction",
-            example: "i 0x80000010",
-        },
-    ),
-    (
-        "t traps",
-        CommandRow {
-            command: Command::Traps,
-            form: "t",
-            does: "shows the last traps with their lines",
-            example: "t",
-        },
-    ),
-    (
-        "e",
-        CommandRow {
-            command: Command::Edges,
-            form: "e N",
-            does: "shows how many edges of source N are pending",
-            example: "e 24",
-        },
-    ),
-    (
-        "why",
-        CommandRow {
-            command: Command::Why,
-            form: "why [REG|WHERE [N]]",
-            does: "explains the first trap that met no handler, or else the last trap; of a register or a word, tells the last step that wrote it (before step N), and alone after that the one before",
-            example: "why a0",
-        },
-    ),
-    (
-        "check",
-        CommandRow {
-            command: Command::Check,
-            form: "check [N]",
-            does: "runs a copy from reset on, up to the halt, for N steps at most (1000000 without N), and tells each breach of the calling convention",
-            example: "check",
-        },
-    ),
-    (
-        "profile",
-        CommandRow {
-            command: Command::Profile,
-            form: "profile [N]",
-            does: "runs a copy from reset on, up to the halt, for N steps at most (1000000 without N), and tells how many steps each function and each line took",
-            example: "profile",
-        },
-    ),
-    (
-        "display",
-        CommandRow {
-            command: Command::Display,
-            form: "display REG|WHERE",
-            does: "shows a register or a word, and from then on after each command that moved the board",
-            example: "display a0",
-        },
-    ),
-    (
-        "undisplay",
-        CommandRow {
-            command: Command::Undisplay,
-            form: "undisplay [WHAT]",
-            does: "ends what was asked for by `display WHAT`, or all of it",
-            example: "undisplay a0",
-        },
-    ),
-    (
-        "watch",
-        CommandRow {
-            command: Command::Watch,
-            form: "watch [REG|WHERE]",
-            does: "has each run stop after the first step that changes a register or a word; or lists what is watched",
-            example: "watch a0",
-        },
-    ),
-    (
-        "unwatch",
-        CommandRow {
-            command: Command::Unwatch,
-            form: "unwatch [REG|WHERE]",
-            does: "ends what was asked for by `watch`, of one or of all",
-            example: "unwatch a0",
-        },
-    ),
-    (
-        "dev",
-        CommandRow {
-            command: Command::Devices,
-            form: "dev",
-            does: "shows timer, serial port, interrupts and protection",
-            example: "dev",
-        },
-    ),
-    (
-        "rx",
-        CommandRow {
-            command: Command::Receive,
-            form: "rx TEXT|HH ..",
-            does: "has the serial port receive a text between quotes, or bytes in hexadecimal, now",
-            example: "rx \"hi\\n\"",
-        },
-    ),
-    (
-        "line",
-        CommandRow {
-            command: Command::Line,
-            form: "line N V",
-            does: "makes the line of interrupt source N high (V is 1) or low (V is 0), now",
-            example: "line 5 1",
-        },
-    ),
-    (
-        "save",
-        CommandRow {
-            command: Command::Save,
-            form: "save [NAME]",
-            does: "shows what was done as a timed list and commands for rvboard, or writes them to NAME.input and NAME.commands",
-            example: "save lesson",
-        },
-    ),
-    (
-        "reload",
-        CommandRow {
-            command: Command::Reload,
-            form: "reload",
-            does: "reads the source again and begins anew, with the same breakpoints by their lines, watches, inputs and displays",
-            example: "reload",
-        },
-    ),
-    (
-        "monitor",
-        CommandRow {
-            command: Command::Monitor,
-            form: "monitor LINE",
-            does: "does a command exactly as rvboard's monitor does",
-            example: "monitor m 0x80000000 16",
-        },
-    ),
-    (
-        "help h",
-        CommandRow {
-            command: Command::Help,
-            form: "help [COMMAND]",
-            does: "shows the commands, or one with an example",
-            example: "help until",
-        },
-    ),
-    (
-        "q exit quit",
-        CommandRow {
-            command: Command::Quit,
-            form: "q",
-            does: "ends the lab",
-            example: "q",
-        },
-    ),
-];
+/// Gives a macro what stands behind its name, and then the commands, in the order of the help.
+///
+/// A row is a command with its words, of which the first is that of the help, and the others are as other tools have
+/// them; then the command with its operands, an example, and what it does.
+macro_rules! table {
+    ($rows:ident $given:tt) => {
+        $rows! {
+            $given
+            (Step "s" ["step" "si"] "s [N]" "s 5" "takes N steps, or one")
+            (Moves(Go) "c" ["continue" "run" "go"] "c [N]" "c 500"
+                "goes on up to a breakpoint, for N steps at most (1000000 without N)")
+            (Over "next" ["n" "ni"] "next" "next"
+                "goes on past the line here, and past the calls that it makes")
+            (NextC "nextc" [] "nextc" "nextc"
+                "goes on to the next place of the C source, past calls: to a label as `main.16` of tools/cc")
+            (Moves(Finish) "finish" ["fin"] "finish" "finish"
+                "goes on until the present function or handler has returned")
+            (Moves(Until) "until" [] "until WHAT [N]" "until [0x80001000] != 0"
+                "goes on until `trap`, `console`, a line or an address, `REG` or `[ADDR]` changes, or `REG = V` (also != < <= > >=) holds, for N steps at most (1000000 without N)")
+            (Moves(Trace) "trace" [] "trace [N]" "trace 20"
+                "takes N steps (10 without N), and tells each: its line, and what it changed")
+            (Moves(Back) "u" ["undo" "back"] "u [N|until WHAT]" "u 3"
+                "goes N steps back, or back to before the last command, or to the last step before now after which WHAT held")
+            (Where "w" ["where"] "w" "w" "tells where the program is")
+            (Backtrace "bt" ["backtrace"] "bt" "bt"
+                "tells by which calls and traps the program came here, as far as the code tells it")
+            (List "l" ["list"] "l [WHERE] [N]" "l main 5"
+                "lists N lines of the source (11 without N) round a line, an address or a name, or here")
+            (Break "b" ["break"] "b [WHERE [if WHAT] [after N]]" "b 12 after 3"
+                "sets a breakpoint at a line, an address or a name, which stops a run only if WHAT holds, as in `until`, and from the Nth such time on; or lists them, and what is watched")
+            (Clear "d" ["delete" "clear"] "d WHERE" "d 12" "clears a breakpoint")
+            (Registers "r" ["reg" "regs" "registers"] "r [REG]" "r sp"
+                "shows the registers, with a star where the last command changed one")
+            (ControlRegister "p" [] "p CSR" "p mstatus"
+                "shows a control register, and what its bits say")
+            (Memory "m" ["mem" "x"] "m WHERE [N] [w|t]" "m sp 8 w"
+                "shows N bytes of memory (64 without N, at most 4096), N words with `w`, the text with `t`")
+            (Instruction "i" [] "i [WHERE]" "i 0x80000010" "shows an instruction")
+            (Traps "t" ["traps"] "t" "t" "shows the last traps with their lines")
+            (Edges "e" [] "e N" "e 24" "shows how many edges of source N are pending")
+            (Why "why" [] "why [REG|WHERE [N]]" "why a0"
+                "explains the first trap that met no handler, or else the last trap; of a register or a word, tells the last step that wrote it (before step N), and alone after that the one before")
+            (Check "check" [] "check [N]" "check"
+                "runs a copy from reset on, up to the halt, for N steps at most (1000000 without N), and tells each breach of the calling convention")
+            (Profile "profile" [] "profile [N]" "profile"
+                "runs a copy from reset on, up to the halt, for N steps at most (1000000 without N), and tells how many steps each function and each line took")
+            (Display "display" [] "display REG|WHERE" "display a0"
+                "shows a register or a word, and from then on after each command that moved the board")
+            (Undisplay "undisplay" [] "undisplay [WHAT]" "undisplay a0"
+                "ends what was asked for by `display WHAT`, or all of it")
+            (Watch "watch" [] "watch [REG|WHERE]" "watch a0"
+                "has each run stop after the first step that changes a register or a word; or lists what is watched")
+            (Unwatch "unwatch" [] "unwatch [REG|WHERE]" "unwatch a0"
+                "ends what was asked for by `watch`, of one or of all")
+            (Devices "dev" [] "dev" "dev" "shows timer, serial port, interrupts and protection")
+            (Receive "rx" [] "rx TEXT|HH .." "rx \"hi\\n\""
+                "has the serial port receive a text between quotes, or bytes in hexadecimal, now")
+            (Line "line" [] "line N V" "line 5 1"
+                "makes the line of interrupt source N high (V is 1) or low (V is 0), now")
+            (Save "save" [] "save [NAME]" "save lesson"
+                "shows what was done as a timed list and commands for rvboard, or writes them to NAME.input and NAME.commands")
+            (Reload "reload" [] "reload" "reload"
+                "reads the source again and begins anew, with the same breakpoints by their lines, watches, inputs and displays")
+            (Monitor "monitor" [] "monitor LINE" "monitor m 0x80000000 16"
+                "does a command exactly as rvboard's monitor does")
+            (Help "help" ["h"] "help [COMMAND]" "help until"
+                "shows the commands, or one with an example")
+            (Quit "q" ["exit" "quit"] "q" "q" "ends the lab")
+        }
+    };
+}
+
+/// Expands to the rows of the commands by their words.
+macro_rules! rows_by_words {
+    (() $((
+        $command:ident $(($moves:ident))? $word:literal [$($other:literal)*] $form:literal $example:literal $does:literal
+    ))*) => {
+        [$((
+            concat!($word $(, " ", $other)*),
+            CommandRow {
+                command: Command::$command $((Move::$moves))?,
+                form: $form,
+                example: $example,
+                does: $does,
+            },
+        ),)*]
+    };
+}
+
+/// Expands to the word of a command in the help.
+macro_rules! word_of {
+    (($given:ident) $(($command:ident $(($moves:ident))? $word:literal $($help:tt)*))*) => {
+        match $given {
+            $(Command::$command $((Move::$moves))? => $word,)*
+            Command::Again | Command::StepOnce | Command::Nothing | Command::Unknown | Command::TooLong => "",
+        }
+    };
+}
+
+/// The commands by their words.
+static COMMANDS: [(&str, CommandRow); 34] = table!(rows_by_words());
 
 /// Returns the commands by their words. A long table is read in one place, since each costs its whole proof.
 #[tactic(auto, unfolding(crate::specs::Commands::commands))]
@@ -435,10 +226,7 @@ pub(crate) fn command_row(word: &[u8]) -> Option<CommandRow>
 pub fn command_named(word: &[u8]) -> Option<Command>
     ensures { result ≡ command_named word.now }
 {
-    match command_row(word) {
-        Some(row) => Some(row.command),
-        None => None,
-    }
+    Some(command_row(word)?.command)
 }
 
 /// Returns the word of a command in the help. What no word asks for has none.
@@ -446,45 +234,5 @@ pub fn command_named(word: &[u8]) -> Option<Command>
 pub fn command_word(command: Command) -> &'static str
     ensures { result.now ≡ help_word command }
 {
-    match command {
-        Command::Step => "s",
-        Command::Moves(Move::Go) => "c",
-        Command::Over => "next",
-        Command::NextC => "nextc",
-        Command::Moves(Move::Finish) => "finish",
-        Command::Moves(Move::Until) => "until",
-        Command::Moves(Move::Trace) => "trace",
-        Command::Moves(Move::Back) => "u",
-        Command::Where => "w",
-        Command::Backtrace => "bt",
-        Command::List => "l",
-        Command::Break => "b",
-        Command::Clear => "d",
-        Command::Registers => "r",
-        Command::ControlRegister => "p",
-        Command::Memory => "m",
-        Command::Instruction => "i",
-        Command::Traps => "t",
-        Command::Edges => "e",
-        Command::Why => "why",
-        Command::Check => "check",
-        Command::Profile => "profile",
-        Command::Display => "display",
-        Command::Undisplay => "undisplay",
-        Command::Watch => "watch",
-        Command::Unwatch => "unwatch",
-        Command::Devices => "dev",
-        Command::Receive => "rx",
-        Command::Line => "line",
-        Command::Save => "save",
-        Command::Reload => "reload",
-        Command::Monitor => "monitor",
-        Command::Help => "help",
-        Command::Quit => "q",
-        Command::Again
-        | Command::StepOnce
-        | Command::Nothing
-        | Command::Unknown
-        | Command::TooLong => "",
-    }
+    table!(word_of(command))
 }
