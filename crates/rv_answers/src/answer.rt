@@ -150,44 +150,19 @@ pub enum Answer {
 impl Drop for Answer {
     fn drop(self) {
         match self {
-            Answer::Nothing => {}
-            Answer::Monitor(_) => {}
-            Answer::Where(_) => {}
-            Answer::Registers(_) => {}
-            Answer::Register(_) => {}
-            Answer::ControlRegister(_) => {}
-            Answer::Memory(_) => {}
-            Answer::Instruction(_) => {}
-            Answer::List(_) => {}
-            Answer::BehindLast(_) => {}
-            Answer::WasLast => {}
-            Answer::Breakpoints(_) => {}
-            Answer::Traps(_) => {}
-            Answer::Edges(_) => {}
-            Answer::Devices(_) => {}
-            Answer::Running(_) => {}
-            Answer::Ended(_) => {}
-            Answer::Stepped(_) => {}
-            Answer::Stuck(_) => {}
-            Answer::Traced(_) => {}
-            Answer::Back(_) => {}
-            Answer::Break(_) => {}
-            Answer::Cleared(_) => {}
-            Answer::Given(_) => {}
-            Answer::Saved(_) => {}
-            Answer::Explained(_) => {}
-            Answer::Origin(_) => {}
-            Answer::Backtrace(_) => {}
-            Answer::Checked(_) => {}
-            Answer::Profiled(_) => {}
-            Answer::Display(_) => {}
-            Answer::Watch(_) => {}
-            Answer::Watches(_) => {}
-            Answer::Unwatched(_) => {}
-            Answer::Help(_) => {}
-            Answer::NoCommand(_) => {}
-            Answer::TooLong => {}
-            Answer::Refused(_) => {}
+            Answer::Nothing | Answer::WasLast | Answer::TooLong => {}
+            Answer::Where(_) | Answer::Stuck(_) | Answer::Back(_) => {}
+            Answer::Registers(_) | Answer::Register(_) | Answer::ControlRegister(_) => {}
+            Answer::Memory(_) | Answer::Instruction(_) => {}
+            Answer::List(_) | Answer::BehindLast(_) => {}
+            Answer::Breakpoints(_) | Answer::Break(_) | Answer::Cleared(_) => {}
+            Answer::Traps(_) | Answer::Explained(_) | Answer::Origin(_) => {}
+            Answer::Edges(_) | Answer::Devices(_) => {}
+            Answer::Running(_) | Answer::Ended(_) | Answer::Stepped(_) | Answer::Traced(_) => {}
+            Answer::Given(_) | Answer::Saved(_) | Answer::Monitor(_) => {}
+            Answer::Backtrace(_) | Answer::Checked(_) | Answer::Profiled(_) => {}
+            Answer::Display(_) | Answer::Watch(_) | Answer::Watches(_) | Answer::Unwatched(_) => {}
+            Answer::Help(_) | Answer::NoCommand(_) | Answer::Refused(_) => {}
         }
     }
 }

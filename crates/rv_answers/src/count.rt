@@ -1,6 +1,5 @@
 //! Numbers of things.
-use std::fmt;
-use std::fmt::{Display, Formatter};
+use std::fmt::{self, Display, Formatter};
 
 /// A number of things of a name, as `1 step`, `2 steps` and `0 watches`.
 #[derive(Clone, Copy)]

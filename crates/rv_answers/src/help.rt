@@ -3,7 +3,7 @@ use crate::Printer;
 use crate::command::{Command, CommandRow, command_row, command_word, commands};
 use crate::nearest::Nearest;
 use crate::shown::Shown;
-use rv_base::{first_word, look_up};
+use rv_base::look_up;
 
 /// Appends the list of all commands.
 fn append_commands(text: &mut Printer) {
@@ -31,82 +31,44 @@ pub(crate) fn append_help(command: Option<Command>, text: &mut Printer) {
     }
 }
 
-/// Offers the words of a text.
-fn offer_words(text: &'static [u8], nearest: &mut Nearest<'_>) {
-    if let Some((word, rest)) = first_word(text) {
-        nearest.offer(word);
-        offer_words(rest, nearest);
-    }
-}
-
 /// Offers the words of all commands, those of the help last.
 fn offer_commands(nearest: &mut Nearest<'_>) {
     for (words, _) in commands() {
-        if let Some((_, others)) = first_word(words.as_bytes()) {
-            offer_words(others, nearest);
+        for word in words.split_whitespace().skip(1) {
+            nearest.offer(word.as_bytes());
         }
     }
     for (words, _) in commands() {
-        if let Some((word, _)) = first_word(words.as_bytes()) {
-            nearest.offer(word);
+        for word in words.split_whitespace().take(1) {
+            nearest.offer(word.as_bytes());
         }
     }
 }
 
+/// Expands to words, each with what to type here.
+macro_rules! meanings {
+    ($([$($word:literal)+] $meaning:literal)+) => { [$($(($word, $meaning),)+)+] };
+}
+
 /// Words of gdb, with what to type here.
-static OTHERS: [(&str, &str); 21] = [
-    (
-        "info",
-        "`r` shows the registers, `b` the breakpoints, `t` the traps, `dev` the devices",
-    ),
-    (
-        "print",
-        "`r REG` shows a register, `p CSR` a control register, `m WHERE` memory",
-    ),
-    ("examine", "`m WHERE N w` shows N words of memory"),
-    (
-        "disassemble",
-        "`i WHERE` shows an instruction, `l WHERE` lines of the source",
-    ),
-    (
-        "disas",
-        "`i WHERE` shows an instruction, `l WHERE` lines of the source",
-    ),
-    ("layout", "`l` lists the source, `r` shows the registers"),
-    ("stepi", "`s` takes a step"),
-    ("nexti", "`next` takes a call as one step"),
-    ("advance", "`until WHERE` goes on up to a place"),
-    ("tbreak", "`until WHERE` goes on up to a place"),
-    (
-        "rwatch",
-        "`watch [WHERE]` has runs stop where a word changes",
-    ),
-    (
-        "awatch",
-        "`watch [WHERE]` has runs stop where a word changes",
-    ),
-    (
-        "condition",
-        "`b WHERE if REG = V` stops there only if it holds",
-    ),
-    (
-        "ignore",
-        "`b WHERE after N` stops there from the Nth time on",
-    ),
-    ("rs", "`u` goes back"),
-    ("rsi", "`u` goes back"),
-    ("reverse-step", "`u` goes back"),
-    ("reverse-stepi", "`u` goes back"),
-    (
-        "start",
-        "the program stands at its first instruction; `u 9999999999` goes back to it",
-    ),
-    (
-        "set",
-        "no command sets a register or memory: only steps and inputs (`rx`, `line`) change the board",
-    ),
-    ("kill", "`q` ends the lab"),
-];
+static OTHERS: [(&str, &str); 21] = meanings! {
+    ["info"] "`r` shows the registers, `b` the breakpoints, `t` the traps, `dev` the devices"
+    ["print"] "`r REG` shows a register, `p CSR` a control register, `m WHERE` memory"
+    ["examine"] "`m WHERE N w` shows N words of memory"
+    ["disassemble" "disas"] "`i WHERE` shows an instruction, `l WHERE` lines of the source"
+    ["layout"] "`l` lists the source, `r` shows the registers"
+    ["stepi"] "`s` takes a step"
+    ["nexti"] "`next` takes a call as one step"
+    ["advance" "tbreak"] "`until WHERE` goes on up to a place"
+    ["rwatch" "awatch"] "`watch [WHERE]` has runs stop where a word changes"
+    ["condition"] "`b WHERE if REG = V` stops there only if it holds"
+    ["ignore"] "`b WHERE after N` stops there from the Nth time on"
+    ["rs" "rsi" "reverse-step" "reverse-stepi"] "`u` goes back"
+    ["start"] "the program stands at its first instruction; `u 9999999999` goes back to it"
+    ["set"]
+        "no command sets a register or memory: only steps and inputs (`rx`, `line`) change the board"
+    ["kill"] "`q` ends the lab"
+};
 
 /// Returns what to type here in place of a word of gdb: `x/4x` and the like show memory.
 fn meant(word: &[u8]) -> Option<&'static str> {

@@ -2,7 +2,7 @@
 use crate::Printer;
 use crate::count::Count;
 use crate::interrupts::sign;
-use crate::lines::Lines;
+use crate::lines::{Lines, Short};
 use crate::many::Many;
 use crate::moves::{BreakCondition, Breakpoint, Breakpoints, Cleared, Given, Saved};
 use crate::runs::append_watches;
@@ -32,7 +32,7 @@ impl Lines<'_> {
     /// Appends that a breakpoint is at a place, and its condition.
     pub(crate) fn append_break(self, set: &Breakpoint, text: &mut Printer) {
         let place = set.place;
-        write!(text, "breakpoint at{}", self.short(place));
+        write!(text, "breakpoint at{}", Short(self, place));
         append_condition(&set.condition, set.passes, text);
         if place.address % 4 != 0 || place.word.is_none() {
             text.say(", where no instruction can be");
@@ -57,7 +57,7 @@ impl Lines<'_> {
     /// Appends that no breakpoint is at a place.
     pub(crate) fn append_cleared(self, cleared: Cleared, text: &mut Printer) {
         let which = sign(cleared.was_there, "no more breakpoint", "no breakpoint is");
-        writeln!(text, "{which} at{}", self.short(cleared.place));
+        writeln!(text, "{which} at{}", Short(self, cleared.place));
     }
 }
 

@@ -1,12 +1,12 @@
-//! The text of the devices and the interrupts.
+//! The text of the devices, the interrupts and protection.
 ghost use Rattle.std.specs.Prelude.{◌<◌};
 
 use crate::Printer;
 use crate::count::Count;
-use crate::protection::append_regions;
-use crate::standing::mode_name;
+use crate::looks::mode_name;
 use crate::states::has_bit;
-use crate::values::{Clock, Devices, Interrupts, Port, SourceState};
+use crate::values::{Clock, Devices, Interrupts, Port, Range, Region, Rights, SourceState};
+use std::fmt::{self, Display, Formatter};
 
 /// Returns a sign where something stands, and else another.
 pub(crate) fn sign(stands: bool, yes: &'static str, no: &'static str) -> &'static str {
@@ -117,4 +117,38 @@ pub(crate) fn append_devices(devices: &Devices, text: &mut Printer) {
         append_source(*state, threshold, text);
     }
     append_regions(devices.regions.items(), text);
+}
+
+impl Display for Rights {
+    fn fmt<W: fmt::Write>(&self, f: &mut Formatter<W>) -> fmt::Result {
+        let (read, write) = (sign(self.read, "r", "-"), sign(self.write, "w", "-"));
+        write!(f, "{read}{write}{}", sign(self.execute, "x", "-"))
+    }
+}
+
+impl Display for Region {
+    fn fmt<W: fmt::Write>(&self, f: &mut Formatter<W>) -> fmt::Result {
+        let (entry, user, machine) = (self.entry, self.user, self.machine);
+        let Some(Range { first, last }) = self.range else {
+            return write!(f, "entry {entry}, no byte");
+        };
+        let locked = sign(self.is_locked, " (locked)", "");
+        write!(
+            f,
+            "entry {entry}, {first:08x} to {last:08x}: user {user}, machine {machine}{locked}"
+        )
+    }
+}
+
+/// Appends protection.
+fn append_regions(regions: &[Region], text: &mut Printer) {
+    text.say("protection:\n");
+    for region in regions {
+        writeln!(text, "  {region}");
+    }
+    text.say(if regions.is_empty() {
+        "  no entry is on: machine rwx everywhere, user nothing\n"
+    } else {
+        "  elsewhere: user nothing, machine rwx; the first entry that has a byte decides\n"
+    });
 }

@@ -3,12 +3,10 @@
 
 mod answer;
 mod command;
-mod console;
 mod controls;
 mod convention;
 mod convention_text;
 mod count;
-mod devices;
 mod explained;
 mod extent;
 mod frames;
@@ -22,19 +20,13 @@ mod many;
 mod memory;
 mod moves;
 mod nearest;
-mod origin_text;
-mod places;
 mod printer;
 mod profile;
-mod profile_text;
-mod protection;
 mod refusals;
 mod registers;
 mod render;
-mod rows;
 mod runs;
 mod shown;
-mod standing;
 mod states;
 mod traps;
 mod values;
@@ -44,7 +36,6 @@ pub use answer::{Answer, Refusal, Why};
 pub use command::{Command, Move, command_named, command_word};
 pub use convention::{Breach, Checked, Deviation, Entry, Return, Unrestored};
 pub use count::Count;
-pub use devices::threshold;
 pub use explained::{
     Area, Barrier, Before, Explained, Explanation, Handler, Origin, Reason, Repeated, Sum,
     Unfetched, Write,
@@ -61,7 +52,9 @@ pub use moves::{
 pub use printer::Printer;
 pub use profile::{Profiled, Spent};
 pub use shown::Shown;
-pub use states::{bits_of, clock_of, has_bit, port_of, region_of, regions_of, sources_of};
+pub use states::{
+    bits_of, clock_of, has_bit, port_of, region_of, regions_of, sources_of, threshold,
+};
 pub use values::{
     Bits, Cells, Clock, ControlValue, Devices, Dump, Edges, Interrupts, Place, Port, Range, Region,
     RegisterFile, RegisterValue, Registers, Rights, Row, SourceState, Standing, Trap,

@@ -1,11 +1,12 @@
-//! A source with its lines and labels, and places in it.
+//! A source with its lines and labels, places in it, and instructions.
 use crate::Printer;
-use crate::places::{append_instruction, line_text};
 use crate::shown::Shown;
 use crate::values::Place;
 use rv_asm::Listing;
-use std::fmt;
-use std::fmt::{Display, Formatter};
+use rv_base::{Cut, cut_lines};
+use rv_isa::decode;
+use std::fmt::{self, Display, Formatter};
+use std::iter::Skip;
 
 /// A source with its lines and labels, which the values name by numbers.
 #[derive(Clone, Copy)]
@@ -16,7 +17,7 @@ pub struct Lines<'a> {
 
 /// The label before a place and the distance from it, as ` <loop+8>`, if the place lies in the image.
 #[derive(Clone, Copy)]
-pub(crate) struct Near<'a>(Lines<'a>, Place);
+pub(crate) struct Near<'a>(pub(crate) Lines<'a>, pub(crate) Place);
 
 impl Display for Near<'_> {
     fn fmt<W: fmt::Write>(&self, f: &mut Formatter<W>) -> fmt::Result {
@@ -35,7 +36,7 @@ impl Display for Near<'_> {
 
 /// A place: its line's number, its label, and its address.
 #[derive(Clone, Copy)]
-pub(crate) struct Short<'a>(Lines<'a>, Place);
+pub(crate) struct Short<'a>(pub(crate) Lines<'a>, pub(crate) Place);
 
 impl Display for Short<'_> {
     fn fmt<W: fmt::Write>(&self, f: &mut Formatter<W>) -> fmt::Result {
@@ -43,24 +44,27 @@ impl Display for Short<'_> {
         if let Some(line) = place.line {
             write!(f, " line {line}")?;
         }
-        write!(f, "{} ({:08x})", lines.near(place), place.address)
+        write!(f, "{} ({:08x})", Near(lines, place), place.address)
     }
 }
 
 impl<'a> Lines<'a> {
-    /// Returns the label before a place, to be printed.
-    pub(crate) fn near(self, place: Place) -> Near<'a> {
-        Near(self, place)
-    }
-
-    /// Returns a place, to be printed by its line's number, its label, and its address.
-    pub(crate) fn short(self, place: Place) -> Short<'a> {
-        Short(self, place)
+    /// Returns an address with a word that was there as a place.
+    pub(crate) fn place_at(self, address: u32, word: Option<u32>) -> Place {
+        let line = self.listing.line_at(address);
+        let near = line.and(self.listing.label_before(address));
+        let distance = near.map(|near| near.distance);
+        Place {
+            address,
+            distance,
+            line,
+            word,
+        }
     }
 
     /// Appends a place: its address, its label, and its line or its instruction.
     pub fn append_place(self, place: Place, text: &mut Printer) {
-        write!(text, "{:08x}{}  ", place.address, self.near(place));
+        write!(text, "{:08x}{}  ", place.address, Near(self, place));
         match place.line {
             Some(line) => text.line(line, line_text(self.source, line)),
             None => append_instruction(place.word, text),
@@ -71,5 +75,27 @@ impl<'a> Lines<'a> {
     pub(crate) fn append_here(self, place: Place, text: &mut Printer) {
         self.append_place(place, text);
         text.end();
+    }
+}
+
+/// Returns the lines of a source from one on, counted from 1; all of them from 0 on.
+pub(crate) fn lines_from(source: &[u8], first: usize) -> Skip<Cut<'_>> {
+    cut_lines(source).skip(first.saturating_sub(1))
+}
+
+/// Returns the text of a line of a source, counted from 1; an empty one where there is no such line.
+fn line_text(source: &[u8], line: usize) -> &[u8] {
+    lines_from(source, line).next().unwrap_or(b"")
+}
+
+/// Appends a word of memory and its instruction, or that no memory is there.
+pub(crate) fn append_instruction(word: Option<u32>, text: &mut Printer) {
+    let Some(word) = word else {
+        return text.say("no memory is here");
+    };
+    write!(text, "{word:08x}  ");
+    match decode(word) {
+        Some(instr) => text.instruction(instr),
+        None => text.say("no instruction"),
     }
 }

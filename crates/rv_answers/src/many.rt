@@ -43,8 +43,5 @@ impl<T> Many<T> {
 pub fn push<T: Copy>(list: &mut Vec<T>, item: T) -> Result<(), NoMemory>
     ensures { OnOk result (list.new.items ≡ list.old.items ++ item ∷ []) }
 {
-    match list.push(item) {
-        Ok(()) => Ok(()),
-        Err(_) => Err(NoMemory),
-    }
+    list.push(item).map_err(|_| NoMemory)
 }

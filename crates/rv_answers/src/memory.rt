@@ -1,5 +1,5 @@
-//! Rows of memory: bytes with their characters, and words; and bytes as they stand in a string.
-ghost use Rattle.std.specs.Prelude.{◌≡◌};
+//! Rows of memory: bytes with their characters, and words; bytes as they stand in a string; and what the console got.
+ghost use Rattle.std.specs.Prelude.{◌≡◌, []};
 ghost use Rattle.rv_base.specs.Tables.{rows};
 ghost use Rattle.rv_answers.specs.Memory.{escapes};
 
@@ -77,16 +77,12 @@ pub fn escapes() -> &'static [(&'static str, u8)]
 
 /// Returns what stands for a byte after a backslash, if something does.
 fn escape_of(byte: u8) -> Option<&'static str> {
-    for (escape, escaped) in escapes() {
-        if *escaped == byte {
-            return Some(*escape);
-        }
-    }
-    None
+    let (escape, _) = escapes().iter().find(|(_, escaped)| *escaped == byte)?;
+    Some(*escape)
 }
 
 /// Appends a byte as it stands in a string of the language: by its escape, as it is, or as `\x` and its digits.
-pub(crate) fn append_escaped(byte: u8, text: &mut Printer) {
+fn append_escaped(byte: u8, text: &mut Printer) {
     match (escape_of(byte), byte) {
         (Some(escape), _) => write!(text, "\\{escape}"),
         (None, 32..=126) => write!(text, "{}", char::from(byte)),
@@ -95,20 +91,18 @@ pub(crate) fn append_escaped(byte: u8, text: &mut Printer) {
 }
 
 /// Appends rows of 16 bytes.
-fn append_bytes(address: u32, bytes: &[Option<u8>], text: &mut Printer) {
-    let mut at = address;
+fn append_bytes(mut address: u32, bytes: &[Option<u8>], text: &mut Printer) {
     for row in bytes.chunks(16) {
-        append_bytes_row(at, row, text);
-        at = at.wrapping_add(16);
+        append_bytes_row(address, row, text);
+        address = address.wrapping_add(16);
     }
 }
 
 /// Appends rows of four words.
-fn append_words(address: u32, words: &[Option<u32>], text: &mut Printer) {
-    let mut at = address;
+fn append_words(mut address: u32, words: &[Option<u32>], text: &mut Printer) {
     for row in words.chunks(4) {
-        append_words_row(at, row, text);
-        at = at.wrapping_add(16);
+        append_words_row(address, row, text);
+        address = address.wrapping_add(16);
     }
 }
 
@@ -127,5 +121,30 @@ pub(crate) fn append_dump(dump: &Dump, text: &mut Printer) {
         Cells::Bytes(bytes) => append_bytes(dump.address, bytes.items(), text),
         Cells::Words(words) => append_words(dump.address, words.items(), text),
         Cells::Text(bytes) => append_string(dump.address, bytes.items(), text),
+    }
+}
+
+/// Appends bytes of the console, each of their lines after a bar. A byte that isn't printed is escaped, and a
+/// backslash ends a line that isn't ended yet.
+pub(crate) fn append_console(bytes: &[u8], text: &mut Printer)
+    ensures { bytes.now ≡ [] → text.new ≡ text.old }
+{
+    if bytes.is_empty() {
+        return;
+    }
+    let mut is_open = false;
+    for byte in bytes {
+        if !is_open {
+            text.say("| ");
+        }
+        is_open = *byte != b'\n';
+        match *byte {
+            b'\n' => text.end(),
+            b'"' => text.say("\""),
+            byte => append_escaped(byte, text),
+        }
+    }
+    if is_open {
+        text.say("\\\n");
     }
 }

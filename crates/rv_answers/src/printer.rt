@@ -5,8 +5,7 @@ use itoa::Buffer;
 use rv_base::NoMemory;
 use rv_isa::{Instr, write_instr};
 use std::alloc::Global;
-use std::fmt;
-use std::fmt::Display;
+use std::fmt::{self, Display};
 use std::marker::Model;
 
 /// A text that answers are appended to. Where memory runs out it takes nothing more, and remembers that.
@@ -60,16 +59,10 @@ impl Printer {
         ensures text { IfOk result (λ t. t ≡ self.bytes) }
         ensures whole { OnOk result (self.is_cut ≡ false) }
     {
-        let Printer {
-            alloc: _,
-            bytes,
-            is_cut,
-        } = self;
-        if is_cut {
-            Err(NoMemory)
-        } else {
-            Ok(Many::of(bytes))
+        if self.is_cut {
+            return Err(NoMemory);
         }
+        Ok(Many::of(self.bytes))
     }
 
     /// Makes the answer empty.

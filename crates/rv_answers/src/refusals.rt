@@ -2,40 +2,34 @@
 use crate::Printer;
 use crate::answer::{Refusal, Why};
 use crate::command::{Command, Move, command_word};
+use crate::interrupts::sign;
 use crate::lines::Lines;
 use crate::looks::append_count;
 use crate::nearest::Nearest;
 
+/// Expands to the texts of names.
+macro_rules! names {
+    ($($name:ident)*) => { [$(stringify!($name)),*] };
+}
+
 /// The names of the control registers that are often asked for.
-static CONTROL_REGISTERS: [&str; 20] = [
-    "mstatus",
-    "misa",
-    "mie",
-    "mip",
-    "mtvec",
-    "mscratch",
-    "mepc",
-    "mcause",
-    "mtval",
-    "mcycle",
-    "mcycleh",
-    "minstret",
-    "minstreth",
-    "mhartid",
-    "pmpcfg0",
-    "pmpcfg1",
-    "pmpcfg2",
-    "pmpcfg3",
-    "pmpaddr0",
-    "pmpaddr1",
-];
+static CONTROL_REGISTERS: [&str; 20] = names! {
+    mstatus misa mie mip mtvec mscratch mepc mcause mtval mcycle mcycleh minstret minstreth mhartid
+    pmpcfg0 pmpcfg1 pmpcfg2 pmpcfg3 pmpaddr0 pmpaddr1
+};
 
 /// What `m` wants.
 const EXTENT: &str = "a number from 0 to 4096 is wanted, and w, b or t";
 
+/// What `e` wants.
+const EDGE_SOURCE: &str = "a source from 24 to 31 is wanted; `dev` shows the others";
+
 /// What `rx` wants.
 const BYTES: &str =
     "a text between quotes is wanted, in which \\n \\r \\t \\0 \\\" \\\\ may stand, or bytes of two hexadecimal digits each";
+
+/// Why an operand is no register.
+const NO_REGISTER: &str = "is no register; `p` shows a control register\n";
 
 /// Why operands are no condition.
 const NO_CONDITION: &str =
@@ -102,10 +96,8 @@ fn no_steps(command: Command) -> &'static str {
 
 /// Returns why an operand is no condition of a command.
 fn no_condition(command: Command) -> &'static str {
-    match command {
-        Command::Break => NO_GUARD,
-        _ => NO_CONDITION,
-    }
+    let has_place = matches!(command, Command::Break);
+    sign(has_place, NO_GUARD, NO_CONDITION)
 }
 
 impl Lines<'_> {
@@ -137,15 +129,9 @@ impl Lines<'_> {
             Why::NoExtent => want(word, EXTENT, text),
             Why::NoLine(at) => writeln!(text, "{word}: no line of the source is at {at:08x}"),
             Why::NoCount => say_of(word, "the number of lines is from 0 to 1000", text),
-            Why::NoRegister => {
-                let why = "is no register; `p` shows a control register\n";
-                text.refuse(word, operand, why);
-            }
+            Why::NoRegister => text.refuse(word, operand, NO_REGISTER),
             Why::NoControlRegister => refuse_control_register(word, operand, text),
-            Why::NoEdgeSource => {
-                let sentence = "a source from 24 to 31 is wanted; `dev` shows the others";
-                say_of(word, sentence, text);
-            }
+            Why::NoEdgeSource => say_of(word, EDGE_SOURCE, text),
             Why::NoSteps => refuse_operand(word, operand, no_steps(refusal.command), text),
             Why::NoCondition => refuse_operand(word, operand, no_condition(refusal.command), text),
             Why::NoHits => want(word, NO_HITS, text),

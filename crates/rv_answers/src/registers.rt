@@ -2,10 +2,10 @@
 ghost use Rattle.std.specs.Prelude.{◌≡◌, length};
 
 use crate::Printer;
+use crate::interrupts::sign;
 use crate::values::{RegisterValue, Registers};
 use rv_isa::Reg;
-use std::fmt;
-use std::fmt::{Display, Formatter};
+use std::fmt::{self, Display, Formatter};
 
 /// The names of the registers in the calling convention, by number.
 static NAMES: [&str; 32] = [
@@ -53,12 +53,8 @@ pub(crate) fn append_registers(before: &Registers, now: &Registers, text: &mut P
     for number in 0..32u8 {
         let register = Reg::of(number);
         let word = now[register.index()];
-        text.say(if word == before[register.index()] {
-            "  "
-        } else {
-            " *"
-        });
+        text.say(sign(word == before[register.index()], "  ", " *"));
         write!(text, "{:<5}{word:08x}", register_name(register));
-        text.say(if number % 4 == 3 { "\n" } else { "" });
+        text.say(sign(number % 4 == 3, "\n", ""));
     }
 }

@@ -4,16 +4,14 @@ ghost use Rattle.rv_answers.specs.declared.answer.Answer.TheVariants.{Nothing};
 
 use crate::Printer;
 use crate::answer::Answer;
-use crate::console::append_console;
 use crate::controls::append_control;
 use crate::help::{append_help, append_unknown};
 use crate::inputs::{append_given, append_saved};
 use crate::interrupts::append_devices;
 use crate::lines::Lines;
-use crate::looks::{append_count, append_edges};
-use crate::memory::append_dump;
+use crate::looks::{append_count, append_edges, append_halt, append_stuck};
+use crate::memory::{append_console, append_dump};
 use crate::runs::{append_all_watches, append_unwatched, append_watches};
-use crate::standing::{append_halt, append_stuck};
 
 impl Lines<'_> {
     /// Appends what a command answers, with what the console got meanwhile: before its answer, but after the text of
@@ -39,7 +37,7 @@ impl Lines<'_> {
         }
     }
 
-    /// Appends what a command answers that only looks, or that moves the board.
+    /// Appends what a command answers. A run that isn't over says nothing but what the console got.
     fn append_value(self, answer: &Answer, text: &mut Printer) {
         match answer {
             Answer::Where(standing) => self.append_standing(*standing, text),
@@ -59,13 +57,6 @@ impl Lines<'_> {
             Answer::Stepped(stepped) => self.append_stepped(stepped, text),
             Answer::Stuck(standing) => append_stuck(*standing, text),
             Answer::Back(standing) => self.append_back(*standing, text),
-            answer => self.append_other(answer, text),
-        }
-    }
-
-    /// Appends any other answer. A run that isn't over says nothing but what the console got.
-    fn append_other(self, answer: &Answer, text: &mut Printer) {
-        match answer {
             Answer::Break(set) => self.append_break(set, text),
             Answer::Cleared(cleared) => self.append_cleared(*cleared, text),
             Answer::Given(given) => append_given(*given, text),

@@ -2,14 +2,13 @@
 use crate::Printer;
 use crate::count::Count;
 use crate::interrupts::sign;
-use crate::lines::Lines;
+use crate::lines::{Lines, Short};
+use crate::looks::{append_halt, append_stuck};
 use crate::many::Many;
 use crate::moves::{Aim, Change, Ending, Run, Step, Stepped, Target, Trace, Watch};
 use crate::registers::{Value, register_name};
-use crate::standing::{append_halt, append_stuck};
 use crate::values::{RegisterValue, Standing};
-use std::fmt;
-use std::fmt::{Display, Formatter};
+use std::fmt::{self, Display, Formatter};
 
 /// How many changed registers are told in a line.
 const IN_LINE: usize = 8;
@@ -132,18 +131,18 @@ impl Lines<'_> {
     fn append_reached(self, aim: Aim, text: &mut Printer) {
         match aim {
             Aim::Watch(watch) => write!(text, ": {watch}"),
-            Aim::Trap(Some(trap)) => write!(text, ": {trap}, at{}", self.short(trap.place)),
+            Aim::Trap(Some(trap)) => write!(text, ": {trap}, at{}", Short(self, trap.place)),
             _ => {}
         }
         text.end();
     }
 
-    /// Appends why a run is over.
-    fn append_ending(self, run: &Run, text: &mut Printer) {
+    /// Appends why a run is over, what it changed, and where the board stands.
+    pub(crate) fn append_run(self, run: &Run, text: &mut Printer) {
         let steps = Count(run.steps, "step");
         let watched = run.watched.items();
         match run.ending {
-            Ending::Stuck => {}
+            Ending::Stuck => return append_stuck(run.standing, text),
             Ending::Halted => append_halting(watched, text),
             Ending::Breakpoint => {
                 let is_aim = matches!(run.aim, Aim::Breakpoint);
@@ -153,20 +152,13 @@ impl Lines<'_> {
             Ending::Reached => {
                 write!(text, "stopped after {steps}");
                 if watched.is_empty() {
-                    return self.append_reached(run.aim, text);
+                    self.append_reached(run.aim, text);
+                } else {
+                    append_changes(watched, text);
                 }
-                append_changes(watched, text);
             }
             Ending::Limit => append_limit(run.aim, steps, text),
         }
-    }
-
-    /// Appends why a run is over, what it changed, and where the board stands.
-    pub(crate) fn append_run(self, run: &Run, text: &mut Printer) {
-        if matches!(run.ending, Ending::Stuck) {
-            return append_stuck(run.standing, text);
-        }
-        self.append_ending(run, text);
         append_changed(&run.changed, text);
         if !run.changed.items().is_empty() {
             text.end();

@@ -1,6 +1,5 @@
 //! Texts that others wrote, as they are shown in a terminal.
-use std::fmt;
-use std::fmt::{Display, Formatter};
+use std::fmt::{self, Display, Formatter};
 
 /// A text that others wrote: a byte that may drive a terminal, and one that is in no character, is told by its digits.
 #[derive(Clone, Copy)]

@@ -3,13 +3,12 @@ ghost use Rattle.std.specs.Prelude.{◌≡◌, ◌==◌, ◌<◌, ◌≤◌, ◌
 ghost use Rattle.std.specs.FinSet as set;
 ghost use Rattle.std.specs.List.{range_with_len};
 ghost use Rattle.rv_isa.specs.Number.{flag};
-ghost use Rattle.rv_plic.specs.Sources.{sources, word_of};
+ghost use Rattle.rv_plic.specs.Sources.{sources};
 ghost use Rattle.rv_pmp.specs.Entry.{matching_code};
 ghost use Rattle.rv_pmp.specs.Pmp.{entry_at, matches};
 ghost use Rattle.rv_answers.specs.States as spec;
 ghost use Rattle.rv_answers.specs.States.{regions};
 
-use crate::devices::{enabled_word, pending_word, priority};
 use crate::many::{Many, push};
 use crate::values::{Bits, Clock, Port, Range, Region, Rights, SourceState};
 use rv_base::NoMemory;
@@ -72,8 +71,23 @@ pub fn port_of(serial: &Serial) -> Port
     }
 }
 
+/// The offsets of the interrupt controller's registers.
+const PENDING: u32 = 0x1000;
+
+const ENABLES: u32 = 0x2000;
+
+const THRESHOLD: u32 = 0x20_0000;
+
+/// Returns the threshold of the interrupt controller.
+#[tactic(auto, using(crate::proofs::Sources::threshold_word))]
+pub fn threshold(plic: &Plic) -> u32
+    ensures { result ≡ plic.now.threshold }
+{
+    plic.peek(THRESHOLD)
+}
+
 /// Returns a source of the interrupt controller.
-#[tactic(auto, unfolding(crate::specs::States::source_of))]
+#[tactic(auto, unfolding(crate::specs::States::source_of), using(crate::proofs::Sources::pending_word, crate::proofs::Sources::enabled_word, crate::proofs::Sources::priority_word))]
 fn source_of(source: Source, plic: &Plic) -> SourceState
     ensures { result ≡ spec.source_of plic.now source }
 {
@@ -81,10 +95,10 @@ fn source_of(source: Source, plic: &Plic) -> SourceState
     SourceState {
         source: number,
         is_high: plic.is_high(source),
-        is_pending: has_bit(pending_word(plic), number),
+        is_pending: has_bit(plic.peek(PENDING), number),
         is_claimed: plic.is_outstanding(source),
-        is_enabled: has_bit(enabled_word(plic), number),
-        priority: priority(source, plic),
+        is_enabled: has_bit(plic.peek(ENABLES), number),
+        priority: plic.peek(4 * number),
         edges: plic.edges(source),
     }
 }
@@ -126,10 +140,8 @@ fn range_of(number: usize, pmp: &Pmp) -> Option<Range>
     if end <= first {
         return None;
     }
-    Some(Range {
-        first,
-        last: end - 1,
-    })
+    let last = end - 1;
+    Some(Range { first, last })
 }
 
 /// Returns an entry of protection.

@@ -1,7 +1,6 @@
 //! Traps and their causes in words.
 use crate::values::Trap;
-use std::fmt;
-use std::fmt::{Display, Formatter};
+use std::fmt::{self, Display, Formatter};
 
 /// Returns the name of a cause.
 pub(crate) fn cause_name(cause: u32) -> &'static str {

@@ -1,14 +1,15 @@
-//! The text of an explained trap.
+//! The text of an explained trap, and of where a value came from.
+use crate::Printer;
 use crate::explained::{
-    Area, Barrier, Before, Explained, Explanation, Handler, Reason, Repeated, Sum, Unfetched, Write,
+    Area, Barrier, Before, Explained, Explanation, Handler, Origin, Reason, Repeated, Sum,
+    Unfetched, Write,
 };
 use crate::interrupts::sign;
-use crate::origin_text::append_writer;
-use crate::places::append_instruction;
-use crate::registers::register_name;
+use crate::lines::{Lines, Short, append_instruction};
+use crate::moves::Watch;
+use crate::registers::{Value, register_name};
 use crate::traps::Cause;
-use crate::values::Place;
-use crate::{Lines, Printer};
+use crate::values::RegisterValue;
 use rv_isa::{Kind, decode};
 use rv_pmp::Mode;
 
@@ -136,81 +137,57 @@ const KEPT: u64 = 64;
 const INTERRUPT: u32 = 1 << 31;
 
 impl Repeated {
-    /// Returns whether all traps that are kept are the same.
-    fn is_endless(self) -> bool {
-        self.times >= KEPT
-    }
-
     /// Returns whether this is a trap that is explained.
     fn is_of(self, trap: &Explained) -> bool {
         self.cause == trap.cause && self.value == trap.value && self.address == trap.address
-    }
-
-    /// Appends how often it came in a row.
-    fn append_times(self, text: &mut Printer) {
-        let more = sign(self.is_endless(), " or more", "");
-        write!(text, " came {} times in a row{more}", self.times);
-    }
-}
-
-impl Before {
-    /// Returns whether this is the return from a handler.
-    fn is_return(self) -> bool {
-        let Some(word) = self.word else {
-            return false;
-        };
-        match decode(word) {
-            Some(instr) => matches!(instr.kind(), Kind::Mret),
-            None => false,
-        }
     }
 }
 
 /// Returns whether a trap came right after the return from a handler.
 fn follows_return(trap: &Explained) -> bool {
-    match trap.before {
-        Some(before) => before.is_return(),
-        None => false,
+    if let Some(before) = trap.before
+        && let Some(word) = before.word
+        && let Some(instr) = decode(word)
+    {
+        return matches!(instr.kind(), Kind::Mret);
     }
-}
-
-impl Handler {
-    /// Returns whether this is the place of an interrupt of its own in a table of handlers.
-    fn is_slot(self) -> bool {
-        self.address != self.mtvec / 4 * 4
-    }
+    false
 }
 
 /// Appends that a trap met no handler. From the base of mtvec each further step traps to it again.
 fn append_missing(handler: Handler, missing: Unfetched, text: &mut Printer) {
-    let (Handler { address, mtvec, .. }, name) = (handler, missing_name(missing));
+    let (at, mtvec, name) = (handler.address, handler.mtvec, missing_name(missing));
     write!(text, "  it met no handler: mtvec is {mtvec:08x}, ");
-    if handler.is_slot() {
-        writeln!(
-            text,
-            "and at {address:08x}, the place of this interrupt, {name}"
-        );
+    // In a table of handlers each interrupt has a place of its own.
+    if at != mtvec / 4 * 4 {
+        writeln!(text, "and at {at:08x}, the place of this interrupt, {name}");
     } else {
         writeln!(text, "where {name}, so each further step trapped as well");
     }
 }
 
-impl Lines<'_> {
-    /// Returns an address with a word that was there as a place.
-    pub(crate) fn place_at(self, address: u32, word: Option<u32>) -> Place {
-        let line = self.listing.line_at(address);
-        let distance = match line {
-            Some(_) => self.listing.label_before(address).map(|near| near.distance),
-            None => None,
-        };
-        Place {
-            address,
-            distance,
-            line,
-            word,
-        }
+/// Appends a register that an instruction read, with its value. That of x0 is no news.
+fn append_read(read: Option<RegisterValue>, text: &mut Printer) {
+    if let Some(one) = read
+        && one.register.number() > 0
+    {
+        write!(text, ", with {one}");
     }
+}
 
+/// Appends the instruction of a write, and what it read.
+fn append_writer(write: Write, text: &mut Printer) {
+    text.say("  ");
+    append_instruction(write.word, text);
+    append_read(write.first, text);
+    append_read(write.second, text);
+    if let Some(address) = write.accessed {
+        write!(text, ", at {address:08x}");
+    }
+    text.end();
+}
+
+impl Lines<'_> {
     /// Appends where a trap came: its line, and its instruction.
     fn append_trap_place(self, trap: &Explained, text: &mut Printer) {
         let place = self.place_at(trap.address, trap.word);
@@ -247,7 +224,7 @@ impl Lines<'_> {
         if let Some(missing) = handler.missing {
             return append_missing(handler, missing, text);
         }
-        let place = self.short(self.place_at(handler.address, None));
+        let place = Short(self, self.place_at(handler.address, None));
         writeln!(text, "  it went to{place}");
     }
 
@@ -278,7 +255,7 @@ impl Lines<'_> {
         false
     }
 
-    /// Appends why an explained trap came again, and ends the line.
+    /// Appends why an explained trap came again, if it can be told.
     fn append_again(self, trap: &Explained, text: &mut Printer) {
         let returns = follows_return(trap);
         if returns && trap.cause >= INTERRUPT {
@@ -288,28 +265,25 @@ impl Lines<'_> {
         } else if self.is_near(trap.address, trap.handler.address) {
             text.say(": it comes in the handler itself");
         }
-        text.end();
     }
 
-    /// Appends that the last trap came again and again, if it did.
+    /// Appends that the last trap came again and again, if all traps that are kept are the same.
     fn append_repeated(self, trap: &Explained, last: Repeated, text: &mut Printer) {
-        if !last.is_endless() || trap.handler.missing.is_some() {
+        if last.times < KEPT || trap.handler.missing.is_some() {
             return;
         }
-        if last.is_of(trap) {
+        let is_same = last.is_of(trap);
+        if is_same {
             text.say("  the same trap");
-            last.append_times(text);
-            return self.append_again(trap, text);
+        } else {
+            let place = Short(self, self.place_at(last.address, None));
+            write!(text, "  the last trap, {}, at{place},", Cause(last.cause));
         }
-        self.append_last(last, text);
+        write!(text, " came {} times in a row or more", last.times);
+        if is_same {
+            self.append_again(trap, text);
+        }
         text.end();
-    }
-
-    /// Appends a trap that came again and again.
-    fn append_last(self, last: Repeated, text: &mut Printer) {
-        let place = self.short(self.place_at(last.address, None));
-        write!(text, "  the last trap, {}, at{place},", Cause(last.cause));
-        last.append_times(text);
     }
 
     /// Appends what is told of the traps of some steps.
@@ -327,5 +301,25 @@ impl Lines<'_> {
         if let Some(last) = told.repeated {
             self.append_repeated(&trap, last, text);
         }
+    }
+
+    /// Appends where a value came from.
+    pub(crate) fn append_origin(self, origin: &Origin, text: &mut Printer) {
+        let Origin { target, value, .. } = *origin;
+        let now = Watch { target, value };
+        let Some(write) = origin.write else {
+            let steps = origin.steps;
+            return writeln!(
+                text,
+                "{now}, as at reset: no step up to step {steps} wrote it"
+            );
+        };
+        write!(text, "step {}: {now}", write.step);
+        if let Some(word) = write.before {
+            write!(text, "; before, it was {}", Value(word));
+        }
+        text.say("\n  ");
+        self.append_here(self.place_at(write.address, write.word), text);
+        append_writer(write, text);
     }
 }
