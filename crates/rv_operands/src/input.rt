@@ -1,28 +1,17 @@
 //! Inputs.
-ghost use Rattle.std.specs.Prelude.{◌≡◌, ◌++◌, [], ◌∷◌, IfOk, OnOk};
+ghost use Rattle.std.specs.Prelude.{◌≡◌, IfOk};
 ghost use Rattle.std.specs.Option.{option_map};
 ghost use Rattle.rv_base.specs.Words.{words};
 ghost use Rattle.rv_timeline.specs.Timed.{all_of, byte_input};
 ghost use Rattle.rv_operands.specs.Operands.{bytes_inputs, unescaped};
-ghost use Rattle.rv_timeline.specs.declared.input.Input.TheVariants.{Rx};
 ghost use Rattle.rv_operands.specs.Support.Words.{Reads, escape_of, text_inputs};
 
 use crate::word::trimmed;
-use rv_answers::escapes;
+use rv_answers::{escapes, push};
 use rv_base::{NoMemory, first_word, hex_byte, look_up};
 use rv_timeline::Input;
 use rv_tokens::between;
 use std::alloc::Global;
-
-/// Appends the byte that the serial port receives.
-fn append(out: &mut Vec<Input>, byte: u8) -> Result<(), NoMemory>
-    ensures { OnOk result (out.new.items ≡ out.old.items ++ Rx byte ∷ []) }
-{
-    match out.push(Input::Rx(byte)) {
-        Ok(()) => Ok(()),
-        Err(_) => Err(NoMemory),
-    }
-}
 
 /// Reads words of two hexadecimal digits, and appends an input for each. Returns whether all can be read.
 fn read_words(text: &[u8], out: &mut Vec<Input>) -> Result<bool, NoMemory>
@@ -34,7 +23,7 @@ fn read_words(text: &[u8], out: &mut Vec<Input>) -> Result<bool, NoMemory>
     let Some(byte) = hex_byte(word) else {
         return Ok(false);
     };
-    append(out, byte)?;
+    push(out, Input::Rx(byte))?;
     read_words(rest, out)
 }
 
@@ -53,7 +42,7 @@ fn read_text(text: &[u8], out: &mut Vec<Input>) -> Result<bool, NoMemory>
         return Ok(true);
     };
     if *first != b'\\' {
-        append(out, *first)?;
+        push(out, Input::Rx(*first))?;
         return read_text(rest, out);
     }
     let [byte, rest @ ..] = rest else {
@@ -62,7 +51,7 @@ fn read_text(text: &[u8], out: &mut Vec<Input>) -> Result<bool, NoMemory>
     let Some(byte) = escaped(*byte) else {
         return Ok(false);
     };
-    append(out, byte)?;
+    push(out, Input::Rx(byte))?;
     read_text(rest, out)
 }
 
@@ -80,5 +69,5 @@ pub fn read_bytes_inputs(alloc: Global, operands: &[u8]) -> Result<Option<Vec<In
         Some(text) => read_text(text, &mut inputs)?,
         None => read_words(operands, &mut inputs)?,
     };
-    if can_read { Ok(Some(inputs)) } else { Ok(None) }
+    Ok(can_read.then_some(inputs))
 }

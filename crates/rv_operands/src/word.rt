@@ -50,10 +50,7 @@ fn without_blanks(text: &[u8]) -> &[u8]
 fn prefixed(word: &[u8]) -> Option<u32>
     ensures { result ≡ address_of (λ name. None) word.now }
 {
-    if word.starts_with(b"0x") {
-        return hexadecimal(word.split_at(2).1);
-    }
-    None
+    hexadecimal(word.strip_prefix(b"0x")?)
 }
 
 /// Reads a number without a sign: decimal, or hexadecimal after `0x`.
@@ -72,10 +69,7 @@ pub fn number(word: &[u8]) -> Option<u32>
 pub fn line_number(word: &[u8]) -> Option<u64>
     ensures { result ≡ line_number word.now }
 {
-    if word.ends_with(b":") {
-        return decimal(0xffff_ffff, word.split_at(word.len() - 1).0);
-    }
-    decimal(0xffff_ffff, word)
+    decimal(0xffff_ffff, word.strip_suffix(b":").unwrap_or(word))
 }
 
 /// Returns a text without the blanks after it.

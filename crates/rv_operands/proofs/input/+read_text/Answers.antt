@@ -8,7 +8,7 @@ pub returns-in_default : goal.returns-in_default
 returns-in_default t c = rw (no_text c.args.text.now c.in_default.len_below) (ap (λ xs. Some xs) (append-nil _))
 
 pub returns-then-first-ne92 : goal.returns-then-first-ne92
-returns-then-first-ne92 t c = and_more _ _ _ _ _ _ c.read_text.result c.in_ok-append.ensures
+returns-then-first-ne92 t c = and_more _ _ _ _ _ _ c.read_text.result c.in_ok-push.ensures
     (plain c.args.text.now c.in-len1-up.len_at_least c.if-first-ne92.true) c.read_text.ensures
 
 pub returns-in_default-rest : goal.returns-in_default-rest
@@ -21,6 +21,6 @@ returns-in_default-escaped t c =
     (sym c.escaped.ensures ∙ c.in_default-escaped.is)
 
 pub returns : goal.returns
-returns t c = and_more _ _ _ _ _ _ c.read_text-2.result c.in_ok-append-2.ensures
+returns t c = and_more _ _ _ _ _ _ c.read_text-2.result c.in_ok-push-2.ensures
     (good_escape c.args.text.now c.in-Some.byte c.in-len1-up.len_at_least c.if-first-ne92.false
     c.in-len1-up-rest.len_at_least (sym c.escaped.ensures ∙ c.in-Some.is)) c.read_text-2.ensures

@@ -14,6 +14,6 @@ returns-in_default-hex_byte t c =
     (sym c.hex_byte.ensures ∙ c.in_default-hex_byte.is)
 
 pub returns : goal.returns
-returns t c = and_more _ _ _ _ _ _ c.read_words.result c.in_ok-append.ensures
+returns t c = and_more _ _ _ _ _ _ c.read_words.result c.in_ok-push.ensures
     (good_word c.in-Some.word.now (words c.in-Some.rest.now) (words c.args.text.now) c.in-Some-hex_byte.byte
     c.in-Some.ensures.value (sym c.hex_byte.ensures ∙ c.in-Some-hex_byte.is)) c.read_words.ensures
