@@ -26,9 +26,9 @@ use Rattle.rv_runs.proofs.Parts.{on_err}
 use Rattle.rv_lab.specs.Answers.{place_of, standing}
 use Rattle.rv_lab.specs.Commands.{begun, gone_on, guards_by, piece_most, piece_steps, stepped, with_piece, with_steps}
 use Rattle.rv_lab.specs.Refusals.{StopsShort, nowhere}
-use Rattle.rv_lab.specs.Runs.{aim_of, changes, end_of, ending_of, next_step, next_steps, over_answer, run_answer, step_answer, step_value, trap_in, watch_changes}
+use Rattle.rv_lab.specs.Runs.{aim_of, call_answer, changes, end_of, ending_of, next_step, next_steps, over_answer, run_answer, step_answer, step_value, trap_in, watch_changes}
 use Rattle.rv_lab.specs.State.{LabState, board, registers_of, sent, timed}
-use Rattle.rv_lab.specs.Support.Short.{GoesOnWith, IsOnWay, Traced, call_answer, told_steps}
+use Rattle.rv_lab.specs.Support.Short.{GoesOnWith, IsOnWay, Traced, told_steps}
 use Rattle.rv_lab.proofs.Runs.{told_call, traced_last, to_steps}
 
 -- ---- runs

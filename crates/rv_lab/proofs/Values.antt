@@ -29,7 +29,7 @@ use Rattle.rv_recording.specs.Breaks.{IsNext}
 use Rattle.rv_answers.specs.declared.values.Place.{Place}
 use Rattle.rv_answers.specs.declared.values.Trap.{Trap}
 use Rattle.rv_answers.proofs.Regions.{one_more, next_found}
-use Rattle.rv_lab.specs.Answers.{breakpoints, distance_at, place_of, trap_runs}
+use Rattle.rv_lab.specs.Answers.{breakpoints, distance_at, place_of, trap_of, trap_runs}
 use Rattle.rv_lab.specs.State.{LabState}
 use Rattle.rv_lab.specs.Support.Rows.{label_at, first_pending}
 use Rattle.rv_lab.specs.Lines.{line_at}
@@ -165,10 +165,6 @@ unfolding trap_runs
 runs_none l [] i n xs e = search (rules, arith, drop_all)
 runs_none l (t ∷ ts) zero n xs e = absurd cc
 runs_none l (t ∷ ts) (suc i) n xs e = runs_none l ts i n xs e
-
--- a trap that was taken some times in a row
-abbrev trap_of : LabState → TrapRecord → ℕ → Trap
-trap_of l t n = record { cause = t.cause; value = t.tval; place = place_of l t.epc; times = n }
 
 by_next : (l : LabState) (t : TrapRecord) (ts rest : List TrapRecord) (n i : ℕ) (b : Bool) → rest ≡ drop (suc i) ts
     → comes_again t (slice_get ts (i + 1)) ≡ b

@@ -52,11 +52,6 @@ use Rattle.rv_lab.specs.declared.source.Excerpt.{Excerpt}
 use Rattle.rv_answers.specs.declared.command.Command.{Command}
 use Rattle.rv_answers.specs.declared.command.Command.TheVariants as command
 
--- the only one of some words
-abbrev pub only : List (List ℕ) → Option (List ℕ)
-only (word ∷ []) = Some word
-only _ = None
-
 -- a command whose operands have no meaning
 abbrev pub refused : Command → List ℕ → Why → Answer
 refused c text why = answers.Refused (record { command = c; text = text; why = why })
@@ -123,7 +118,7 @@ unfoldable pub registers_answer : LabState → List ℕ → Answer
 registers_answer l text =
     let one : ℕ → Answer = λ r. answers.Register (record { register = r; value = slice_index (board l).machine.registers r }) in
     if nat_lt 0 (length (words text)) then option_map_or one
-    (option_and_then (λ name. lookup name register_names) (only (words text)))
+    (option_and_then (λ name. lookup name register_names) (only_of (words text)))
     (refused command.Registers text why.NoRegister)
     else answers.Registers (register_file l)
 
@@ -138,7 +133,7 @@ control_value b name csr = record {
 
 unfoldable pub control_answer : LabState → List ℕ → Answer
 control_answer l text =
-    let name = unwrap_or (only (words text)) [] in
+    let name = unwrap_or (only_of (words text)) [] in
     option_map_or (λ csr. answers.ControlRegister (control_value (board l) name csr))
     (lookup name csr_names) (refused command.ControlRegister name why.NoControlRegister)
 
@@ -173,19 +168,26 @@ rows_answer e follows l =
 
 -- ---- `t` and `e`
 
+-- a trap that was taken some times in a row
+abbrev pub trap_of : LabState → TrapRecord → (times : ℕ) → Trap
+trap_of l t times = record { cause = t.cause; value = t.tval; place = place_of l t.epc; times = times }
+
 -- traps, after some that are the same as the first: one for as many as are the same
 unfoldable pub trap_runs : LabState → ℕ → List TrapRecord → List Trap
 trap_runs l times [] = []
 trap_runs l times (t ∷ ts) =
     if comes_again t (slice_get ts 0) then trap_runs l (times + 1) ts
-    else record { cause = t.cause; value = t.tval; place = place_of l t.epc; times = times + 1 } ∷ trap_runs l 0 ts
+    else trap_of l t (times + 1) ∷ trap_runs l 0 ts
 
--- of a source that is triggered by edges
+-- a source that is triggered by edges
+unfoldable pub edge_source : List (List ℕ) → Option ℕ
+edge_source operands =
+    option_and_then (λ s. if is_in_range 24 31 s then Some s else None) (count_of 0 31 operands)
+
 unfoldable pub edges_answer : LabState → List (List ℕ) → Answer
 edges_answer l operands = option_map_or
     (λ s. answers.Edges (record { source = s; pending = edges_of (board l).machine.bus.plic.edges s }))
-    (option_and_then (λ s. if is_in_range 24 31 s then Some s else None) (count_of 0 31 operands))
-    (refused command.Edges [] why.NoEdgeSource)
+    (edge_source operands) (refused command.Edges [] why.NoEdgeSource)
 
 -- ---- `dev`
 
@@ -216,17 +218,10 @@ display_answer l ws = option_map_or (λ word. option_map_or (λ w. answers.Displ
 
 -- ---- `check` and `profile`
 
--- how many steps of a copy some operands ask for
-abbrev pub copied_steps : List ℕ → Option ℕ
-copied_steps text = count_of usual_steps 20000000 (words text)
-
-unfoldable pub check_answer : LabState → List ℕ → Answer
-check_answer l text = option_map_or (λ n. answers.Checked (checked l.recording n))
-    (copied_steps text) (refused command.Check text why.NoSteps)
-
-unfoldable pub profile_answer : LabState → List ℕ → Answer
-profile_answer l text = option_map_or (λ n. answers.Profiled (profiled (listing l) l.recording n))
-    (copied_steps text) (refused command.Profile text why.NoSteps)
+-- what is answered of as many steps of a copy as some operands ask for
+abbrev pub copy_answer : Command → List ℕ → (ℕ → Answer) → Answer
+copy_answer c text answer =
+    option_map_or answer (count_of usual_steps 20000000 (words text)) (refused c text why.NoSteps)
 
 -- ---- the answer
 
@@ -241,7 +236,8 @@ look_answer command.Instruction text l = instruction_answer l (words text)
 look_answer command.Traps text l = answers.Traps (trap_runs l 0 (board l).traps)
 look_answer command.Edges text l = edges_answer l (words text)
 look_answer command.Devices text l = answers.Devices (devices_of (board l))
-look_answer command.Check text l = check_answer l text
-look_answer command.Profile text l = profile_answer l text
+look_answer command.Check text l = copy_answer command.Check text (λ n. answers.Checked (checked l.recording n))
+look_answer command.Profile text l =
+    copy_answer command.Profile text (λ n. answers.Profiled (profiled (listing l) l.recording n))
 look_answer command.Display text l = display_answer l (words text)
 look_answer _ text l = answers.Nothing

@@ -16,7 +16,7 @@ use Rattle.rv_recording.specs.declared.until.Watched.{Watched}
 use Rattle.rv_why.specs.Origins.{last_sought}
 use Rattle.rv_why.specs.Taken.{first_state}
 use Rattle.rv_why.specs.declared.writes.Sought.TheVariants as sought
-use Rattle.rv_operands.specs.Operands.{address, break_address, break_place, bytes_inputs, followed, leading, line_number, operand_text, trimmed, without_last}
+use Rattle.rv_operands.specs.Operands.{address, break_address, break_place, bytes_inputs, followed, leading, line_number, only_of, operand_text, trimmed, without_last}
 use Rattle.rv_answers.specs.Commands.{command_named}
 use Rattle.rv_answers.specs.declared.answer.Answer.{Answer}
 use Rattle.rv_answers.specs.declared.answer.Answer.TheVariants as answers
@@ -25,13 +25,12 @@ use Rattle.rv_answers.specs.declared.command.Command.{Command}
 use Rattle.rv_answers.specs.declared.command.Command.TheVariants.{Step, Over, NextC, Moves, Break, Clear, Watch, Unwatch, Receive, Line, Save, Monitor, Why, Help, Quit, StepOnce, Again, Unknown, TooLong}
 use Rattle.rv_answers.specs.declared.command.Command.TheVariants as command
 use Rattle.rv_answers.specs.declared.command.Move.TheVariants.{Go, Finish, Until, Trace, Back}
-use Rattle.rv_lab.specs.Answers.{breakpoints_answer, look_answer, only, refused, watches_of}
+use Rattle.rv_lab.specs.Answers.{breakpoints_answer, look_answer, refused, watches_of}
 use Rattle.rv_lab.specs.Commands.{planned, ready}
 use Rattle.rv_lab.specs.Lines.{line_at}
 use Rattle.rv_lab.specs.State.{LabState, board, listing, timed}
 use Rattle.rv_runs.specs.Watches.{is_same}
 use Rattle.rv_lab.specs.Words.{count_of, line_command, most_steps, passes, usual_steps}
-use Rattle.rv_runs.specs.declared.guard.Guard.{Guard}
 use Rattle.rv_lab.specs.declared.order.Order.{Order}
 use Rattle.rv_lab.specs.declared.order.Order.TheVariants as orders
 use Rattle.rv_runs.specs.declared.goal.Goal.TheVariants as goal
@@ -68,15 +67,11 @@ abbrev pub condition_text : List ℕ → List (List ℕ) → List ℕ
 condition_text text [] = trimmed (operand_text (operand_text text))
 condition_text text (word ∷ more) = trimmed (without_last (without_last (operand_text (operand_text text))))
 
--- a breakpoint that stops each run, or one with a condition or passed hits
-abbrev pub break_by : Guard → Order
-break_by g = if is_none g.condition && (g.passes == 0) then orders.Break g.address else orders.BreakIf g
-
--- one at a word, with a condition or none, by the words that follow it
+-- a breakpoint at a word, with a condition or none, by the words that follow it
 unfoldable pub break_at : (text word : List ℕ) → LabState → Option Condition → (given : List ℕ) → List (List ℕ) → Order
 break_at text word l c given more = or_refused (passes more)
     (λ n. or_refused (break_place (listing l) (board l) word)
-    (λ a. break_by (record { address = a; condition = c; text = given; passes = n })) (no_break Break (word ∷ [])))
+    (λ a. orders.Break (record { address = a; condition = c; text = given; passes = n })) (no_break Break (word ∷ [])))
     (refused Break text why.NoHits)
 
 unfoldable pub guard_order : (text word : List ℕ) → LabState → Option Condition × List (List ℕ) → Order
@@ -123,7 +118,7 @@ save_order text _ = orders.Answered (refused Save text why.NotOne)
 
 unfoldable pub help_order : List ℕ → List (List ℕ) → Order
 help_order text [] = orders.Answered (answers.Help None)
-help_order text ws = or_refused (option_and_then command_named (only ws)) (λ c. orders.Answered (answers.Help (Some c)))
+help_order text ws = or_refused (option_and_then command_named (only_of ws)) (λ c. orders.Answered (answers.Help (Some c)))
     (refused Help text why.NoCommand)
 
 -- `s`: a single step, or a run

@@ -1,7 +1,7 @@
 -- To audit: public contracts cite this.
 -- What the commands that move the board, change breakpoints, give inputs or save answer, as values of the lab before
 -- and after (this project's own: docs/LAB.md).
-use Rattle.std.specs.Prelude.{◌≡◌, ℕ, zero, suc, ◌+◌, ◌-◌, ◌==◌, ◌&&◌, Bool, List, [], ◌∷◌, filter, if◌then◌else◌, is_some, length, map, max, min, nat_lt, not, codes, slice_get, slice_index, Option, Some, None, MatchOption, unwrap_or}
+use Rattle.std.specs.Prelude.{◌≡◌, ℕ, zero, suc, ◌+◌, ◌-◌, ◌==◌, ◌&&◌, Bool, List, [], ◌∷◌, filter, if◌then◌else◌, is_none, is_some, length, map, max, min, nat_lt, not, codes, slice_get, slice_index, Option, Some, None, MatchOption, unwrap_or}
 use Rattle.std.specs.FinSet as set
 use Rattle.std.specs.List.{range_with_len}
 use Rattle.std.specs.Option.{option_map, option_map_or}
@@ -9,7 +9,6 @@ use Rattle.rv_timeline.specs.Text.{list_text}
 use Rattle.rv_hart.specs.Step.{step}
 use Rattle.rv_hart.specs.declared.trap.Outcome.{Outcome}
 use Rattle.rv_hart.specs.declared.trap.Outcome.TheVariants.{Trapped}
-use Rattle.rv_board.specs.declared.event.TrapRecord.{TrapRecord}
 use Rattle.rv_monitor.specs.Commands as monitor
 use Rattle.rv_monitor.specs.Commands.{command_in}
 use Rattle.rv_monitor.specs.State.{SessionState, with_break, with_due, without_break}
@@ -36,10 +35,11 @@ use Rattle.rv_answers.specs.declared.values.RegisterValue.{RegisterValue}
 use Rattle.rv_answers.specs.declared.values.Trap.{Trap}
 use Rattle.rv_why.specs.Why.{explanation}
 use Rattle.rv_why.specs.Origins.{origin, target_of}
-use Rattle.rv_lab.specs.Answers.{given_condition, place_of, rows_answer, standing, watch_of}
+use Rattle.rv_lab.specs.Answers.{given_condition, place_of, rows_answer, standing, trap_of, watch_of}
 use Rattle.rv_lab.specs.Commands.{begun, gone_on, monitor_next, monitored_run, next_of, piece_most, piece_steps, planned, ready, stepped, stops_of, with_console, with_inputs, with_session, with_steps}
 use Rattle.rv_runs.specs.Ends.{heeds, run_ends}
 use Rattle.rv_runs.specs.Guards.{with_guard, without_guard}
+use Rattle.rv_runs.specs.declared.guard.Guard.{Guard}
 use Rattle.rv_runs.specs.Plans.{is_traced}
 use Rattle.rv_lab.specs.Orders.{ordered}
 use Rattle.rv_lab.specs.Saved.{steps_text}
@@ -64,13 +64,9 @@ unfoldable pub changes : (before now : List ℕ) → List RegisterValue
 changes before now = map (λ r. record { register = r; value = slice_index now r })
     (filter (λ r. not (slice_index now r == slice_index before r)) (range_with_len 0 32))
 
--- a trap that was taken once
-abbrev pub trap_value : LabState → TrapRecord → Trap
-trap_value l t = record { cause = t.cause; value = t.tval; place = place_of l t.epc; times = 1 }
-
 -- the trap of a step that did that and left a lab, if it took one
 unfoldable pub trap_in : LabState → Outcome → Option Trap
-trap_in l (Trapped cause epc tval) = Some (trap_value l (record { cause = cause; epc = epc; tval = tval }))
+trap_in l (Trapped cause epc tval) = Some (trap_of l (record { cause = cause; epc = epc; tval = tval }) 1)
 trap_in l did = None
 
 -- what the next step of a lab does
@@ -107,7 +103,7 @@ ending_of ends.Stuck = ending.Stuck
 
 -- the last trap
 abbrev pub last_trap : LabState → Option Trap
-last_trap l = option_map (trap_value l) (slice_get (board l).traps (length (board l).traps - 1))
+last_trap l = option_map (λ t. trap_of l t 1) (slice_get (board l).traps (length (board l).traps - 1))
 
 -- what a run went on for that left a lab
 abbrev pub until_aim : LabState → Condition → Aim
@@ -157,16 +153,14 @@ over_answer is_monitored g end l =
       standing = standing l;
     })
 
--- what a call of a run answers: of a trace its steps
+-- what a call of a run answers that took such steps and ended so, by the lab that it left: of a trace its steps
+abbrev pub call_answer : Plan → End → List Step → LabState → Answer
+call_answer p end steps l =
+    if is_traced p.goal then answers.Traced (record { steps = steps; ending = ending_of end; standing = standing l })
+    else (if is_some l.plan then answers.Running (timed l).taken else over_answer p.is_monitored p.goal end l)
+
 unfoldable pub run_answer : Plan → (old new : LabState) → Answer
-run_answer p old new = if is_traced p.goal
-    then answers.Traced (record {
-      steps = next_steps (piece_most p old) old;
-      ending = ending_of (end_of p old);
-      standing = standing new;
-    })
-    else (if is_some new.plan then answers.Running (timed new).taken
-    else over_answer p.is_monitored p.goal (end_of p old) new)
+run_answer p old new = call_answer p (end_of p old) (next_steps (piece_most p old) old) new
 
 -- ---- commands that move the board
 
@@ -203,6 +197,10 @@ monitor_answer line old new = option_map_or (λ p. run_answer p (begun old) new)
     (monitored_run line old.recording.session)
     (answers.Monitor (monitor.answer (command_in line old.recording.session) old.recording.session new.recording.session))
 
+-- the guards with that of a breakpoint, if it doesn't stop each run
+abbrev pub guarded : Guard → List Guard → List Guard
+guarded g gs = if is_none g.condition && (g.passes == 0) then without_guard g.address gs else with_guard g gs
+
 -- `why` of a register or a word: its last write, and what `why` alone goes on with, which is the one before
 abbrev pub origin_of : LabState → Trail → Origin
 origin_of l t = origin l.recording t.watched t.steps
@@ -238,11 +236,8 @@ does (orders.Back n) old new = let to = (timed old).taken - n in
     (answers.Back (standing new))
 does (orders.List e follows) old new =
     more (new ≡ record old { listed = min (e.after + e.count) (line_count (listing old)) }) (rows_answer e follows old)
-does (orders.Break a) old new =
-    more (new ≡ record (with_session old (with_break old.recording.session a)) { guards = without_guard a old.guards })
-    (answers.Break (record { place = place_of new a; condition = None; passes = 0 }))
-does (orders.BreakIf g) old new =
-    more (new ≡ record (with_session old (with_break old.recording.session g.address)) { guards = with_guard g old.guards })
+does (orders.Break g) old new =
+    more (new ≡ record (with_session old (with_break old.recording.session g.address)) { guards = guarded g old.guards })
     (answers.Break (record { place = place_of new g.address; condition = given_condition g; passes = g.passes }))
 does (orders.Clear a) old new = let s = old.recording.session in
     more (new ≡ record (with_session old (without_break s a)) { guards = without_guard a old.guards })

@@ -1,11 +1,11 @@
 //! Breakpoints.
-ghost use Rattle.std.specs.Prelude.{◌≡◌, IfOk, None, OnErr, OnOk, Some, map};
+ghost use Rattle.std.specs.Prelude.{◌≡◌, ◌<◌, IfOk, OnErr, OnOk, map, vec_capacity, vec_len};
 ghost use Rattle.std.specs.FinSet as set;
 ghost use Rattle.rv_answers.specs.declared.answer.Answer.TheVariants as answers;
 ghost use Rattle.rv_answers.specs.declared.moves.BreakCondition.{BreakCondition};
 ghost use Rattle.rv_lab.specs.Answers as spec;
 ghost use Rattle.rv_lab.specs.Answers.{condition_of};
-ghost use Rattle.rv_lab.specs.Runs.{Leaves};
+ghost use Rattle.rv_lab.specs.Runs.{Leaves, guarded};
 ghost use Rattle.rv_lab.specs.declared.lab.Next.TheVariants as after;
 ghost use Rattle.rv_lab.specs.declared.order.Order.TheVariants as orders;
 
@@ -43,6 +43,18 @@ fn conditions_of(alloc: Global, guards: &[Guard]) -> Result<Many<BreakCondition>
     Ok(Many::of(conditions))
 }
 
+/// Keeps the guard of a breakpoint, if it doesn't stop each run.
+fn keep_guard(guards: &mut Vec<Guard>, guard: Guard)
+    requires { vec_len guards.old < vec_capacity guards.old }
+    ensures { guards.new.items ≡ guarded guard guards.old.items }
+{
+    if guard.condition.is_none() && guard.passes == 0 {
+        remove_guard(guards, guard.address);
+    } else {
+        put_guard(guards, guard);
+    }
+}
+
 impl Lab {
     /// Answers `b` alone.
     pub(crate) fn breakpoints_answer(&self) -> Result<Answer, NoMemory>
@@ -58,10 +70,10 @@ impl Lab {
         }))
     }
 
-    /// Makes an address a breakpoint at which not each arrival stops a run.
-    pub(crate) fn set_guarded(&mut self, guard: Guard) -> Result<Done, NoMemory>
+    /// Makes the address of a guard a breakpoint.
+    pub(crate) fn set_break(&mut self, guard: Guard) -> Result<Done, NoMemory>
         ensures next { IfOk result (λ d. d.next ≡ after.More) }
-        ensures leaves { OnOk result (Leaves (orders.BreakIf guard) self.old self.new) }
+        ensures leaves { OnOk result (Leaves (orders.Break guard) self.old self.new) }
         ensures answers { IfOk result (λ d. d.answer ≡ answers.Break (record {
           place = spec.place_of self.new guard.address;
           condition = spec.given_condition guard;
@@ -73,33 +85,12 @@ impl Lab {
         self.guards.reserve(1)?;
         let (address, passes) = (guard.address, guard.passes);
         self.recording.set_break(address)?;
-        put_guard(&mut self.guards, guard);
+        keep_guard(&mut self.guards, guard);
         let place = self.place_of(address);
         Ok(Done::more(Answer::Break(Breakpoint {
             place,
             condition,
             passes,
-        })))
-    }
-
-    /// Makes an address a breakpoint without a condition.
-    pub(crate) fn set_break(&mut self, address: u32) -> Result<Done, NoMemory>
-        ensures next { IfOk result (λ d. d.next ≡ after.More) }
-        ensures leaves { OnOk result (Leaves (orders.Break address) self.old self.new) }
-        ensures answers { IfOk result (λ d. d.answer ≡ answers.Break (record {
-          place = spec.place_of self.new address;
-          condition = None;
-          passes = 0;
-        })) }
-        ensures err { OnErr result (self.new ≡ self.old) }
-    {
-        self.recording.set_break(address)?;
-        remove_guard(&mut self.guards, address);
-        let place = self.place_of(address);
-        Ok(Done::more(Answer::Break(Breakpoint {
-            place,
-            condition: None,
-            passes: 0,
         })))
     }
 

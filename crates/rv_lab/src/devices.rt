@@ -5,7 +5,9 @@ ghost use Rattle.rv_isa.specs.Number.{flag};
 ghost use Rattle.rv_csr.specs.Traps.{next_interrupt};
 ghost use Rattle.rv_bus.specs.Access.{lines_of};
 ghost use Rattle.rv_board.specs.BoardState.{csr_of};
-ghost use Rattle.rv_lab.specs.Support.Rows.{edge_source, first_pending};
+ghost use Rattle.rv_lab.specs.Answers as spec;
+ghost use Rattle.rv_lab.specs.Answers.{edge_source};
+ghost use Rattle.rv_lab.specs.Support.Rows.{first_pending};
 
 use crate::control::{MIE, MIP, MSTATUS, csr_word};
 use crate::operands::count_or;
@@ -50,13 +52,7 @@ fn next_interrupt(board: &BootedBoard) -> Option<u32>
 
 /// Returns the mode of a board's hart, and what says which interrupts it takes.
 pub(crate) fn interrupts_of(board: &BootedBoard) -> Interrupts
-    ensures { result ≡ record {
-      mode = board.now.machine.mode;
-      mstatus = unwrap_or (csr_of board.now 0x300) 0;
-      mie = unwrap_or (csr_of board.now 0x304) 0;
-      mip = unwrap_or (csr_of board.now 0x344) 0;
-      next = next_interrupt board.now.machine.csrs board.now.machine.mode (lines_of board.now.machine.bus);
-    } }
+    ensures { result ≡ spec.interrupts_of board.now }
 {
     Interrupts {
         mode: board.mode(),
@@ -68,7 +64,7 @@ pub(crate) fn interrupts_of(board: &BootedBoard) -> Interrupts
 }
 
 /// Reads the number of an edge source, 24 to 31.
-#[tactic(auto, unfolding(crate::specs::Support::Rows::edge_source))]
+#[tactic(auto, unfolding(crate::specs::Answers::edge_source))]
 pub(crate) fn edge_source(operands: &[u8]) -> Option<Source>
     ensures { result ≡ edge_source (words operands.now) }
 {

@@ -1,15 +1,19 @@
 //! What the commands that only look answer, as values.
-ghost use Rattle.std.specs.Prelude.{◌≡◌, ◌≤◌, ◌+◌, ◌++◌, drop, map, IfOk, OnOk};
+ghost use Rattle.std.specs.Prelude.{◌≡◌, ◌≤◌, ◌+◌, ◌++◌, drop, map, option_and_then, IfOk, OnOk};
 ghost use Rattle.std.specs.List.{range_with_len};
+ghost use Rattle.rv_base.specs.Tables.{lookup};
 ghost use Rattle.rv_base.specs.Words.{words};
+ghost use Rattle.rv_isa.specs.Names.{register_names};
 ghost use Rattle.rv_asm.specs.Seen.{seen};
 ghost use Rattle.rv_monitor.specs.Views.{byte_at_offset};
+ghost use Rattle.rv_answers.specs.declared.command.Command.TheVariants as command;
+ghost use Rattle.rv_operands.specs.Operands.{only_of};
 ghost use Rattle.rv_backtrace.specs.Backtrace.{backtrace};
 ghost use Rattle.rv_lab.specs.Answers as spec;
-ghost use Rattle.rv_lab.specs.Answers.{behind_last, breakpoints, cells_of, control_answer, copied_steps, edges_answer, instruction_answer, look_answer, memory_answer, refused, register_file, registers_answer, rows_answer, standing, trap_runs};
+ghost use Rattle.rv_lab.specs.Answers.{behind_last, breakpoints, cells_of, control_answer, edges_answer, instruction_answer, look_answer, memory_answer, refused, register_file, registers_answer, rows_answer, standing, trap_runs};
 ghost use Rattle.rv_lab.specs.Lines.{row_of};
 ghost use Rattle.rv_lab.specs.State.{board, listing};
-ghost use Rattle.rv_lab.specs.Support.Rows.{char_at, edge_source, register_of, word_cell};
+ghost use Rattle.rv_lab.specs.Support.Rows.{char_at, word_cell};
 
 use crate::control::{MIE, MIP, MSTATUS, csr_word, name_in};
 use crate::devices::{edge_source, interrupts_of};
@@ -38,16 +42,9 @@ use std::alloc::Global;
 /// The most steps of `check` and `profile`.
 const MOST_COPIED: u64 = 20_000_000;
 
-/// Returns how many steps of a copy some operands ask for.
-fn copied_steps(operands: &[u8]) -> Option<u64>
-    ensures { result ≡ copied_steps operands.now }
-{
-    count_or(operands, USUAL_STEPS, MOST_COPIED)
-}
-
 /// Returns the register that some operands name.
 fn register_of(operands: &[u8]) -> Option<Reg>
-    ensures { result ≡ register_of (words operands.now) }
+    ensures { result ≡ option_and_then (λ name. lookup name register_names) (only_of (words operands.now)) }
 {
     reg_named(only_word(operands)?)
 }
@@ -354,7 +351,7 @@ impl Lab {
 
     /// Returns a trap that was taken some times in a row.
     pub(crate) fn trap_of(&self, trap: TrapRecord, times: u64) -> Trap
-        ensures { result ≡ record { cause = trap.cause; value = trap.tval; place = spec.place_of self.now trap.epc; times = times } }
+        ensures { result ≡ spec.trap_of self.now trap times }
     {
         Trap {
             cause: trap.cause,
@@ -374,7 +371,7 @@ impl Lab {
     }
 
     /// Answers `e`.
-    #[tactic(auto, unfolding(crate::specs::Answers::edges_answer, crate::specs::Support::Rows::edge_source))]
+    #[tactic(auto, unfolding(crate::specs::Answers::edges_answer))]
     fn edges_answer(&self, operands: &[u8]) -> Result<Answer, NoMemory>
         ensures { IfOk result (λ a. a ≡ edges_answer self.now (words operands.now)) }
     {
@@ -428,22 +425,22 @@ impl Lab {
     }
 
     /// Answers `check`.
-    #[tactic(auto, unfolding(crate::specs::Answers::check_answer))]
+    #[tactic(auto, unfolding(crate::specs::Answers::look_answer))]
     fn check_answer(&self, operands: &[u8]) -> Result<Answer, NoMemory>
-        ensures { IfOk result (λ a. a ≡ spec.check_answer self.now operands.now) }
+        ensures { IfOk result (λ a. a ≡ look_answer command.Check operands.now self.now) }
     {
-        match copied_steps(operands) {
+        match count_or(operands, USUAL_STEPS, MOST_COPIED) {
             Some(most) => Ok(Answer::Checked(check(self.alloc, &self.recording, most)?)),
             None => self.refused(Command::Check, operands, Why::NoSteps),
         }
     }
 
     /// Answers `profile`.
-    #[tactic(auto, unfolding(crate::specs::Answers::profile_answer))]
+    #[tactic(auto, unfolding(crate::specs::Answers::look_answer))]
     fn profile_answer(&self, operands: &[u8]) -> Result<Answer, NoMemory>
-        ensures { IfOk result (λ a. a ≡ spec.profile_answer self.now operands.now) }
+        ensures { IfOk result (λ a. a ≡ look_answer command.Profile operands.now self.now) }
     {
-        match copied_steps(operands) {
+        match count_or(operands, USUAL_STEPS, MOST_COPIED) {
             Some(most) => {
                 let told = profile(self.alloc, &self.recording, self.listing(), most)?;
                 Ok(Answer::Profiled(told))

@@ -4,7 +4,7 @@ ghost use Rattle.rv_base.specs.Words.{words};
 ghost use Rattle.rv_answers.specs.declared.command.Command.TheVariants as command;
 ghost use Rattle.rv_answers.specs.declared.command.Move.TheVariants as moves;
 ghost use Rattle.rv_lab.specs.Answers.{refused};
-ghost use Rattle.rv_lab.specs.Orders.{again_order, back_by, back_order, back_until, break_at, break_by, break_order, command_order, condition_text, guard_order, help_order, here, is_of_board, list_order, list_round, next_order, nextc_order, no_break, save_order, steps_order, until_order, unwatch_order, watch_one, watch_order, why_order};
+ghost use Rattle.rv_lab.specs.Orders.{again_order, back_by, back_order, back_until, break_at, break_order, command_order, condition_text, guard_order, help_order, here, is_of_board, list_order, list_round, next_order, nextc_order, no_break, save_order, steps_order, until_order, unwatch_order, watch_one, watch_order, why_order};
 ghost use Rattle.rv_operands.specs.Operands.{leading};
 ghost use Rattle.rv_lab.specs.Commands.{planned};
 ghost use Rattle.rv_lab.specs.State.{board, listing};
@@ -41,10 +41,8 @@ pub(crate) enum Order {
     Back(u64),
     /// To list lines of the source, and whether they follow those that were listed last.
     List(Excerpt, bool),
-    /// To make an address a breakpoint.
-    Break(u32),
-    /// To make one of its address, with a condition.
-    BreakIf(Guard),
+    /// To make the address of a guard a breakpoint.
+    Break(Guard),
     /// To remove a breakpoint.
     Clear(u32),
     /// To watch a register or a word.
@@ -83,16 +81,6 @@ fn is_of_board(condition: &Condition) -> bool
     ensures { result ≡ is_of_board condition.now }
 {
     !matches!(condition, Condition::Trap)
-}
-
-/// Returns the order for a breakpoint: one that stops each run, or one with a condition or passed hits.
-fn break_by(guard: Guard) -> Order
-    ensures { result ≡ break_by guard }
-{
-    if guard.condition.is_none() && guard.passes == 0 {
-        return Order::Break(guard.address);
-    }
-    Order::BreakIf(guard)
 }
 
 /// Returns the condition of `b` as it was given, by what follows it.
@@ -306,7 +294,7 @@ impl Lab {
             return self.refuse_place(Command::Break, word);
         };
         let text = self.copied(given)?;
-        Ok(break_by(Guard {
+        Ok(Order::Break(Guard {
             address,
             condition,
             text,

@@ -8,9 +8,9 @@ ghost use Rattle.rv_runs.specs.declared.goal.Goal.TheVariants as goal;
 ghost use Rattle.rv_lab.specs.Commands.{GoesOn, InPieces, IsWithin, begun, next_of, piece_most, planned, stops_of, with_piece};
 ghost use Rattle.rv_runs.specs.Ends.{goal_after, run_ends};
 ghost use Rattle.rv_lab.specs.Refusals.{RunsOut, StopsShort};
-ghost use Rattle.rv_lab.specs.Runs.{Leaves, end_of, reply_on, run_answer};
+ghost use Rattle.rv_lab.specs.Runs.{Leaves, call_answer, end_of, reply_on, run_answer};
 ghost use Rattle.rv_answers.specs.declared.answer.Answer.TheVariants as answers;
-ghost use Rattle.rv_lab.specs.Support.Short.{GoesOnWith, Starts, Steps, StopsIn, backed, call_answer, ran_to, told_steps};
+ghost use Rattle.rv_lab.specs.Support.Short.{GoesOnWith, Starts, Steps, StopsIn, ran_to, told_steps};
 ghost use Rattle.rv_monitor.specs.Stops.{steps_between};
 ghost use Rattle.rv_recording.specs.Until.{HasRun};
 ghost use Rattle.rv_lab.specs.State.{LabState, setup, timed};
@@ -226,13 +226,13 @@ impl Lab {
         })
     }
 
-    /// Goes back to after the first `to` steps.
-    fn go_back_to(&mut self, to: u64) -> Result<(), NoMemory>
-        requires { to ≤ self.old.recording.session.timed.taken }
-        ensures back { OnOk result (self.new ≡ backed self.old to) }
+    /// Goes back by some steps.
+    fn go_back(&mut self, count: u64) -> Result<(), NoMemory>
+        ensures back { OnOk result (Leaves (orders.Back count) self.old self.new) }
         ensures err { OnErr result (self.new ≡ self.old) }
     {
         let before = registers_of(self.board());
+        let to = self.recording.steps().saturating_sub(count);
         match self.recording.go_back(to) {
             Ok(()) => {
                 self.last.registers = before;
@@ -245,15 +245,14 @@ impl Lab {
         }
     }
 
-    /// Goes back by some steps.
+    /// Goes back by some steps, and answers where the board stands.
     pub(crate) fn back(&mut self, count: u64) -> Result<Done, NoMemory>
         ensures leaves { OnOk result (Leaves (orders.Back count) self.old self.new) }
         ensures next { IfOk result (λ d. d.next ≡ after.More) }
         ensures answers { IfOk result (λ d. d.answer ≡ answers.Back (standing self.new)) }
         ensures err { OnErr result (self.new ≡ self.old) }
     {
-        let now = self.recording.steps();
-        self.go_back_to(now.saturating_sub(count))?;
+        self.go_back(count)?;
         Ok(Done::more(Answer::Back(self.standing())))
     }
 }

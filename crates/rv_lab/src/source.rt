@@ -4,7 +4,6 @@ ghost use Rattle.rv_asm.specs.Seen.{seen};
 ghost use Rattle.std.specs.Prelude.{◌+◌, ◌-◌, ◌/◌, min};
 ghost use Rattle.rv_lab.specs.Lines.{bytes_at, line_count, row_of};
 ghost use Rattle.rv_lab.specs.State.{listing};
-ghost use Rattle.rv_lab.specs.Support.Rows.{is_here, is_marked, line_word};
 
 use crate::lab::Lab;
 use crate::places::line_at;
@@ -57,8 +56,9 @@ pub(crate) fn line_count(listing: Listing) -> usize
 
 impl Lab {
     /// Returns whether pc is in the bytes of a line.
+    #[tactic(auto, unfolding(crate::specs::Lines::row_of))]
     fn is_here(&self, line: usize) -> bool
-        ensures { result ≡ is_here self.now line }
+        ensures { result ≡ (row_of self.now line).is_here }
     {
         match line_at(self.listing(), self.board().pc()) {
             Some(here) => here == line,
@@ -67,8 +67,9 @@ impl Lab {
     }
 
     /// Returns whether a breakpoint is at the address of a line.
+    #[tactic(auto, unfolding(crate::specs::Lines::row_of))]
     fn is_marked(&self, line: usize) -> bool
-        ensures { result ≡ is_marked self.now line }
+        ensures { result ≡ (row_of self.now line).is_marked }
     {
         match bytes_at(self.listing(), line) {
             Some(address) => self.recording.session().has_break(address),
@@ -77,8 +78,9 @@ impl Lab {
     }
 
     /// Returns the first word of a line, if it has four bytes.
+    #[tactic(auto, unfolding(crate::specs::Lines::row_of))]
     fn line_word(&self, line: usize) -> Option<u32>
-        ensures { result ≡ line_word self.now line }
+        ensures { result ≡ (row_of self.now line).word }
     {
         if self.listing().bytes(line).len() < 4 {
             return None;

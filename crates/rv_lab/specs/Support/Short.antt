@@ -1,23 +1,20 @@
 -- Not to audit: private contracts alone cite this.
 -- Calls of parts of a lab, and those that stopped short.
-use Rattle.std.specs.Prelude.{◌≡◌, ℕ, zero, suc, ◌-◌, List, [], Option, is_some, if◌then◌else◌, nat_lt, Result, IfOk, OnErr, OnOk}
+use Rattle.std.specs.Prelude.{◌≡◌, ℕ, zero, suc, List, [], Option, is_some, if◌then◌else◌, nat_lt, Result, IfOk, OnErr, OnOk}
 use Rattle.rv_base.specs.declared.memory.NoMemory.{NoMemory}
 use Rattle.rv_timeline.specs.declared.input.Input.{Input}
-use Rattle.rv_recording.specs.Recording.{RecordingState, gone_back, with_timed}
+use Rattle.rv_recording.specs.Recording.{RecordingState, with_timed}
 use Rattle.rv_recording.specs.Until.{steps_of}
 use Rattle.rv_monitor.specs.Commands as monitor
 use Rattle.rv_monitor.specs.Commands.{command_in}
 use Rattle.rv_monitor.specs.State.{SessionState, after}
 use Rattle.rv_monitor.specs.Stops.{steps_between}
-use Rattle.rv_answers.specs.declared.answer.Answer.{Answer}
-use Rattle.rv_answers.specs.declared.answer.Answer.TheVariants as answers
 use Rattle.rv_answers.specs.declared.moves.Step.{Step}
-use Rattle.rv_lab.specs.Answers.{standing}
-use Rattle.rv_lab.specs.Commands.{begun, gone_on, guards_by, stepped, with_console, with_inputs, with_session}
+use Rattle.rv_lab.specs.Commands.{gone_on, guards_by, stepped, with_inputs, with_session}
 use Rattle.rv_runs.specs.Plans.{is_traced}
 use Rattle.rv_lab.specs.declared.order.Order.TheVariants as orders
 use Rattle.rv_lab.specs.Refusals.{Leads, RunsOut}
-use Rattle.rv_lab.specs.Runs.{Leaves, does, ending_of, next_steps, over_answer, run_goal}
+use Rattle.rv_lab.specs.Runs.{Leaves, does, next_steps, run_goal}
 use Rattle.rv_lab.specs.declared.lab.Done.{Done}
 use Rattle.rv_lab.specs.declared.order.Order.{Order}
 use Rattle.rv_lab.specs.State.{LabState, timed}
@@ -52,10 +49,6 @@ Looks line old new = (new ≡ with_session old new.recording.session)
 
 -- ---- single steps
 
--- a lab that went back to after its first n steps, with which the next command is compared
-abbrev pub backed : LabState → ℕ → LabState
-backed l n = with_console (record (begun l) { recording = gone_back l.recording n; before = n })
-
 -- a recording after its next n steps, or those that can be taken
 abbrev pub stepped_by : ℕ → RecordingState → RecordingState
 stepped_by zero r = r
@@ -84,12 +77,6 @@ Gives inputs old new = new ≡ with_inputs old inputs
 -- the steps of a call that are told: at most n
 abbrev pub told_steps : Goal → ℕ → LabState → List Step
 told_steps g n l = if is_traced g then next_steps n l else []
-
--- what a call answers that told such steps and ended so, by the lab that it left
-abbrev pub call_answer : Plan → End → List Step → LabState → Answer
-call_answer p end steps l =
-    if is_traced p.goal then answers.Traced (record { steps = steps; ending = ending_of end; standing = standing l })
-    else (if is_some l.plan then answers.Running (timed l).taken else over_answer p.is_monitored p.goal end l)
 
 -- steps of a run of at most some stopped short
 abbrev pub StopsIn : Goal → (ℕ → Option End) → ℕ → LabState → LabState → Type 0
