@@ -138,10 +138,15 @@ pub executed_short : (o known : Order) (old new : LabState) (r : Result Done NoM
 executed_short o known old new r e leaves next answers short =
     executed o known old new r e leaves next answers (search (rules, short))
 
-pub executed_kept : (o known : Order) (old new : LabState) (r : Result Done NoMemory) → o ≡ known
-    → OnOk r (Leaves known old new) → IfOk r (λ d. d.next ≡ (does known old new).next)
-    → IfOk r (λ d. d.answer ≡ (does known old new).answer) → OnErr r (new ≡ old) → Executes o old new r
-executed_kept o known old new r e leaves next answers kept = search (rules, executed)
+pub as_known : (o known : Order) (old new : LabState) (r : Result Done NoMemory) → o ≡ known → Executes known old new r
+    → Executes o old new r
+as_known o known old new r e h = rw e h
+
+-- one that leaves the lab as it was where memory runs out
+pub kept : (o : Order) (old new : LabState) (r : Result Done NoMemory) → OnOk r (Leaves o old new)
+    → IfOk r (λ d. d.next ≡ (does o old new).next) → IfOk r (λ d. d.answer ≡ (does o old new).answer)
+    → OnErr r (new ≡ old) → Executes o old new r
+kept o old new r leaves next answers same = executed o o old new r refl leaves next answers (search (rules, same))
 
 -- one that leaves the lab as it is
 pub executed_look : (o known : Order) (l : LabState) (r : Result Done NoMemory) → o ≡ known → Leaves known l l

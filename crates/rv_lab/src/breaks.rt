@@ -1,12 +1,10 @@
 //! Breakpoints.
-ghost use Rattle.std.specs.Prelude.{◌≡◌, ◌<◌, IfOk, OnErr, OnOk, map, vec_capacity, vec_len};
-ghost use Rattle.std.specs.FinSet as set;
-ghost use Rattle.rv_answers.specs.declared.answer.Answer.TheVariants as answers;
+ghost use Rattle.std.specs.Prelude.{◌≡◌, ◌<◌, IfOk, map, vec_capacity, vec_len};
 ghost use Rattle.rv_answers.specs.declared.moves.BreakCondition.{BreakCondition};
 ghost use Rattle.rv_lab.specs.Answers as spec;
 ghost use Rattle.rv_lab.specs.Answers.{condition_of};
-ghost use Rattle.rv_lab.specs.Runs.{Leaves, guarded};
-ghost use Rattle.rv_lab.specs.declared.lab.Next.TheVariants as after;
+ghost use Rattle.rv_lab.specs.Runs.{guarded};
+ghost use Rattle.rv_lab.specs.Support.Short.{Executes};
 ghost use Rattle.rv_lab.specs.declared.order.Order.TheVariants as orders;
 
 use crate::lab::{Done, Lab};
@@ -71,15 +69,9 @@ impl Lab {
     }
 
     /// Makes the address of a guard a breakpoint.
+    #[tactic(auto, using(crate::proofs::Obeyed::kept))]
     pub(crate) fn set_break(&mut self, guard: Guard) -> Result<Done, NoMemory>
-        ensures next { IfOk result (λ d. d.next ≡ after.More) }
-        ensures leaves { OnOk result (Leaves (orders.Break guard) self.old self.new) }
-        ensures answers { IfOk result (λ d. d.answer ≡ answers.Break (record {
-          place = spec.place_of self.new guard.address;
-          condition = spec.given_condition guard;
-          passes = guard.passes;
-        })) }
-        ensures err { OnErr result (self.new ≡ self.old) }
+        ensures { Executes (orders.Break guard) self.old self.new result }
     {
         let condition = given_condition(self.alloc, &guard)?;
         self.guards.reserve(1)?;
@@ -95,14 +87,9 @@ impl Lab {
     }
 
     /// Removes a breakpoint and its condition.
+    #[tactic(auto, using(crate::proofs::Obeyed::kept))]
     pub(crate) fn clear_break(&mut self, address: u32) -> Result<Done, NoMemory>
-        ensures next { IfOk result (λ d. d.next ≡ after.More) }
-        ensures leaves { OnOk result (Leaves (orders.Clear address) self.old self.new) }
-        ensures answers { IfOk result (λ d. d.answer ≡ answers.Cleared (record {
-          place = spec.place_of self.new address;
-          was_there = set.contains self.old.recording.session.breakpoints.addresses address;
-        })) }
-        ensures err { OnErr result (self.new ≡ self.old) }
+        ensures { Executes (orders.Clear address) self.old self.new result }
     {
         let was_there = self.recording.clear_break(address);
         remove_guard(&mut self.guards, address);

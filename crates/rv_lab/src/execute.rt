@@ -1,7 +1,5 @@
 //! The execution of an order.
-ghost use Rattle.std.specs.Prelude.{◌≡◌, IfOk, OnErr, OnOk, None};
-ghost use Rattle.rv_lab.specs.Answers as spec;
-ghost use Rattle.rv_lab.specs.Runs.{Leaves};
+ghost use Rattle.std.specs.Prelude.{◌≡◌, None};
 ghost use Rattle.rv_lab.specs.Support.Short.{Executes};
 ghost use Rattle.rv_lab.specs.declared.lab.Next.TheVariants as after;
 ghost use Rattle.rv_lab.specs.declared.order.Order.TheVariants as orders;
@@ -26,11 +24,9 @@ impl Done {
 
 impl Lab {
     /// Lists lines of the source, and keeps where the list ends.
+    #[tactic(auto, using(crate::proofs::Obeyed::kept))]
     fn list(&mut self, excerpt: Excerpt, follows: bool) -> Result<Done, NoMemory>
-        ensures next { IfOk result (λ d. d.next ≡ after.More) }
-        ensures leaves { OnOk result (Leaves (orders.List excerpt follows) self.old self.new) }
-        ensures answers { IfOk result (λ d. d.answer ≡ spec.rows_answer excerpt follows self.old) }
-        ensures err { OnErr result (self.new ≡ self.old) }
+        ensures { Executes (orders.List excerpt follows) self.old self.new result }
     {
         let answer = self.rows_answer(excerpt, follows)?;
         self.keep_listed(excerpt);
@@ -38,7 +34,7 @@ impl Lab {
     }
 
     /// Executes an order, and returns its answer and what follows.
-    #[tactic(auto, using(crate::proofs::Obeyed::executed, crate::proofs::Obeyed::executed_kept, crate::proofs::Obeyed::executed_look))]
+    #[tactic(auto, using(crate::proofs::Obeyed::as_known, crate::proofs::Obeyed::executed_look))]
     pub(crate) fn execute(&mut self, order: Order) -> Result<Done, NoMemory>
         requires { self.old.plan ≡ None }
         ensures { Executes order self.old self.new result }

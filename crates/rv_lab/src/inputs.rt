@@ -11,7 +11,7 @@ ghost use Rattle.rv_lab.specs.declared.order.Order.TheVariants as orders;
 ghost use Rattle.rv_lab.specs.Commands.{with_inputs};
 ghost use Rattle.rv_lab.specs.Refusals.{StopsShort};
 ghost use Rattle.rv_lab.specs.Runs as spec;
-ghost use Rattle.rv_lab.specs.Support.Short.{Gives};
+ghost use Rattle.rv_lab.specs.Support.Short.{Executes, Gives};
 ghost use Rattle.rv_answers.specs.Printer.{Appended};
 ghost use Rattle.rv_lab.specs.Saved.{steps_text};
 
@@ -111,9 +111,9 @@ impl Lab {
     }
 
     /// Answers what was done: where it has a name, it is to be saved.
+    #[tactic(auto, using(crate::proofs::Obeyed::kept))]
     pub(crate) fn save(&self, name: Option<Many<u8>>) -> Result<Done, NoMemory>
-        ensures next { IfOk result (λ d. d.next ≡ (spec.does (orders.Save name) self.now self.now).next) }
-        ensures answers { IfOk result (λ d. d.answer ≡ spec.saved_answer name self.now) }
+        ensures { Executes (orders.Save name) self.now self.now result }
     {
         match name {
             None => Ok(Done::more(self.saved_answer(None)?)),

@@ -1,16 +1,13 @@
 //! Commands that move the board.
 ghost use Rattle.std.specs.Prelude.{◌≡◌, ◌≤◌, ◌++◌, Ok, Some, None, IfOk, OnErr, OnOk, max};
 ghost use Rattle.std.specs.Option.{option_map};
-ghost use Rattle.rv_lab.specs.Answers.{standing};
-ghost use Rattle.rv_lab.specs.declared.lab.Next.TheVariants as after;
 ghost use Rattle.rv_lab.specs.declared.order.Order.TheVariants as orders;
 ghost use Rattle.rv_runs.specs.declared.goal.Goal.TheVariants as goal;
 ghost use Rattle.rv_lab.specs.Commands.{GoesOn, InPieces, IsWithin, begun, next_of, piece_most, planned, stops_of, with_piece};
 ghost use Rattle.rv_runs.specs.Ends.{goal_after, run_ends};
 ghost use Rattle.rv_lab.specs.Refusals.{RunsOut, StopsShort};
 ghost use Rattle.rv_lab.specs.Runs.{Leaves, call_answer, end_of, reply_on, run_answer};
-ghost use Rattle.rv_answers.specs.declared.answer.Answer.TheVariants as answers;
-ghost use Rattle.rv_lab.specs.Support.Short.{GoesOnWith, Starts, Steps, StopsIn, ran_to, told_steps};
+ghost use Rattle.rv_lab.specs.Support.Short.{Executes, GoesOnWith, Starts, Steps, StopsIn, ran_to, told_steps};
 ghost use Rattle.rv_monitor.specs.Stops.{steps_between};
 ghost use Rattle.rv_recording.specs.Until.{HasRun};
 ghost use Rattle.rv_lab.specs.State.{LabState, setup, timed};
@@ -246,11 +243,9 @@ impl Lab {
     }
 
     /// Goes back by some steps, and answers where the board stands.
+    #[tactic(auto, using(crate::proofs::Obeyed::kept))]
     pub(crate) fn back(&mut self, count: u64) -> Result<Done, NoMemory>
-        ensures leaves { OnOk result (Leaves (orders.Back count) self.old self.new) }
-        ensures next { IfOk result (λ d. d.next ≡ after.More) }
-        ensures answers { IfOk result (λ d. d.answer ≡ answers.Back (standing self.new)) }
-        ensures err { OnErr result (self.new ≡ self.old) }
+        ensures { Executes (orders.Back count) self.old self.new result }
     {
         self.go_back(count)?;
         Ok(Done::more(Answer::Back(self.standing())))

@@ -1,11 +1,10 @@
 //! What is watched.
-ghost use Rattle.std.specs.Prelude.{◌≡◌, ◌-◌, ◌++◌, filter, IfOk, OnErr, OnOk, length, map};
-ghost use Rattle.rv_answers.specs.declared.answer.Answer.TheVariants as answers;
-ghost use Rattle.rv_lab.specs.Answers.{watch_of, watch_on, watches_of};
+ghost use Rattle.std.specs.Prelude.{◌≡◌, ◌++◌, filter, IfOk, OnOk, map};
+ghost use Rattle.rv_lab.specs.Answers.{watch_on, watches_of};
 ghost use Rattle.rv_lab.specs.Runs as spec;
-ghost use Rattle.rv_lab.specs.Runs.{Leaves, change_of};
+ghost use Rattle.rv_lab.specs.Runs.{change_of};
+ghost use Rattle.rv_lab.specs.Support.Short.{Executes};
 ghost use Rattle.rv_runs.specs.Watches.{differs};
-ghost use Rattle.rv_lab.specs.declared.lab.Next.TheVariants as after;
 ghost use Rattle.rv_lab.specs.declared.order.Order.TheVariants as orders;
 
 use crate::lab::{Done, Lab};
@@ -106,11 +105,9 @@ impl Lab {
     }
 
     /// Watches a register or a word.
+    #[tactic(auto, using(crate::proofs::Obeyed::kept))]
     pub(crate) fn set_watch(&mut self, watched: Watched) -> Result<Done, NoMemory>
-        ensures next { IfOk result (λ d. d.next ≡ after.More) }
-        ensures leaves { OnOk result (Leaves (orders.Watch watched) self.old self.new) }
-        ensures answers { IfOk result (λ d. d.answer ≡ answers.Watch (watch_of self.new watched)) }
-        ensures err { OnErr result (self.new ≡ self.old) }
+        ensures { Executes (orders.Watch watched) self.old self.new result }
     {
         self.watches.reserve(1)?;
         put_watch(&mut self.watches, &watched);
@@ -118,12 +115,9 @@ impl Lab {
     }
 
     /// Watches one no more, or none.
+    #[tactic(auto, using(crate::proofs::Obeyed::kept))]
     pub(crate) fn unwatch(&mut self, watched: Option<Watched>) -> Result<Done, NoMemory>
-        ensures next { IfOk result (λ d. d.next ≡ after.More) }
-        ensures leaves { OnOk result (Leaves (orders.Unwatch watched) self.old self.new) }
-        ensures answers { IfOk result (λ d. d.answer
-            ≡ answers.Unwatched (length self.old.watches - length self.new.watches)) }
-        ensures err { OnErr result (self.new ≡ self.old) }
+        ensures { Executes (orders.Unwatch watched) self.old self.new result }
     {
         let before = self.watches.len();
         match watched {

@@ -1,9 +1,7 @@
 //! Why a trap came, and where a value came from.
-ghost use Rattle.std.specs.Prelude.{◌≡◌, IfOk, OnErr, OnOk, Some};
-ghost use Rattle.rv_answers.specs.declared.answer.Answer.TheVariants as answers;
-ghost use Rattle.rv_why.specs.Why.{explanation};
-ghost use Rattle.rv_lab.specs.Runs.{Leaves, origin_of, trail_after};
-ghost use Rattle.rv_lab.specs.declared.lab.Next.TheVariants as after;
+ghost use Rattle.std.specs.Prelude.{◌≡◌, IfOk, Some};
+ghost use Rattle.rv_lab.specs.Runs.{origin_of, trail_after};
+ghost use Rattle.rv_lab.specs.Support.Short.{Executes};
 ghost use Rattle.rv_lab.specs.declared.order.Order.TheVariants as orders;
 
 use crate::lab::{Done, Lab};
@@ -28,9 +26,9 @@ fn trail_after(trail: Trail, origin: &Origin) -> Trail
 
 impl Lab {
     /// Answers `why`.
+    #[tactic(auto, using(crate::proofs::Obeyed::kept))]
     pub(crate) fn explained(&self) -> Result<Done, NoMemory>
-        ensures next { IfOk result (λ d. d.next ≡ after.More) }
-        ensures answers { IfOk result (λ d. d.answer ≡ answers.Explained (explanation self.now.recording)) }
+        ensures { Executes orders.Explain self.now self.now result }
     {
         Ok(Done::more(Answer::Explained(explain(&self.recording)?)))
     }
@@ -50,11 +48,9 @@ impl Lab {
     }
 
     /// Tells the last write of what is followed, and keeps that the one before it is told next.
+    #[tactic(auto, using(crate::proofs::Obeyed::kept))]
     pub(crate) fn origin(&mut self, trail: Trail) -> Result<Done, NoMemory>
-        ensures leaves { OnOk result (Leaves (orders.Origin trail) self.old self.new) }
-        ensures next { IfOk result (λ d. d.next ≡ after.More) }
-        ensures answers { IfOk result (λ d. d.answer ≡ answers.Origin (origin_of self.old trail)) }
-        ensures err { OnErr result (self.new ≡ self.old) }
+        ensures { Executes (orders.Origin trail) self.old self.new result }
     {
         let origin = self.origin_of(&trail)?;
         self.keep_trail(trail_after(trail, &origin));
