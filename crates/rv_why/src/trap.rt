@@ -128,12 +128,10 @@ fn last_of(recording: &Recording) -> Option<Repeated>
 /// # Errors
 ///
 /// `NoMemory` if memory runs out.
-#[tactic(auto, unfolding(crate::specs::Why::explanation))]
+#[tactic(auto, unfolding(crate::specs::Why::explanation), using(crate::proofs::Replays::begins_in_time, crate::proofs::Replays::begins_running))]
 pub fn explain(recording: &Recording) -> Result<Explanation, NoMemory>
     ensures { IfOk result (λ e. e ≡ explanation recording.now) }
 {
-    // It tells that the board is the run of the recorded events.
-    let _session = recording.session();
     let taken = recording.steps();
     let mut run = recording.begun_again(taken)?;
     let found = find_trap(&mut run, taken.min(MOST))?;
