@@ -32,19 +32,16 @@ module _ (program : Assembly) (inputs : List ℕ) (pages slots limit : ℕ) wher
   one_opening a b one two kept there = search (rules, arith, not_both, one_line)
 
   -- and there is one
-  pub record Opened : Type 0 where
-    pub opening : Opening
-    pub opens : IsOpening opening
-    pub kept : opening ≢ Err OutOfMemory
+  abbrev Opened : Type 0
+  Opened = (opening : Opening) × IsOpening opening × (opening ≢ Err OutOfMemory)
 
   by_board : (xs : List TimedInput) (why : Option BootFault) → timed (lines inputs) ≡ Some xs
       → fault ≡ why → Opened
-  by_board xs (Some why) read is =
-      record { opening = Err (Board why); opens = (xs, read, is); kept = λ e. cc }
-  by_board xs None read is = record { opening = Ok (session xs); opens = (read, is, refl); kept = λ e. cc }
+  by_board xs (Some why) read is = (Err (Board why), (xs, read, is), λ e. cc)
+  by_board xs None read is = (Ok (session xs), (read, is, refl), λ e. cc)
 
   pub some_opening : Opened
   some_opening =
       ⊎_elim (λ listed. by_board listed.0 fault listed.1 refl)
-      (λ refused. record { opening = Err (Input refused.0); opens = refused.1; kept = λ e. cc })
+      (λ refused. (Err (Input refused.0), refused.1, λ e. cc))
       (list_or_line (lines inputs))

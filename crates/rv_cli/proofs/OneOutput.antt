@@ -70,7 +70,7 @@ module _ (texts : Texts) (options : Options) where
   some_by (Err fault) is = (Err (Source fault), is)
   some_by (Ok program) is =
       let some = some_opening program texts.inputs options.pages options.slots options.steps in
-      (output_of some.opening, is_output some.opening (program, is, some.opens) some.kept)
+      (output_of some.0, is_output some.0 (program, is, some.1) some.2)
 
   -- and they have one
   pub some_output : (output : Output) × IsOutput texts options output
