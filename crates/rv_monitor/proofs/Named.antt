@@ -1,16 +1,16 @@
 -- Each control register that has a name can be read.
-use Rattle.std.proofs.Common.{rules, arith, ◌≡◌, ℕ, Bool, true, List, [], ◌∷◌, refl}
+use Rattle.std.proofs.Common.{rules, arith, ◌≡◌, ℕ, Bool, true, List, [], ◌∷◌}
 use Rattle.std.proofs.lemmas.Bool.{and_parts}
 use Rattle.std.specs.Fmt.{digits}
 use Rattle.std.specs.List.{list_all}
-use Rattle.std.specs.Prelude.{Some, None, is_some, IsSome, if◌then◌else◌}
+use Rattle.std.specs.Prelude.{Some, is_some, IsSome}
 use Rattle.rv_base.specs.Tables.{lookup}
 use Rattle.rv_isa.specs.Names.{csr_names}
 use Rattle.rv_isa.specs.declared.Lines.{Lines}
 use Rattle.rv_pmp.specs.Pmp.{read_register}
 use Rattle.rv_pmp.specs.declared.mode.Mode.TheVariants.{Machine}
-use Rattle.rv_csr.specs.Registers.{may_read, read}
-use Rattle.rv_csr.specs.Support.RegisterCases.{register_at, value_at}
+use Rattle.rv_csr.specs.Registers.{read}
+use Rattle.rv_csr.specs.Support.RegisterCases.{register_at}
 use Rattle.rv_csr.proofs.Table.{read_by_cases}
 use Rattle.rv_csr.specs.State.{CsrState}
 use Rattle.rv_board.specs.Support.State.{BoardState, csr_of}
@@ -19,21 +19,9 @@ use Rattle.rv_bus.specs.Access.{lines_of}
 abbrev is_read : CsrState → Lines → ℕ → Bool
 is_read state lines addr = is_some (read state addr Machine lines)
 
-abbrev is_read_by_cases : CsrState → Lines → ℕ → Bool
-is_read_by_cases state lines addr =
-    is_some (if may_read addr Machine then value_at state lines addr (register_at addr) else None)
-
-all_by_cases : (state : CsrState) (lines : Lines) → list_all (λ e. is_read_by_cases state lines e.1) csr_names ≡ true
-unfolding csr_names digits register_at read_register
-all_by_cases state lines = refl
-
-as_cases : (state : CsrState) (lines : Lines) (es : List (List ℕ × ℕ)) →
-    list_all (λ e. is_read state lines e.1) es ≡ list_all (λ e. is_read_by_cases state lines e.1) es
-as_cases state lines [] = refl
-as_cases state lines (e ∷ es) = search (rules, arith, read_by_cases, as_cases state lines es)
-
 all_are_read : (state : CsrState) (lines : Lines) → list_all (λ e. is_read state lines e.1) csr_names ≡ true
-all_are_read state lines = search (rules, arith, as_cases, all_by_cases)
+unfolding csr_names digits register_at read_register
+all_are_read state lines = simp read_by_cases
 
 found : (p : ℕ → Bool) (name : List ℕ) (csr : ℕ) (es : List (List ℕ × ℕ)) → list_all (λ e. p e.1) es ≡ true →
     lookup name es ≡ Some csr → p csr ≡ true

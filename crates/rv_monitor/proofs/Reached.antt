@@ -1,5 +1,5 @@
 -- Inputs that are given by hand, and states that a board comes to by its inputs and its steps: what calls leave is one.
-use Rattle.std.proofs.Common.{rules, ◌≡◌, ◌∙◌, ℕ, zero, suc, ◌+◌, ◌<◌, ◌≤◌, Bool, true, false, List, [], ◌∷◌, ◌++◌, length, drop, refl, sym, ap, subst, arith, ◌-◌, inl, inr, get_or, add-one}
+use Rattle.std.proofs.Common.{rules, ◌≡◌, ◌∙◌, ℕ, zero, suc, ◌+◌, ◌<◌, ◌≤◌, Bool, true, false, List, [], ◌∷◌, ◌++◌, length, drop, refl, sym, ap, subst, arith, ◌-◌, inl, inr, add-one}
 use Rattle.std.specs.Prelude.{◌⊎◌, nat_le, filter, None, IsSome}
 use Rattle.std.proofs.lemmas.Bool.{and_from, and_parts, eq-eqb, le-leb, le-ltb, lt-ltb, ltb-false, ltb-true, ne_eqb, cases_lt, eqb-true, false≢true}
 use Rattle.std.proofs.lemmas.List.{map-append}
@@ -14,7 +14,7 @@ use Rattle.rv_monitor.specs.Events.{inputs_at, events_of}
 use Rattle.rv_monitor.specs.Support.TimedCalls.{IsRefused}
 use Rattle.rv_monitor.specs.State.{Addresses, TimedState, IsInTime, rest, count_before, begun, after, with_due, given}
 use Rattle.rv_monitor.specs.Laws.{IsReached}
-use Rattle.rv_monitor.proofs.Times.{from, of, from_earlier, tail_from, tail_rises, all_from, drop_from, late_from, late_count, none_of, none_before, from_first, from_place, late_of, count_most}
+use Rattle.rv_monitor.proofs.Times.{from, of, from_earlier, tail_from, tail_rises, all_from, drop_from, late_from, late_count, none_of, none_before, from_first, late_of, count_most}
 use Rattle.rv_monitor.proofs.Steps.{inputs_late, none_due, same, after_none, due_after, again, halted_due, in_time_due, in_time_after, after_more}
 use Rattle.rv_monitor.specs.Stops.{stop_after}
 use Rattle.rv_monitor.proofs.Stopping.{running, no_reason}
@@ -152,9 +152,8 @@ given_listed board s input h is = search (rules, arith, after_begun, steps_befor
 
 pub given_stands : (board : BoardState) (s : TimedState) (input : Input) → IsReached board s
     → IsReached board (given s input)
-given_stands board s input r = reached_due board (inserted s.inputs (by_hand s.taken input)) s.taken (given s input)
-    (rises s.inputs (by_hand s.taken input) r.rising) (given_listed board s input r.rising r.state)
-    (λ i l. running_before board s.inputs r.rising s.taken input i (omega arith) ∙ r.running i l)
+unfolding never_falls with_due
+given_stands board s input r = search (rules, arith, reached_due, rises, given_listed, running_before)
 
 -- ---- the calls that give an input, take a step and resume, by their fields
 
@@ -234,14 +233,6 @@ module _ (a : Addresses) (board : BoardState) (s : TimedState) (r : IsReached bo
   pub refused_stands : (n : ℕ) → ((i : ℕ) → i < n → stop_after a (after s i).board i ≡ None)
       → IsReached board (with_due (after s n))
   refused_stands n going = due_stands board (after s n) (stopped_stands n going)
-
--- ---- the number of inputs before a step, one after another
-
-pub counted_till : (t : ℕ) (xs : List TimedInput) (i : ℕ) (x d : TimedInput) → never_falls xs ≡ true → i < length xs
-    → x ≡ get_or xs i d → t ≤ x.step → i + count_before t (drop i xs) ≡ count_before t xs → i ≡ count_before t xs
-counted_till t xs i x d rising h e k more =
-    let late = from_earlier t _ (drop i xs) (from_place xs i d rising h) (rw e at k) in
-    omega (arith, none_before t _ late, more)
 
 -- ---- a board that goes on is in time
 

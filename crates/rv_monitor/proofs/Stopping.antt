@@ -1,9 +1,7 @@
 -- When a call ends: parts of it, several steps at once and one part after another.
 use Rattle.std.proofs.Common.{rules, ◌≡◌, ◌∙◌, ℕ, zero, suc, ◌+◌, ◌-◌, ◌<◌, ◌≤◌, true, false, List, drop, replicate, refl, sym, ap, arith}
 use Rattle.std.specs.Prelude.{Option, Some, None, unwrap_or, is_some, Result, Err, OnErr}
-use Rattle.std.specs.Borrow.{Bor}
 use Rattle.std.specs.FinSet as set
-use Rattle.std.specs.FinSet.{contains-empty}
 use Rattle.std.proofs.lemmas.Bool.{cases_lt, false≢true, lt-ltb}
 use Rattle.std.proofs.lemmas.List.{replicate-append-replicate}
 use Rattle.rv_base.specs.declared.memory.NoMemory.{NoMemory}
@@ -13,12 +11,10 @@ use Rattle.rv_board.specs.Move.{moved, run, writes}
 use Rattle.rv_board.specs.PlainSteps.{after_steps, TookPlain}
 use Rattle.rv_board.specs.declared.event.Event.TheVariants.{Step}
 use Rattle.rv_board.proofs.Runs.{run_append}
-use Rattle.rv_monitor.specs.Breaks.{Breaks}
 use Rattle.rv_monitor.specs.declared.stop.Stop.{Stop}
 use Rattle.rv_monitor.specs.declared.stop.Stop.TheVariants.{Halted, Limit}
 use Rattle.rv_monitor.specs.State.{Addresses, TimedState, IsInTime, rest, after, with_due}
 use Rattle.rv_monitor.specs.Stops.{stop_after}
-use Rattle.rv_monitor.specs.Support.LentBreaks.{addresses_of}
 use Rattle.rv_monitor.specs.Support.TimedCalls.{HasStopped, IsRefused}
 use Rattle.rv_monitor.specs.Support.Took.{TookPart}
 use Rattle.rv_monitor.proofs.Times.{from, from_earlier}
@@ -57,11 +53,6 @@ ended_for : (a : Addresses) (s new : TimedState) (n : ℕ) (stop : Stop) (reason
 ended_for a s new n stop reason is ends word = search (rules, arith, took_steps)
 
 -- ---- one part of a call
-
--- without breakpoints no address is one
-pub none_marked : (breakpoints : Option (Bor Breaks)) (old new : BoardState) (n : ℕ) → breakpoints ≡ None
-    → TookPlain (λ _. false) old new n → TookPlain (set.contains (addresses_of breakpoints)) old new n
-none_marked breakpoints old new n is t = search (rules, arith, running, contains-empty)
 
 -- before its first step a board that hasn't halted gives no reason to end
 at_first : (a : Addresses) (b : BoardState) → halted_of b ≡ None → stop_after a b 0 ≡ None
@@ -130,11 +121,10 @@ more_steps b n j =
 
 pub took_on : {a : Addresses} {old mid new : BoardState} {n k : ℕ} {given reason : Option Stop}
     → TookPart a old mid n None → TookPart a mid new k given → reason ≡ given → TookPart a old new (n + k) reason
-took_on {a} {old} {mid} {new} {n} {k} before more is =
-    let steps_on = λ (j : ℕ). sym (more_steps old n j) ∙ ap (λ b. after_steps b j) (sym before.state) in
-    let at : new ≡ after_steps old (n + k) = more.state ∙ sym (steps_on k) in
-    let w = went_on (went_of before) (went_of more) (λ j _ _. steps_on j) (runs_on a old mid n before) in
-    record { state = at; going = w.going; ends = rw at (is ∙ w.ends) }
+took_on {old = old} {mid = mid} {n = n} {k = k} before more is =
+    let w = went_on (went_of before) (went_of more)
+    (λ j _ _. sym (more_steps old n j) ∙ ap (λ b. after_steps b j) (sym before.state)) (runs_on _ old mid n before) in
+    search (rules, arith, more_steps)
 
 -- two parts one after the other
 pub took_twice : {a : Addresses} {old mid end new : BoardState} {n k j : ℕ} {first second reason : Option Stop}
@@ -192,8 +182,7 @@ module _ {a : Addresses} {s mid : TimedState} {n : ℕ} (g : GoesOn a s mid n) {
         ∙ after_quiet given j (from_earlier _ later (rest given) quiet (omega arith))
 
     stands : 0 < k → new ≡ after s (n + k)
-    stands some = is ∙ (ap (λ b. record given { board = b; taken = given.taken + k }) took.state
-        ∙ sym (joined k some (omega arith)))
+    stands some = search (rules, arith, joined)
 
     went : Went a (λ i. (after s i).board) (n + k) reason
     went = went_on g.went (went_of took) (λ j some le. ap (λ u. u.board) (joined j some le)) given_runs

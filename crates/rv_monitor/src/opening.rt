@@ -59,6 +59,7 @@ impl From<BootFault> for OpenFault {
 ///
 /// The first fault that applies: of the timed list, of the number of pages, of the number of slots, of the
 /// image, which is too large. `OutOfMemory` may come in place of any result.
+#[tactic(auto, using(std::proofs::lemmas::Result::err_from_is_err_and, crate::proofs::OpenFaults::board_refused, crate::proofs::OpenFaults::list_refused))]
 pub fn open_session(
     alloc: Global,
     program: Program,

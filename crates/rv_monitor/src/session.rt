@@ -203,10 +203,7 @@ impl<M: ByteMemory, C: Decoded> Session<M, C> {
         if self.board().halted().is_some() || self.timed.taken() >= self.limit {
             return Ok(None);
         }
-        match self.timed.take_step() {
-            Ok(outcome) => Ok(Some(outcome)),
-            Err(NoMemory) => Err(NoMemory),
-        }
+        Ok(Some(self.timed.take_step()?))
     }
 
     /// Returns the inputs in their order, those among them that were given by hand.
@@ -258,7 +255,7 @@ impl<M: ByteMemory, C: Decoded> Session<M, C> {
 
 /// Law: steps may be taken in any number of calls, and the call after one that ran out of memory goes on
 /// where that one stopped.
-#[tactic(auto, using(crate::proofs::Steps::runs_join))]
+#[tactic(auto, using(crate::proofs::Steps::runs_join, crate::proofs::Steps::after_none, crate::proofs::Steps::after_more, crate::proofs::Steps::again))]
 pub fn calls_join()
     // A run of the first steps and then of the next, with the inputs that are left, is the run of all.
     ensures runs { (b : BoardState) (timed : List TimedInput) (k j : ℕ) → never_falls timed ≡ true
@@ -285,6 +282,7 @@ pub fn breakpoints_are_a_set()
 {}
 
 /// Law: an input that is given by hand is the same as one that stood in the list from the start.
+#[tactic(auto, using(crate::proofs::Reached::given_listed))]
 pub fn given_as_listed()
     ensures reached { (board : BoardState) (s : TimedState) (input : Input) → IsReached board s
         → IsReached board (given s input) }
