@@ -1,4 +1,3 @@
 -- Definitions that aren't to audit: each file says why.
 pub mod Meanings
-pub mod Numbered
 pub mod Shown

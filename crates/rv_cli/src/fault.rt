@@ -1,9 +1,8 @@
 //! How a run ends, the faults for which it has no ending, the line of each, and the exit statuses.
-ghost use Rattle.std.specs.Prelude.{◌≡◌, ◌++◌, Err, IfErr, IfOk, Ok, OnErr, OnOk, Some, false};
+ghost use Rattle.std.specs.Prelude.{◌≡◌, ◌++◌, Err, IfErr, IfOk, Ok, OnErr, OnOk, Some};
 ghost use Rattle.rv_monitor.specs.Views as views;
-ghost use Rattle.rv_cli.specs.Support.Shown.{IsAppended, input_line_of};
+ghost use Rattle.rv_cli.specs.Support.Shown.{IsAppended, input_line_of, source_line_of};
 ghost use Rattle.rv_cli.specs.Faults.{fault_row, status_of};
-ghost use Rattle.rv_cli.specs.Support.Numbered.{has_number, line_of, source_line_of};
 ghost use Rattle.rv_cli.specs.Conversions.{unbooted_fault};
 ghost use Rattle.rv_cli.specs.Conversions as spec;
 
@@ -193,24 +192,6 @@ impl fmt::Display for InputLine {
     }
 }
 
-/// Returns the line of a fault, with its line end, where it has no number in it.
-fn plain_line(fault: CliFault) -> &'static str
-    requires { has_number fault ≡ false }
-    ensures { result.now ≡ line_of fault }
-{
-    match fault {
-        CliFault::ReadSource => "cannot read source\n",
-        CliFault::ReadInput => "cannot read input\n",
-        CliFault::ReadCommands => "cannot read commands\n",
-        CliFault::Source(_) | CliFault::Input(_) => unreachable!(),
-        CliFault::BadPages => "bad pages\n",
-        CliFault::BadSlots => "bad slots\n",
-        CliFault::ImageTooLarge => "image too large\n",
-        CliFault::OutOfMemory => "out of memory\n",
-        CliFault::Write => "cannot write\n",
-    }
-}
-
 /// Appends `text` to a line, which is left as it was where memory runs out.
 pub(crate) fn append(text: &str, line: &mut Vec<u8>) -> Result<(), NoMemory>
     ensures ok { OnOk result (line.new.items ≡ line.old.items ++ text.now) }
@@ -239,21 +220,16 @@ pub fn fault_line(fault: &CliFault, line: &mut Vec<u8>) -> Result<(), NoMemory>
     ensures err { OnErr result (line.new.items ≡ line.old.items) }
 {
     match *fault {
+        CliFault::ReadSource => append("cannot read source\n", line),
+        CliFault::ReadInput => append("cannot read input\n", line),
+        CliFault::ReadCommands => append("cannot read commands\n", line),
         CliFault::Source(fault) => append_line(&SourceLine(fault), line),
         CliFault::Input(number) => append_line(&InputLine(number), line),
-        other => append(plain_line(other), line),
-    }
-}
-
-/// Returns the exit status of a fault.
-fn status_of_fault(fault: CliFault) -> u8
-    ensures { result ≡ (fault_row fault).1 }
-{
-    match fault {
-        CliFault::Source(_) | CliFault::Input(_) => 3,
-        CliFault::BadPages | CliFault::BadSlots | CliFault::ImageTooLarge => 3,
-        CliFault::ReadSource | CliFault::ReadInput | CliFault::ReadCommands => 4,
-        CliFault::OutOfMemory | CliFault::Write => 4,
+        CliFault::BadPages => append("bad pages\n", line),
+        CliFault::BadSlots => append("bad slots\n", line),
+        CliFault::ImageTooLarge => append("image too large\n", line),
+        CliFault::OutOfMemory => append("out of memory\n", line),
+        CliFault::Write => append("cannot write\n", line),
     }
 }
 
@@ -269,6 +245,8 @@ pub fn exit_status(outcome: &Result<Ending, CliFault>) -> u8
         Ok(Ending::Halted(0)) => 0,
         Ok(Ending::Halted(_)) => 1,
         Ok(Ending::Running) => 2,
-        Err(fault) => status_of_fault(*fault),
+        Err(CliFault::Source(_) | CliFault::Input(_)) => 3,
+        Err(CliFault::BadPages | CliFault::BadSlots | CliFault::ImageTooLarge) => 3,
+        Err(_) => 4,
     }
 }

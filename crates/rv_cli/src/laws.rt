@@ -8,6 +8,7 @@ ghost use Rattle.rv_cli.specs.declared.fault.Ending.{Ending};
 
 /// Law: texts and options have exactly one output: the text that a run prints and how it ends, or the first
 /// fault of the texts and options.
+#[tactic(auto, using(crate::proofs::OneOutput::one_output))]
 pub fn one_output()
     ensures some { (texts : EachText (List ℕ)) (options : Options)
         → (output : Result (List ℕ × Ending) CliFault) × IsOutput texts options output }

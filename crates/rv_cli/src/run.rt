@@ -42,6 +42,7 @@ fn print_session<M: ByteMemory, C: Decoded>(
 
 /// Assembles the source, and opens the session of its program with the timed list, on a board of the options and
 /// with their limit.
+#[tactic(auto, using(std::proofs::lemmas::Result::err_from_is_err_and, crate::proofs::Conversions::opening_refused, crate::proofs::Conversions::source_refused))]
 fn open(
     alloc: Global,
     texts: &Texts,
@@ -54,8 +55,7 @@ fn open(
     let pages = u32::from(options.pages);
     let slots = u32::from(options.slots);
     let limit = u64::from(options.steps);
-    let session = open_session(alloc, program, texts.inputs(), pages, slots, limit)?;
-    Ok(session)
+    Ok(open_session(alloc, program, texts.inputs(), pages, slots, limit)?)
 }
 
 /// Opens the session of the texts, and runs it.
@@ -80,6 +80,7 @@ fn open_and_run(alloc: Global, texts: &Texts, options: Options) -> Result<Printe
 /// The first fault that applies, in the order of its numbers; `OutOfMemory` alone may stand in place of any
 /// result but a fault that a reader or the writer had. Only `Write` leaves anything written: a prefix of the
 /// text. After a reader's fault the readers that follow are not touched.
+#[tactic(auto, using(std::proofs::lemmas::Result::err_from_is_err_and, crate::proofs::Conversions::is_input, crate::proofs::Conversions::is_source, crate::proofs::Refusals::refused_by, crate::proofs::Refusals::refused_unread))]
 pub fn run_text<S: TextIn, I: TextIn, C: TextIn, W: TextOut>(
     alloc: Global,
     source: &mut S,

@@ -1,7 +1,5 @@
 //! The session of a run: its commands, or all its steps.
-ghost use Rattle.std.specs.Prelude.{IfOk, OnOk};
-ghost use Rattle.std.specs.FinSet as set;
-ghost use Rattle.rv_monitor.specs.Commands.{Took};
+ghost use Rattle.std.specs.Prelude.{IfOk};
 ghost use Rattle.rv_base.specs.Lines.{lines};
 ghost use Rattle.rv_cli.specs.Output.{Does, Obeys};
 
@@ -13,6 +11,7 @@ use rv_ram::ByteMemory;
 use std::alloc::Global;
 
 /// Executes the command lines in order, up to one that quits, and returns their answers.
+#[tactic(auto, using(crate::proofs::Obeyed::none_done, crate::proofs::Obeyed::all_done))]
 fn obey<M: ByteMemory, C: Decoded>(
     alloc: Global,
     session: &mut Session<M, C>,
@@ -22,21 +21,11 @@ fn obey<M: ByteMemory, C: Decoded>(
 {
     let mut text = Vec::new(alloc);
     for line in cut_lines(commands) {
-        match session.command(line, &mut text)? {
-            Next::More => (),
-            Next::Quit => return Ok(text),
+        if let Next::Quit = session.command(line, &mut text)? {
+            return Ok(text);
         }
     }
     Ok(text)
-}
-
-/// Takes all steps that the session has left, past any breakpoint.
-fn take_all<M: ByteMemory, C: Decoded>(session: &mut Session<M, C>) -> Result<(), NoMemory>
-    ensures { OnOk result (Took set.empty session.old.limit session.old session.new) }
-{
-    let limit = session.limit();
-    session.step(limit)?;
-    Ok(())
 }
 
 /// Executes the commands and returns their answers, or takes all steps if there are no commands.
@@ -50,7 +39,8 @@ pub(crate) fn run_session<M: ByteMemory, C: Decoded>(
     match texts.commands() {
         Some(commands) => obey(alloc, session, commands),
         None => {
-            take_all(session)?;
+            // All steps that the session has left, past any breakpoint.
+            session.step(session.limit())?;
             Ok(Vec::new(alloc))
         }
     }

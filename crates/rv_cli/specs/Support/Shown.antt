@@ -5,6 +5,9 @@ use Rattle.std.specs.Fmt.{decimal}
 use Rattle.std.specs.Option.{option_map_or}
 use Rattle.rv_base.specs.Digits.{hex}
 use Rattle.rv_monitor.specs.Views.{line}
+use Rattle.rv_program.specs.declared.fault.AsmFault.{AsmFault}
+use Rattle.rv_cli.specs.Faults.{fault_row}
+use Rattle.rv_cli.specs.declared.fault.CliFault.TheVariants.{Source}
 
 -- the text that `Display` writes was appended, with a line end, where it is known
 abbrev pub IsAppended : Option (List ℕ) → List ℕ → List ℕ → Type 0
@@ -23,3 +26,7 @@ status_text halted pc steps = stand_of halted pc ++ codes " after " ++ decimal s
 -- the line of a timed list's fault
 abbrev pub input_line_of : ℕ → List ℕ
 input_line_of n = codes "input line " ++ decimal n ++ codes ": refused"
+
+-- the line of a source's fault, without its line end
+abbrev pub source_line_of : AsmFault → List ℕ
+source_line_of fault = (fault_row (Source fault)).0
