@@ -25,9 +25,7 @@ impl Recording {
         let taken = self.session().taken();
         let mut run = self.begun_again(taken)?;
         let (board, before) = self.board_before(steps.min(taken))?;
-        match run.resume(board, before, 0) {
-            Ok(_) => Ok((run, before)),
-            Err(NoMemory) => Err(NoMemory),
-        }
+        run.resume(board, before, 0)?;
+        Ok((run, before))
     }
 }

@@ -113,15 +113,12 @@ impl Recording {
         ensures others { self.new ≡ record self.old { session = self.new.session } }
     {
         let instr = next_instr(self.session().board());
-        match self.take_step() {
-            Ok(Some(outcome)) => {
-                *calls = open_after(*calls, outcome, instr);
-                let is_over = is_out(line, *calls, self.session().board());
-                Ok(end_after(is_over, self.session()))
-            }
-            Ok(None) => Ok(Some(End::Stuck)),
-            Err(NoMemory) => Err(NoMemory),
-        }
+        let Some(outcome) = self.take_step()? else {
+            return Ok(Some(End::Stuck));
+        };
+        *calls = open_after(*calls, outcome, instr);
+        let is_over = is_out(line, *calls, self.session().board());
+        Ok(end_after(is_over, self.session()))
     }
 
     /// Takes steps until one after which no call is open and pc isn't inside of a line, the board has halted or the next

@@ -68,7 +68,7 @@ impl Recording {
     /// # Errors
     ///
     /// As those of [`open_session`].
-    #[tactic(auto, using(crate::proofs::Stands::opened_is))]
+    #[tactic(auto, using(crate::proofs::Stands::opened_is, std::proofs::lemmas::Result::err_from_is_err_and))]
     pub fn open(
         alloc: Global,
         program: Program,
@@ -80,10 +80,7 @@ impl Recording {
         ensures sizes { IfOk result (λ r. (r.pages ≡ pages) × (r.slots ≡ slots)) }
         ensures err { IfErr result (λ e. Opens program inputs.now pages slots last_step (Err e)) }
     {
-        let session = match open_session(alloc, program, inputs, pages, slots, LAST_STEP) {
-            Ok(session) => session,
-            Err(fault) => return Err(fault),
-        };
+        let session = open_session(alloc, program, inputs, pages, slots, LAST_STEP)?;
         Ok(Recording {
             alloc,
             session,
@@ -276,10 +273,8 @@ impl Recording {
         let count = steps.min(taken);
         let mut run = self.begun_again(taken)?;
         let (board, before) = self.board_before(count)?;
-        match run.resume(board, before, count - before) {
-            Ok(_) => Ok(run),
-            Err(NoMemory) => Err(NoMemory),
-        }
+        run.resume(board, before, count - before)?;
+        Ok(run)
     }
 
     /// Returns a session with the recorded inputs before its first step, which may take `limit` steps: those that were

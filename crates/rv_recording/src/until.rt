@@ -213,14 +213,11 @@ impl Recording {
         ensures took { TakesOne (end_of_step condition self.old.session) self.old self.new result }
         ensures others { self.new ≡ record self.old { session = self.new.session } }
     {
-        match self.take_step() {
-            Ok(Some(outcome)) => {
-                let session = self.session();
-                Ok(end_after(condition.holds(outcome, session.board()), session))
-            }
-            Ok(None) => Ok(Some(End::Stuck)),
-            Err(NoMemory) => Err(NoMemory),
-        }
+        let Some(outcome) = self.take_step()? else {
+            return Ok(Some(End::Stuck));
+        };
+        let session = self.session();
+        Ok(end_after(condition.holds(outcome, session.board()), session))
     }
 
     /// Takes steps until one after which the condition holds, the board has halted or the next instruction is
