@@ -5,14 +5,10 @@
 //! byte is taken and no interrupt is claimed. Numbers are in lower-case hexadecimal, except counts, which are
 //! decimal.
 
-mod edges;
+mod lines;
 mod memory;
 mod registers;
-mod stop;
-mod trap;
 
-pub use edges::write_edges;
+pub use lines::{STOP_BYTES, write_edges, write_stop, write_traps};
 pub use memory::{word_at, write_instruction, write_memory};
 pub use registers::{mode_letter, write_control_register, write_registers};
-pub use stop::{STOP_BYTES, write_stop};
-pub use trap::write_traps;

@@ -1,7 +1,7 @@
 use Rattle.std.proofs.Common.{◌≡◌, ◌+◌, ◌-◌, ◌*◌, ◌≤◌, ◌++◌, length, drop, vec_len, vec_capacity}
 use Rattle.std.specs.List.{flat_map}
 use Rattle.rv_monitor.specs.Views.{trap_text}
-use Rattle.rv_monitor.proofs.views.trap.write_traps.Given as goal
+use Rattle.rv_monitor.proofs.views.lines.write_traps.Given as goal
 
 -- the lines of the traps before the index were appended, and there is room for those that are left
 abbrev pub invariant-loop-index : goal.invariant-loop-index
