@@ -171,18 +171,14 @@ impl<'a> Scope<'a> {
                 rest: text,
             };
         };
-        let Some((second, more)) = first_word(rest) else {
-            return Leading {
-                condition: self.word_condition(word),
-                rest,
-            };
-        };
-        match relation(second) {
-            Some(relation) => self.compared(word, relation, more),
-            None => Leading {
-                condition: self.word_condition(word),
-                rest,
-            },
+        if let Some((second, more)) = first_word(rest)
+            && let Some(relation) = relation(second)
+        {
+            return self.compared(word, relation, more);
+        }
+        Leading {
+            condition: self.word_condition(word),
+            rest,
         }
     }
 }

@@ -1,5 +1,5 @@
 //! Addresses and values.
-ghost use Rattle.std.specs.Prelude.{◌≡◌, ◌≤◌, ◌+◌, ◌%◌, ◌^◌, IfSome, drop, length, slice_index};
+ghost use Rattle.std.specs.Prelude.{◌≡◌, ◌≤◌, ◌+◌, ◌%◌, ◌^◌, IfSome, drop, length, option_and_then, slice_index};
 ghost use Rattle.std.specs.List.{before_first, position_or_len};
 ghost use Rattle.std.specs.Option.{option_map};
 ghost use Rattle.rv_base.specs.Tables.{lookup};
@@ -74,12 +74,13 @@ pub fn line_with_bytes(listing: Listing, from: usize) -> Option<usize>
     None
 }
 
-/// Returns a sum, modulo 2^32.
-fn added_to(value: u32, distance: u64) -> u32
-    requires { distance ≤ 2 ^ 32 }
-    ensures { result ≡ (value + distance) % 2 ^ 32 }
+/// Returns a sum, modulo 2^32, if both of its parts have a value.
+fn total(base: Option<u32>, added: Option<u64>) -> Option<u32>
+    requires { IfSome added (λ n. n ≤ 2 ^ 32) }
+    ensures { result ≡ option_and_then (λ a. option_map (λ n. (a + n) % 2 ^ 32) added) base }
 {
-    low_word(u64::from(value) + distance)
+    let (base, added) = (base?, added?);
+    Some(low_word(u64::from(base) + added))
 }
 
 /// A word that may be a sum: what stands before its sign, and what is added.
@@ -144,9 +145,7 @@ impl<'a> Scope<'a> {
         ensures { result ≡ sum (base_value (seen self.now.listing) self.now.board.now) word.now }
     {
         let Sum { base, added } = split_sum(word);
-        let value = self.base(base)?;
-        let added = added?;
-        Some(added_to(value, added))
+        total(self.base(base), added)
     }
 
     /// Returns the address that a word stands for: that of a line, or a base with what is added.
@@ -182,9 +181,7 @@ impl<'a> Scope<'a> {
             return Some(value);
         }
         let Sum { base, added } = split_sum(word);
-        let value = self.base_or_zero(base)?;
-        let added = added?;
-        Some(added_to(value, added))
+        total(self.base_or_zero(base), added)
     }
 
     /// Returns the address of the first line from this one on that has bytes.
