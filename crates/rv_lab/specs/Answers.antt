@@ -1,6 +1,6 @@
 -- To audit: public contracts cite this.
 -- What the commands that only look answer, as values (this project's own: docs/LAB.md).
-use Rattle.std.specs.Prelude.{ℕ, ◌+◌, ◌-◌, ◌*◌, ◌%◌, ◌^◌, ◌==◌, Bool, List, [], ◌∷◌, filter, if◌then◌else◌, length, map, min, nat_le, nat_lt, slice_get, slice_index, Option, Some, None, option_and_then, unwrap_or}
+use Rattle.std.specs.Prelude.{ℕ, ◌+◌, ◌-◌, ◌*◌, ◌%◌, ◌^◌, ◌==◌, Bool, List, [], ◌∷◌, filter, if◌then◌else◌, length, map, min, nat_le, slice_get, slice_index, Option, Some, None, option_and_then, unwrap_or}
 use Rattle.std.specs.FinSet as set
 use Rattle.std.specs.Int.{is_in_range}
 use Rattle.std.specs.List.{last_or, position_or_len, range_with_len}
@@ -39,7 +39,6 @@ use Rattle.rv_answers.specs.declared.moves.BreakCondition.{BreakCondition}
 use Rattle.rv_answers.specs.declared.moves.Watch.{Watch}
 use Rattle.rv_answers.specs.declared.values.ControlValue.{ControlValue}
 use Rattle.rv_answers.specs.declared.values.Devices.{Devices}
-use Rattle.rv_answers.specs.declared.values.Interrupts.{Interrupts}
 use Rattle.rv_answers.specs.declared.values.Place.{Place}
 use Rattle.rv_answers.specs.declared.values.RegisterFile.{RegisterFile}
 use Rattle.rv_answers.specs.declared.values.Standing.{Standing}
@@ -74,9 +73,6 @@ place_of l a = record {
 -- what is watched, with its value on a board
 abbrev pub watch_on : BoardState → Watched → Watch
 watch_on b w = record { target = target_of w; value = watched_value b w }
-
-abbrev pub watch_of : LabState → Watched → Watch
-watch_of l w = watch_on (board l) w
 
 abbrev pub watches_of : LabState → List Watch
 watches_of l = map (watch_on (board l)) l.watches
@@ -114,14 +110,6 @@ abbrev pub register_file : LabState → RegisterFile
 register_file l = let m = (board l).machine in
     record { before = l.registers; now = registers_of (board l); mode = m.mode; here = place_of l m.pc }
 
-unfoldable pub registers_answer : LabState → List ℕ → Answer
-registers_answer l text =
-    let one : ℕ → Answer = λ r. answers.Register (record { register = r; value = slice_index (board l).machine.registers r }) in
-    if nat_lt 0 (length (words text)) then option_map_or one
-    (option_and_then (λ name. lookup name register_names) (only_of (words text)))
-    (refused command.Registers text why.NoRegister)
-    else answers.Registers (register_file l)
-
 -- a control register as machine mode reads it, and what its bits say
 unfoldable pub control_value : BoardState → List ℕ → ℕ → ControlValue
 control_value b name csr = record {
@@ -130,12 +118,6 @@ control_value b name csr = record {
   value = csr_of b csr;
   bits = option_and_then (bits_of (length b.traps) csr) (csr_of b csr);
 }
-
-unfoldable pub control_answer : LabState → List ℕ → Answer
-control_answer l text =
-    let name = unwrap_or (only_of (words text)) [] in
-    option_map_or (λ csr. answers.ControlRegister (control_value (board l) name csr))
-    (lookup name csr_names) (refused command.ControlRegister name why.NoControlRegister)
 
 -- ---- `m`
 
@@ -156,15 +138,12 @@ memory_answer l (word ∷ more) = option_map_or (λ a. option_map_or
 
 -- ---- `l`
 
--- where an excerpt begins behind the last line: whether it follows those lines that were listed last
-abbrev pub behind_last : (follows : Bool) → LabState → Answer
-behind_last follows l = if follows then answers.WasLast else answers.BehindLast (line_count (listing l))
-
--- the rows of an excerpt, of those lines that the source has
+-- the rows of an excerpt, of those lines that the source has: where it begins behind the last, whether it follows those
+-- lines that were listed last
 unfoldable pub rows_answer : Excerpt → (follows : Bool) → LabState → Answer
-rows_answer e follows l =
-    if nat_le (line_count (listing l)) e.after then behind_last follows l else answers.List
-    (map (row_of l) (range_with_len (e.after + 1) (min e.count (line_count (listing l) - e.after))))
+rows_answer e follows l = let last = line_count (listing l) in if nat_le last e.after
+    then (if follows then answers.WasLast else answers.BehindLast last)
+    else answers.List (map (row_of l) (range_with_len (e.after + 1) (min e.count (last - e.after))))
 
 -- ---- `t` and `e`
 
@@ -184,37 +163,20 @@ unfoldable pub edge_source : List (List ℕ) → Option ℕ
 edge_source operands =
     option_and_then (λ s. if is_in_range 24 31 s then Some s else None) (count_of 0 31 operands)
 
-unfoldable pub edges_answer : LabState → List (List ℕ) → Answer
-edges_answer l operands = option_map_or
-    (λ s. answers.Edges (record { source = s; pending = edges_of (board l).machine.bus.plic.edges s }))
-    (edge_source operands) (refused command.Edges [] why.NoEdgeSource)
-
 -- ---- `dev`
 
--- the mode, mstatus, mie and mip, and the cause of the interrupt that is taken next
-abbrev pub interrupts_of : BoardState → Interrupts
-interrupts_of b =
-    let csr : ℕ → ℕ = λ n. unwrap_or (csr_of b n) 0 in let m = b.machine in
-    let next = next_interrupt m.csrs m.mode (lines_of m.bus) in
-    record { mode = m.mode; mstatus = csr 0x300; mie = csr 0x304; mip = csr 0x344; next = next }
-
+-- with the mode, mstatus, mie and mip, and the cause of the interrupt that is taken next
 unfoldable pub devices_of : BoardState → Devices
-devices_of b = let m = b.machine in record {
-  clock = clock_of m.bus.timer;
-  port = port_of m.bus.serial;
-  interrupts = interrupts_of b;
-  threshold = m.bus.plic.threshold;
-  is_notified = is_notified m.bus.plic;
-  sources = map (source_of m.bus.plic) sources;
-  regions = regions m.csrs.pmp;
-}
-
--- ---- `display`
-
-unfoldable pub display_answer : LabState → List (List ℕ) → Answer
-display_answer l ws = option_map_or (λ word. option_map_or (λ w. answers.Display (watch_of l w))
-    (followed (listing l) (board l) word) (refused command.Display word why.NoAddress))
-    (only_of ws) (refused command.Display [] why.NotOne)
+devices_of b = let m = b.machine in let csr : ℕ → ℕ = λ n. unwrap_or (csr_of b n) 0 in
+    let next = next_interrupt m.csrs m.mode (lines_of m.bus) in record {
+      clock = clock_of m.bus.timer;
+      port = port_of m.bus.serial;
+      interrupts = record { mode = m.mode; mstatus = csr 0x300; mie = csr 0x304; mip = csr 0x344; next = next };
+      threshold = m.bus.plic.threshold;
+      is_notified = is_notified m.bus.plic;
+      sources = map (source_of m.bus.plic) sources;
+      regions = regions m.csrs.pmp;
+    }
 
 -- ---- `check` and `profile`
 
@@ -229,15 +191,24 @@ copy_answer c text answer =
 unfoldable pub look_answer : Command → List ℕ → LabState → Answer
 look_answer command.Where text l = answers.Where (standing l)
 look_answer command.Backtrace text l = answers.Backtrace (backtrace (listing l) l.frames (board l))
-look_answer command.Registers text l = registers_answer l text
-look_answer command.ControlRegister text l = control_answer l text
+look_answer command.Registers text l = if length (words text) == 0 then answers.Registers (register_file l)
+    else option_map_or (λ r. answers.Register (record { register = r; value = slice_index (board l).machine.registers r }))
+    (option_and_then (λ name. lookup name register_names) (only_of (words text)))
+    (refused command.Registers text why.NoRegister)
+look_answer command.ControlRegister text l = let name = unwrap_or (only_of (words text)) [] in
+    option_map_or (λ csr. answers.ControlRegister (control_value (board l) name csr)) (lookup name csr_names)
+    (refused command.ControlRegister name why.NoControlRegister)
 look_answer command.Memory text l = memory_answer l (words text)
 look_answer command.Instruction text l = instruction_answer l (words text)
 look_answer command.Traps text l = answers.Traps (trap_runs l 0 (board l).traps)
-look_answer command.Edges text l = edges_answer l (words text)
+look_answer command.Edges text l = option_map_or
+    (λ s. answers.Edges (record { source = s; pending = edges_of (board l).machine.bus.plic.edges s }))
+    (edge_source (words text)) (refused command.Edges [] why.NoEdgeSource)
 look_answer command.Devices text l = answers.Devices (devices_of (board l))
 look_answer command.Check text l = copy_answer command.Check text (λ n. answers.Checked (checked l.recording n))
 look_answer command.Profile text l =
     copy_answer command.Profile text (λ n. answers.Profiled (profiled (listing l) l.recording n))
-look_answer command.Display text l = display_answer l (words text)
+look_answer command.Display text l = option_map_or (λ word. option_map_or
+    (λ w. answers.Display (watch_on (board l) w)) (followed (listing l) (board l) word)
+    (refused command.Display word why.NoAddress)) (only_of (words text)) (refused command.Display [] why.NotOne)
 look_answer _ text l = answers.Nothing

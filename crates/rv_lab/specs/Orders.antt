@@ -1,6 +1,6 @@
 -- To audit: public contracts cite this.
 -- What a command line asks for, by its words and the lab as it stands (this project's own: docs/LAB.md).
-use Rattle.std.specs.Prelude.{ℕ, ◌+◌, ◌-◌, ◌/◌, ◌==◌, ◌&&◌, Bool, false, true, List, [], ◌∷◌, if◌then◌else◌, is_none, length, nat_le, slice_get, codes, Option, Some, None, option_and_then, unwrap_or}
+use Rattle.std.specs.Prelude.{ℕ, ◌+◌, ◌-◌, ◌/◌, ◌==◌, ◌&&◌, false, true, List, [], ◌∷◌, if◌then◌else◌, is_none, is_some, length, drop, nat_le, slice_get, slice_index_or, codes, Option, Some, None, option_and_then, unwrap_or}
 use Rattle.std.specs.List.{position}
 use Rattle.std.specs.Option.{option_map, option_map_or}
 use Rattle.std.specs.Str.{bytes_eq}
@@ -8,7 +8,7 @@ use Rattle.rv_base.specs.Words.{words}
 use Rattle.rv_timeline.specs.Timed.{driven}
 use Rattle.rv_timeline.specs.declared.input.Input.{Input}
 use Rattle.rv_recording.specs.Recording.{last_step}
-use Rattle.rv_asm.specs.Lines.{Listed, address_of, bytes_of}
+use Rattle.rv_asm.specs.Lines.{address_of, bytes_of}
 use Rattle.rv_recording.specs.declared.out.Span.{Span}
 use Rattle.rv_recording.specs.declared.until.Condition.{Condition}
 use Rattle.rv_recording.specs.declared.until.Condition.TheVariants as condition
@@ -16,7 +16,7 @@ use Rattle.rv_recording.specs.declared.until.Watched.{Watched}
 use Rattle.rv_why.specs.Origins.{last_sought}
 use Rattle.rv_why.specs.Taken.{first_state}
 use Rattle.rv_why.specs.declared.writes.Sought.TheVariants as sought
-use Rattle.rv_operands.specs.Operands.{address, break_address, break_place, bytes_inputs, followed, leading, line_number, only_of, operand_text, trimmed, without_last}
+use Rattle.rv_operands.specs.Operands.{address, break_place, bytes_inputs, followed, leading, line_number, only_of, operand_text, trimmed, without_last}
 use Rattle.rv_answers.specs.Commands.{command_named}
 use Rattle.rv_answers.specs.declared.answer.Answer.{Answer}
 use Rattle.rv_answers.specs.declared.answer.Answer.TheVariants as answers
@@ -51,16 +51,10 @@ list_order (word ∷ more) l = option_map_or (list_round more) (line_number word
     (option_map_or (λ a. or_refused (line_at (listing l) a) (list_round more) (refused command.List [] (why.NoLine a)))
     (address (listing l) (board l) word) (orders.Answered (refused command.List word why.NoAddress)))
 
--- `b` and `d` where a word is no address of a breakpoint
-abbrev pub no_break : Command → List (List ℕ) → Answer
-no_break c (word ∷ []) =
-    refused c word (option_map_or (λ n. why.NoBytesThere) (line_number word) why.NoAddress)
-no_break c _ = refused c [] why.NotOne
-
--- whether a condition may hold of a board whatever its last step did: any but that it trapped
-abbrev pub is_of_board : Condition → Bool
-is_of_board condition.Trap = false
-is_of_board _ = true
+-- `b` and `d` of the address of a breakpoint
+abbrev pub place_order : Command → (ℕ → Order) → (word : List ℕ) → LabState → Order
+place_order c order word l = or_refused (break_place (listing l) (board l) word) order
+    (refused c word (if is_some (line_number word) then why.NoBytesThere else why.NoAddress))
 
 -- the condition of `b` as it was given: what stands between `if` and the words that follow it, which are two if any
 abbrev pub condition_text : List ℕ → List (List ℕ) → List ℕ
@@ -69,16 +63,15 @@ condition_text text (word ∷ more) = trimmed (without_last (without_last (opera
 
 -- a breakpoint at a word, with a condition or none, by the words that follow it
 unfoldable pub break_at : (text word : List ℕ) → LabState → Option Condition → (given : List ℕ) → List (List ℕ) → Order
-break_at text word l c given more = or_refused (passes more)
-    (λ n. or_refused (break_place (listing l) (board l) word)
-    (λ a. orders.Break (record { address = a; condition = c; text = given; passes = n })) (no_break Break (word ∷ [])))
+break_at text word l c given more = or_refused (passes more) (λ n. place_order Break
+    (λ a. orders.Break (record { address = a; condition = c; text = given; passes = n })) word l)
     (refused Break text why.NoHits)
 
+-- with a condition, if there is one that may hold of a board whatever its last step did: any but that it trapped
 unfoldable pub guard_order : (text word : List ℕ) → LabState → Option Condition × List (List ℕ) → Order
-guard_order text word l (Some c, more) =
-    if is_of_board c then break_at text word l (Some c) (condition_text text more) more
-    else orders.Answered (refused Break text why.NoCondition)
 guard_order text word l (None, more) = orders.Answered (refused Break text why.NoCondition)
+guard_order text word l (Some condition.Trap, more) = orders.Answered (refused Break text why.NoCondition)
+guard_order text word l (Some c, more) = break_at text word l (Some c) (condition_text text more) more
 
 -- `b`: all breakpoints; or one at a word, perhaps with a condition after `if`
 unfoldable pub break_order : List ℕ → List (List ℕ) → LabState → Order
@@ -88,23 +81,17 @@ break_order text (word ∷ second ∷ more) l =
     if bytes_eq second (codes "if") then guard_order text word l (leading (listing l) (board l) more)
     else break_at text word l None [] (second ∷ more)
 
--- `watch`: all that is watched; or one register or word more, of 16 at most
+-- one register or word more that is watched, of 16 at most
 abbrev pub watch_one : Watched → LabState → Order
 watch_one w l = if is_none (position (is_same w) l.watches) && nat_le 16 (length l.watches)
     then orders.Answered (refused Watch [] why.TooMany) else orders.Watch w
 
-unfoldable pub watch_order : List (List ℕ) → LabState → Order
-watch_order [] l = orders.Answered (answers.Watches (watches_of l))
-watch_order (word ∷ []) l = or_refused (followed (listing l) (board l) word)
-    (λ w. watch_one w l) (refused Watch word why.NoAddress)
-watch_order _ l = orders.Answered (refused Watch [] why.NotOne)
-
--- `unwatch`: all, or one
-unfoldable pub unwatch_order : List (List ℕ) → LabState → Order
-unwatch_order [] l = orders.Unwatch None
-unwatch_order (word ∷ []) l = or_refused (followed (listing l) (board l) word)
-    (λ w. orders.Unwatch (Some w)) (refused Unwatch word why.NoAddress)
-unwatch_order _ l = orders.Answered (refused Unwatch [] why.NotOne)
+-- `watch` and `unwatch`: all, or one
+unfoldable pub watched_order : Command → (all : Order) → (Watched → Order) → List (List ℕ) → LabState → Order
+watched_order c all one [] l = all
+watched_order c all one (word ∷ []) l =
+    or_refused (followed (listing l) (board l) word) one (refused c word why.NoAddress)
+watched_order c all one _ l = orders.Answered (refused c [] why.NotOne)
 
 -- inputs before the next step, if there are some
 abbrev pub give_order : List Input → Answer → Order
@@ -148,12 +135,6 @@ again_order NextC l = nextc_order l
 again_order command.List l = orders.List (record { after = l.listed; count = 11 }) true
 again_order _ l = orders.Answered answers.Nothing
 
--- `until`: a condition, and for how many steps at most
-unfoldable pub until_order : List ℕ → LabState → Order
-until_order text l = let led = leading (listing l) (board l) (words text) in or_refused led.0
-    (λ c. or_refused (count_of usual_steps most_steps led.1) (λ n. orders.Run (planned (goal.Until c) n))
-    (refused (Moves Until) text why.NoSteps)) (refused (Moves Until) text why.NoCondition)
-
 -- `u`: some steps back, or back to the last step before now after which a condition held
 unfoldable pub back_until : List ℕ → LabState → Option Condition × List (List ℕ) → Order
 back_until text l (Some c, []) =
@@ -161,15 +142,10 @@ back_until text l (Some c, []) =
     (λ n. orders.Back ((timed l).taken - (n + 1))) (refused (Moves Back) text why.NeverMet)
 back_until text l _ = orders.Answered (refused (Moves Back) text why.NoCondition)
 
-abbrev pub back_by : List ℕ → List (List ℕ) → LabState → Order
-back_by text ws l = or_refused (count_of ((timed l).taken - l.before) last_step ws) (λ n. orders.Back n)
-    (refused (Moves Back) text why.NoSteps)
-
 unfoldable pub back_order : List ℕ → List (List ℕ) → LabState → Order
-back_order text [] l = back_by text [] l
-back_order text (word ∷ more) l =
-    if bytes_eq word (codes "until") then back_until text l (leading (listing l) (board l) more)
-    else back_by text (word ∷ more) l
+back_order text ws l = if bytes_eq (slice_index_or ws 0 []) (codes "until")
+    then back_until text l (leading (listing l) (board l) (drop 1 ws)) else or_refused
+    (count_of ((timed l).taken - l.before) last_step ws) (λ n. orders.Back n) (refused (Moves Back) text why.NoSteps)
 
 -- `why`: a trap, or what `why` follows; or the last write of what a word names, among all steps, of which there are
 -- `last_step` at most, or before one
@@ -189,16 +165,20 @@ command_order (Moves Go) word text l = or_refused (count_of usual_steps most_ste
 command_order Over word text l = next_order l
 command_order NextC word text l = nextc_order l
 command_order (Moves Finish) word text l = orders.Run (planned (goal.Out 1 None) usual_steps)
-command_order (Moves Until) word text l = until_order text l
+command_order (Moves Until) word text l = let led = leading (listing l) (board l) (words text) in or_refused led.0
+    (λ c. or_refused (count_of usual_steps most_steps led.1) (λ n. orders.Run (planned (goal.Until c) n))
+    (refused (Moves Until) text why.NoSteps)) (refused (Moves Until) text why.NoCondition)
 command_order (Moves Trace) word text l = or_refused (count_of 10 1000 (words text))
     (λ n. orders.Run (planned goal.Trace n)) (refused (Moves Trace) text why.NoSteps)
 command_order (Moves Back) word text l = back_order text (words text) l
 command_order command.List word text l = list_order (words text) l
 command_order Break word text l = break_order text (words text) l
-command_order Clear word text l = or_refused (break_address (listing l) (board l) (words text))
-    (λ a. orders.Clear a) (no_break Clear (words text))
-command_order Watch word text l = watch_order (words text) l
-command_order Unwatch word text l = unwatch_order (words text) l
+command_order Clear word text l = or_refused (only_of (words text))
+    (λ word. place_order Clear (λ a. orders.Clear a) word l) (refused Clear [] why.NotOne)
+command_order Watch word text l =
+    watched_order Watch (orders.Answered (answers.Watches (watches_of l))) (λ w. watch_one w l) (words text) l
+command_order Unwatch word text l =
+    watched_order Unwatch (orders.Unwatch None) (λ w. orders.Unwatch (Some w)) (words text) l
 command_order Receive word text l = give_order (unwrap_or (bytes_inputs text) []) (refused Receive text why.NoBytes)
 command_order Line word text l = give_order (unwrap_or (driven (words text)) []) (refused Line text why.NoLevel)
 command_order Save word text l = save_order text (words text)

@@ -17,7 +17,6 @@ use Rattle.rv_monitor.specs.Views.{stop_text}
 use Rattle.rv_board.specs.BoardState.{BoardState}
 use Rattle.rv_recording.specs.Recording.{gone_back}
 use Rattle.rv_recording.specs.Until.{watched_value}
-use Rattle.rv_recording.specs.declared.until.Condition.{Condition}
 use Rattle.rv_recording.specs.declared.until.Condition.TheVariants as condition
 use Rattle.rv_recording.specs.declared.until.Watched.{Watched}
 use Rattle.rv_recording.specs.declared.until.End.{End}
@@ -35,7 +34,7 @@ use Rattle.rv_answers.specs.declared.values.RegisterValue.{RegisterValue}
 use Rattle.rv_answers.specs.declared.values.Trap.{Trap}
 use Rattle.rv_why.specs.Why.{explanation}
 use Rattle.rv_why.specs.Origins.{origin, target_of}
-use Rattle.rv_lab.specs.Answers.{given_condition, place_of, rows_answer, standing, trap_of, watch_of}
+use Rattle.rv_lab.specs.Answers.{given_condition, place_of, rows_answer, standing, trap_of, watch_on}
 use Rattle.rv_lab.specs.Commands.{begun, gone_on, monitor_next, monitored_run, next_of, piece_most, piece_steps, planned, ready, stepped, stops_of, with_console, with_inputs, with_session, with_steps}
 use Rattle.rv_runs.specs.Ends.{heeds, run_ends}
 use Rattle.rv_runs.specs.Guards.{with_guard, without_guard}
@@ -106,20 +105,17 @@ abbrev pub last_trap : LabState → Option Trap
 last_trap l = option_map (λ t. trap_of l t 1) (slice_get (board l).traps (length (board l).traps - 1))
 
 -- what a run went on for that left a lab
-abbrev pub until_aim : LabState → Condition → Aim
-until_aim l condition.Trap = aim.Trap (last_trap l)
-until_aim l (condition.Console sent) = aim.Console
-until_aim l (condition.At address size) = aim.Arrival
-until_aim l (condition.Changed watched old) = aim.Watch (watch_of l watched)
-until_aim l (condition.Compares watched cond exchanged value) = aim.Watch (watch_of l watched)
-
 abbrev pub aim_of : LabState → Goal → Aim
 aim_of l goal.Count = aim.Steps
 aim_of l goal.Trace = aim.Steps
 aim_of l goal.Break = aim.Breakpoint
 aim_of l (goal.Out calls line) = aim.Return
 aim_of l (goal.Mark calls) = aim.Mark
-aim_of l (goal.Until c) = until_aim l c
+aim_of l (goal.Until condition.Trap) = aim.Trap (last_trap l)
+aim_of l (goal.Until (condition.Console sent)) = aim.Console
+aim_of l (goal.Until (condition.At address size)) = aim.Arrival
+aim_of l (goal.Until (condition.Changed watched old)) = aim.Watch (watch_on (board l) watched)
+aim_of l (goal.Until (condition.Compares watched cond exchanged value)) = aim.Watch (watch_on (board l) watched)
 
 -- the monitor's word for why a run is over
 abbrev pub stop_word : End → List ℕ
@@ -132,14 +128,11 @@ stop_word _ = codes "limit"
 abbrev pub change_of : (before now : BoardState) → Watched → Change
 change_of before now w = record { target = target_of w; before = watched_value before w; value = watched_value now w }
 
-abbrev pub last_changes : LabState → List Change
-last_changes l =
-    let before = (gone_back l.recording ((timed l).taken - 1)).session.timed.board in
-    map (change_of before (board l)) (filter (differs before (board l)) l.watches)
-
--- what that of a run did, if it took one and stops there
+-- of a run, if it took one and stops there
 unfoldable pub watch_changes : Goal → LabState → List Change
-watch_changes g l = if heeds g && nat_lt l.before (timed l).taken then last_changes l else []
+watch_changes g l = let before = (gone_back l.recording ((timed l).taken - 1)).session.timed.board in
+    if heeds g && nat_lt l.before (timed l).taken
+    then map (change_of before (board l)) (filter (differs before (board l)) l.watches) else []
 
 -- what is answered of a run that is over, as the monitor does or as the lab does
 unfoldable pub over_answer : (is_monitored : Bool) → Goal → End → LabState → Answer
@@ -243,7 +236,7 @@ does (orders.Clear a) old new = let s = old.recording.session in
     more (new ≡ record (with_session old (without_break s a)) { guards = without_guard a old.guards })
     (answers.Cleared (record { place = place_of new a; was_there = set.contains s.breakpoints.addresses a }))
 does (orders.Watch w) old new =
-    more (new ≡ record old { watches = with_watch w old.watches }) (answers.Watch (watch_of new w))
+    more (new ≡ record old { watches = with_watch w old.watches }) (answers.Watch (watch_on (board new) w))
 does (orders.Unwatch w) old new =
     more (new ≡ record old { watches = option_map_or (λ w. without_watch w old.watches) w [] })
     (answers.Unwatched (length old.watches - length new.watches))

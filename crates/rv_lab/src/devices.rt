@@ -5,8 +5,7 @@ ghost use Rattle.rv_isa.specs.Number.{flag};
 ghost use Rattle.rv_csr.specs.Traps.{next_interrupt};
 ghost use Rattle.rv_bus.specs.Access.{lines_of};
 ghost use Rattle.rv_board.specs.BoardState.{csr_of};
-ghost use Rattle.rv_lab.specs.Answers as spec;
-ghost use Rattle.rv_lab.specs.Answers.{edge_source};
+ghost use Rattle.rv_lab.specs.Answers.{devices_of, edge_source};
 ghost use Rattle.rv_lab.specs.Support.Rows.{first_pending};
 
 use crate::control::{MIE, MIP, MSTATUS, csr_word};
@@ -51,8 +50,9 @@ fn next_interrupt(board: &BootedBoard) -> Option<u32>
 }
 
 /// Returns the mode of a board's hart, and what says which interrupts it takes.
+#[tactic(auto, unfolding(crate::specs::Answers::devices_of))]
 pub(crate) fn interrupts_of(board: &BootedBoard) -> Interrupts
-    ensures { result ≡ spec.interrupts_of board.now }
+    ensures { result ≡ (devices_of board.now).interrupts }
 {
     Interrupts {
         mode: board.mode(),

@@ -10,7 +10,7 @@ ghost use Rattle.rv_answers.specs.declared.command.Command.TheVariants as comman
 ghost use Rattle.rv_operands.specs.Operands.{only_of};
 ghost use Rattle.rv_backtrace.specs.Backtrace.{backtrace};
 ghost use Rattle.rv_lab.specs.Answers as spec;
-ghost use Rattle.rv_lab.specs.Answers.{behind_last, breakpoints, cells_of, control_answer, edges_answer, instruction_answer, look_answer, memory_answer, refused, register_file, registers_answer, rows_answer, standing, trap_runs};
+ghost use Rattle.rv_lab.specs.Answers.{breakpoints, cells_of, instruction_answer, look_answer, memory_answer, refused, register_file, rows_answer, standing, trap_runs};
 ghost use Rattle.rv_lab.specs.Lines.{row_of};
 ghost use Rattle.rv_lab.specs.State.{board, listing};
 ghost use Rattle.rv_lab.specs.Support.Rows.{char_at, word_cell};
@@ -211,9 +211,9 @@ impl Lab {
     }
 
     /// Answers `r`.
-    #[tactic(auto, unfolding(crate::specs::Answers::registers_answer))]
+    #[tactic(auto, unfolding(crate::specs::Answers::look_answer))]
     fn registers_answer(&self, operands: &[u8]) -> Result<Answer, NoMemory>
-        ensures { IfOk result (λ a. a ≡ registers_answer self.now operands.now) }
+        ensures { IfOk result (λ a. a ≡ look_answer command.Registers operands.now self.now) }
     {
         if !has_word(operands) {
             return Ok(Answer::Registers(self.register_file()));
@@ -228,9 +228,9 @@ impl Lab {
     }
 
     /// Answers `p`.
-    #[tactic(auto, unfolding(crate::specs::Answers::control_answer))]
+    #[tactic(auto, unfolding(crate::specs::Answers::look_answer))]
     fn control_answer(&self, operands: &[u8]) -> Result<Answer, NoMemory>
-        ensures { IfOk result (λ a. a ≡ control_answer self.now operands.now) }
+        ensures { IfOk result (λ a. a ≡ look_answer command.ControlRegister operands.now self.now) }
     {
         let name = name_in(operands);
         match csr_named(name) {
@@ -287,16 +287,6 @@ impl Lab {
         Ok(Many::of(rows))
     }
 
-    /// Answers that an excerpt begins behind the last line of the source.
-    fn behind_last(&self, follows: bool) -> Answer
-        ensures { result ≡ behind_last follows self.now }
-    {
-        if follows {
-            return Answer::WasLast;
-        }
-        Answer::BehindLast(line_count(self.listing()))
-    }
-
     /// Returns the rows of an excerpt, of those lines that the source has. `follows` is whether they follow those that
     /// were listed last.
     #[tactic(auto, unfolding(crate::specs::Answers::rows_answer))]
@@ -305,7 +295,10 @@ impl Lab {
     {
         let last = line_count(self.listing());
         if last <= excerpt.after {
-            return Ok(self.behind_last(follows));
+            if follows {
+                return Ok(Answer::WasLast);
+            }
+            return Ok(Answer::BehindLast(last));
         }
         let count = excerpt.count.min(last - excerpt.after);
         Ok(Answer::List(self.rows_from(excerpt.after + 1, count, last)?))
@@ -371,9 +364,9 @@ impl Lab {
     }
 
     /// Answers `e`.
-    #[tactic(auto, unfolding(crate::specs::Answers::edges_answer))]
+    #[tactic(auto, unfolding(crate::specs::Answers::look_answer))]
     fn edges_answer(&self, operands: &[u8]) -> Result<Answer, NoMemory>
-        ensures { IfOk result (λ a. a ≡ edges_answer self.now (words operands.now)) }
+        ensures { IfOk result (λ a. a ≡ look_answer command.Edges operands.now self.now) }
     {
         match edge_source(operands) {
             Some(source) => Ok(Answer::Edges(Edges {
@@ -411,9 +404,9 @@ impl Lab {
     }
 
     /// Answers `display`.
-    #[tactic(auto, unfolding(crate::specs::Answers::display_answer))]
+    #[tactic(auto, unfolding(crate::specs::Answers::look_answer))]
     fn display_answer(&self, operands: &[u8]) -> Result<Answer, NoMemory>
-        ensures { IfOk result (λ a. a ≡ spec.display_answer self.now (words operands.now)) }
+        ensures { IfOk result (λ a. a ≡ look_answer command.Display operands.now self.now) }
     {
         let Some(word) = only_word(operands) else {
             return self.refused(Command::Display, b"", Why::NotOne);

@@ -1,11 +1,12 @@
 //! What a command line asks for, its operands read.
-ghost use Rattle.std.specs.Prelude.{◌≡◌, ◌∷◌, [], IfOk};
+ghost use Rattle.std.specs.Prelude.{◌≡◌, [], if◌then◌else◌, is_some, IfOk};
 ghost use Rattle.rv_base.specs.Words.{words};
 ghost use Rattle.rv_answers.specs.declared.command.Command.TheVariants as command;
+ghost use Rattle.rv_answers.specs.declared.answer.Why.TheVariants as why;
 ghost use Rattle.rv_answers.specs.declared.command.Move.TheVariants as moves;
 ghost use Rattle.rv_lab.specs.Answers.{refused};
-ghost use Rattle.rv_lab.specs.Orders.{again_order, back_by, back_order, back_until, break_at, break_order, command_order, condition_text, guard_order, help_order, here, is_of_board, list_order, list_round, next_order, nextc_order, no_break, save_order, steps_order, until_order, unwatch_order, watch_one, watch_order, why_order};
-ghost use Rattle.rv_operands.specs.Operands.{leading};
+ghost use Rattle.rv_lab.specs.Orders.{again_order, back_order, back_until, break_at, break_order, command_order, condition_text, guard_order, help_order, here, list_order, list_round, next_order, nextc_order, save_order, steps_order, watch_one, why_order};
+ghost use Rattle.rv_operands.specs.Operands.{leading, line_number};
 ghost use Rattle.rv_lab.specs.Commands.{planned};
 ghost use Rattle.rv_lab.specs.State.{board, listing};
 ghost use Rattle.rv_lab.specs.declared.order.Order.TheVariants as orders;
@@ -76,13 +77,6 @@ fn run_order(goal: Goal, most: u64) -> Order
     })
 }
 
-/// Returns whether a condition may hold of a board whatever its last step did.
-fn is_of_board(condition: &Condition) -> bool
-    ensures { result ≡ is_of_board condition.now }
-{
-    !matches!(condition, Condition::Trap)
-}
-
 /// Returns the condition of `b` as it was given, by what follows it.
 fn condition_text<'a>(operands: &'a [u8], rest: &[u8]) -> &'a [u8]
     ensures { result.now ≡ condition_text operands.now (words rest.now) }
@@ -142,9 +136,9 @@ impl Lab {
     }
 
     /// Reads the operands of `until`.
-    #[tactic(auto, unfolding(crate::specs::Orders::until_order))]
+    #[tactic(auto, unfolding(crate::specs::Orders::command_order))]
     fn until_order(&self, operands: &[u8]) -> Result<Order, NoMemory>
-        ensures { IfOk result (λ o. o ≡ until_order operands.now self.now) }
+        ensures { IfOk result (λ o. o ≡ command_order (command.Moves moves.Until) [] operands.now self.now) }
     {
         let Leading { condition, rest } = self.scope().leading(operands);
         let Some(condition) = condition else {
@@ -196,13 +190,6 @@ impl Lab {
         {
             return self.back_until(operands, rest);
         }
-        self.back_by(operands)
-    }
-
-    /// Reads the number of steps of `u`.
-    fn back_by(&self, operands: &[u8]) -> Result<Order, NoMemory>
-        ensures { IfOk result (λ o. o ≡ back_by operands.now (words operands.now) self.now) }
-    {
         let usual = self.recording.steps().saturating_sub(self.last.steps);
         match count_or(operands, usual, LAST_STEP) {
             Some(count) => Ok(Order::Back(count)),
@@ -257,22 +244,13 @@ impl Lab {
 
     /// Refuses a word that is no address of a breakpoint.
     fn refuse_place(&self, command: Command, word: &[u8]) -> Result<Order, NoMemory>
-        ensures { IfOk result (λ o. o ≡ orders.Answered (no_break command (word.now ∷ []))) }
+        ensures { IfOk result (λ o. o ≡ orders.Answered (refused command word.now
+            (if is_some (line_number word.now) then why.NoBytesThere else why.NoAddress))) }
     {
         if line_number(word).is_some() {
             return self.refuse(command, word, Why::NoBytesThere);
         }
         self.refuse(command, word, Why::NoAddress)
-    }
-
-    /// Refuses operands that are no address of a breakpoint.
-    fn refuse_break(&self, command: Command, operands: &[u8]) -> Result<Order, NoMemory>
-        ensures { IfOk result (λ o. o ≡ orders.Answered (no_break command (words operands.now))) }
-    {
-        match only_word(operands) {
-            None => self.refuse(command, b"", Why::NotOne),
-            Some(word) => self.refuse_place(command, word),
-        }
     }
 
     /// Reads the words that follow a breakpoint at a word, or its condition, which was given as `given`.
@@ -308,14 +286,15 @@ impl Lab {
         ensures { IfOk result (λ o. o ≡ guard_order operands.now word.now self.now (leading (listing self.now) (board self.now) (words text.now))) }
     {
         let Leading { condition, rest } = self.scope().leading(text);
-        let Some(condition) = condition else {
-            return self.refuse(Command::Break, operands, Why::NoCondition);
-        };
-        if !is_of_board(&condition) {
-            return self.refuse(Command::Break, operands, Why::NoCondition);
+        match condition {
+            None | Some(Condition::Trap) => {
+                self.refuse(Command::Break, operands, Why::NoCondition)
+            }
+            condition => {
+                let given = condition_text(operands, rest);
+                self.break_at(operands, word, condition, given, rest)
+            }
         }
-        let given = condition_text(operands, rest);
-        self.break_at(operands, word, Some(condition), given, rest)
     }
 
     /// Reads the operands of `b`.
@@ -339,9 +318,12 @@ impl Lab {
     fn clear_order(&self, operands: &[u8]) -> Result<Order, NoMemory>
         ensures { IfOk result (λ o. o ≡ command_order command.Clear [] operands.now self.now) }
     {
-        match self.scope().break_address(operands) {
+        let Some(word) = only_word(operands) else {
+            return self.refuse(Command::Clear, b"", Why::NotOne);
+        };
+        match self.scope().break_place(word) {
             Some(address) => Ok(Order::Clear(address)),
-            None => self.refuse_break(Command::Clear, operands),
+            None => self.refuse_place(Command::Clear, word),
         }
     }
 
@@ -356,9 +338,9 @@ impl Lab {
     }
 
     /// Reads the operands of `watch`.
-    #[tactic(auto, unfolding(crate::specs::Orders::watch_order))]
+    #[tactic(auto, unfolding(crate::specs::Orders::command_order, crate::specs::Orders::watched_order))]
     fn watch_order(&self, operands: &[u8]) -> Result<Order, NoMemory>
-        ensures { IfOk result (λ o. o ≡ watch_order (words operands.now) self.now) }
+        ensures { IfOk result (λ o. o ≡ command_order command.Watch [] operands.now self.now) }
     {
         if !has_word(operands) {
             return Ok(Order::Answered(Answer::Watches(self.watches_of()?)));
@@ -373,9 +355,9 @@ impl Lab {
     }
 
     /// Reads the operands of `unwatch`.
-    #[tactic(auto, unfolding(crate::specs::Orders::unwatch_order))]
+    #[tactic(auto, unfolding(crate::specs::Orders::command_order, crate::specs::Orders::watched_order))]
     fn unwatch_order(&self, operands: &[u8]) -> Result<Order, NoMemory>
-        ensures { IfOk result (λ o. o ≡ unwatch_order (words operands.now) self.now) }
+        ensures { IfOk result (λ o. o ≡ command_order command.Unwatch [] operands.now self.now) }
     {
         if !has_word(operands) {
             return Ok(Order::Unwatch(None));

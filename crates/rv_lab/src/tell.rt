@@ -1,10 +1,11 @@
 //! What the console got, and how a run ended.
 ghost use Rattle.std.specs.Prelude.{◌≡◌, ◌-◌, ◌&&◌, if◌then◌else◌, is_some, length, slice_get, IfOk};
 ghost use Rattle.rv_lab.specs.Commands.{with_console};
-ghost use Rattle.rv_lab.specs.Answers.{watch_of};
+ghost use Rattle.rv_lab.specs.Answers.{watch_on};
 ghost use Rattle.rv_lab.specs.Runs as spec;
 ghost use Rattle.rv_lab.specs.Runs.{ending_of};
 ghost use Rattle.rv_monitor.specs.Views.{stop_text};
+ghost use Rattle.rv_runs.specs.declared.goal.Goal.TheVariants as goal;
 ghost use Rattle.rv_lab.specs.State.{board, sent};
 
 use crate::lab::Lab;
@@ -82,14 +83,14 @@ impl Lab {
 
     /// Returns what is watched, with its value.
     pub(crate) fn watch_of(&self, watched: &Watched) -> Watch
-        ensures { result ≡ watch_of self.now watched.now }
+        ensures { result ≡ watch_on (board self.now) watched.now }
     {
         watch_on(self.board(), watched)
     }
 
     /// Returns what a run went on for that went on until a condition holds.
     fn until_aim(&self, condition: Condition) -> Aim
-        ensures { result ≡ spec.until_aim self.now condition }
+        ensures { result ≡ spec.aim_of self.now (goal.Until condition) }
     {
         match condition {
             Condition::Trap => Aim::Trap(self.last_trap_value()),

@@ -80,28 +80,18 @@ impl Lab {
         all_on(self.alloc, self.board(), &self.watches)
     }
 
-    /// Returns what the last step changed of what is watched.
-    fn last_changes(&self) -> Result<Many<Change>, NoMemory>
-        ensures { IfOk result (λ m. m ≡ spec.last_changes self.now) }
-    {
-        let mut changes = Vec::new(self.alloc);
-        if self.watches.is_empty() {
-            return Ok(Many::of(changes));
-        }
-        let before = self.recording.replay(self.steps().saturating_sub(1))?;
-        push_changes(before.board(), self.board(), &self.watches, &mut changes)?;
-        Ok(Many::of(changes))
-    }
-
     /// Returns what the last step of a run changed of what is watched, if the run stops there.
     #[tactic(auto, unfolding(crate::specs::Runs::watch_changes))]
     pub(crate) fn watch_changes(&self, goal: Goal) -> Result<Many<Change>, NoMemory>
         ensures { IfOk result (λ m. m ≡ spec.watch_changes goal self.now) }
     {
-        if goal.heeds() && self.last.steps < self.steps() {
-            return self.last_changes();
+        let mut changes = Vec::new(self.alloc);
+        if self.watches.is_empty() || !goal.heeds() || self.last.steps >= self.steps() {
+            return Ok(Many::of(changes));
         }
-        Ok(Many::of(Vec::new(self.alloc)))
+        let before = self.recording.replay(self.steps().saturating_sub(1))?;
+        push_changes(before.board(), self.board(), &self.watches, &mut changes)?;
+        Ok(Many::of(changes))
     }
 
     /// Watches a register or a word.
