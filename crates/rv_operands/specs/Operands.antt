@@ -95,11 +95,6 @@ break_place l b word =
     option_map_or (λ n. option_and_then (listing.address_of l) (line_with_bytes l n)) (line_number word)
     (sum (base_value l b) word)
 
--- that of some words, which are one
-unfoldable pub break_address : Listed → BoardState → List (List ℕ) → Option ℕ
-break_address l b (word ∷ []) = break_place l b word
-break_address l b _ = None
-
 -- ---- conditions
 
 -- what is watched: a register, or a word of memory between brackets

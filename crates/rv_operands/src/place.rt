@@ -3,15 +3,14 @@ ghost use Rattle.std.specs.Prelude.{◌≡◌, ◌≤◌, ◌+◌, ◌%◌, ◌^
 ghost use Rattle.std.specs.List.{before_first, position_or_len};
 ghost use Rattle.std.specs.Option.{option_map};
 ghost use Rattle.rv_base.specs.Tables.{lookup};
-ghost use Rattle.rv_base.specs.Words.{words};
 ghost use Rattle.rv_commands.specs.Addresses.{address_of};
 ghost use Rattle.rv_asm.specs.Seen.{seen};
 ghost use Rattle.rv_isa.specs.Names.{register_names};
 ghost use Rattle.rv_program.specs.Program.{value_of};
-ghost use Rattle.rv_operands.specs.Operands.{added, address, base_value, break_address, break_place, line_with_bytes, sum, word_value};
+ghost use Rattle.rv_operands.specs.Operands.{added, address, base_value, break_place, line_with_bytes, sum, word_value};
 ghost use Rattle.rv_operands.specs.Support.Words.{base_or_zero, is_sign, next_address};
 
-use crate::word::{line_number, number, only_word};
+use crate::word::{line_number, number};
 use rv_asm::Listing;
 use rv_base::low_word;
 use rv_board::BootedBoard;
@@ -202,13 +201,5 @@ impl<'a> Scope<'a> {
             Some(line) => self.next_address(line as usize),
             None => self.sum(word),
         }
-    }
-
-    /// Returns the address of a breakpoint that a text of one word names.
-    #[tactic(auto, unfolding(crate::specs::Operands::break_address))]
-    pub fn break_address(&self, operands: &[u8]) -> Option<u32>
-        ensures { result ≡ break_address (seen self.now.listing) self.now.board.now (words operands.now) }
-    {
-        self.break_place(only_word(operands)?)
     }
 }
