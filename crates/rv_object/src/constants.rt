@@ -64,6 +64,7 @@ fn append_macro(out: &mut Vec<Macro>, constant: Macro) -> Result<(), NoMemory>
 }
 
 /// Appends the macro of a constant, if its name can be one's and it has room, and returns the room that is left.
+#[tactic(auto, using(crate::proofs::Texts::appended))]
 fn append_constant(
     alloc: Global,
     out: &mut Vec<Macro>,

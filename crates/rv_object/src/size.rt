@@ -35,6 +35,7 @@ fn labels_size(labels: &[PlacedName]) -> Option<u32>
 }
 
 /// Returns the size of the symbol of where a program begins, if a source lacks it.
+#[tactic(auto, using(crate::proofs::Most::appended))]
 fn start_size(listing: Listing<'_>) -> usize
     ensures { symbols_size (map (λ p. p.0) (all_labels (seen listing.entry)))
         ≡ symbols_size (map (λ p. p.0) (seen listing.entry).labels) + result }
@@ -98,6 +99,7 @@ fn with_line(rows: Rows, listing: Listing<'_>, line: u32) -> Option<Rows>
 }
 
 /// Returns the size of the rows of that many lines, if it is below 4 GiB.
+#[tactic(auto, using(crate::proofs::Rising::next_line, crate::proofs::Rising::no_line))]
 fn rows_size(listing: Listing<'_>, count: u32) -> Option<u32>
     ensures { let size = rows_size 1 (placed_from (seen listing.entry) 1 count) in SomeIff result (size < 2 ^ 32) size }
 {
