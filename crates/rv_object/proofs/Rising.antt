@@ -1,6 +1,6 @@
 -- The lines that have bytes, one by one, and that they rise.
 use Rattle.std.proofs.lemmas.Bool.Decides.{nat_tests}
-use Rattle.std.proofs.Common.{rules, ◌≡◌, ℕ, zero, suc, ◌+◌, ◌-◌, ◌<◌, ◌≤◌, List, [], ◌∷◌, ◌++◌, arith, append_assoc}
+use Rattle.std.proofs.Common.{rules, ◌≡◌, ℕ, zero, suc, ◌+◌, ◌-◌, ◌<◌, ◌≤◌, List, [], ◌∷◌, ◌++◌, arith}
 use Rattle.rv_asm.specs.Lines.{Listed}
 use Rattle.rv_elf.specs.LineNumbers.{Rises}
 use Rattle.rv_elf.specs.declared.lines.PlacedLine.{PlacedLine}
@@ -28,12 +28,6 @@ next_line l line next count is below = let k : count - line ≡ suc (count - nex
 pub no_line : (l : Listed) (line count : ℕ) → count ≤ line → placed_from l (suc line) (count - line) ≡ []
 unfolding placed_from
 no_line l line count above = search (rules, arith, nat_tests)
-
--- one more line
-pub one_more : (l : Listed) (old new all : List PlacedLine) (line next count : ℕ) → next ≡ line + 1 → line < count →
-    old ++ placed_from l (suc line) (count - line) ≡ all → new ≡ old ++ placed_line l next →
-    new ++ placed_from l (suc next) (count - next) ≡ all
-one_more l old new all line next count is below h e = search (rules, arith, append_assoc, next_line)
 
 pub all_done : (l : Listed) (out all : List PlacedLine) (line count : ℕ) → count ≤ line →
     out ++ placed_from l (suc line) (count - line) ≡ all → out ≡ all

@@ -42,6 +42,7 @@ fn count_of(listing: Listing<'_>) -> Option<u32>
 }
 
 /// Returns the lines that have bytes, in order.
+#[tactic(auto, using(crate::proofs::Rising::next_line, crate::proofs::Rising::no_line, std::proofs::lemmas::List::append_assoc, std::proofs::lemmas::Bool::Decides::nat_tests))]
 pub fn placed_lines(alloc: Global, listing: Listing<'_>) -> Result<Vec<PlacedLine>, ElfFault>
     ensures value { IfOk result (λ v. v.items ≡ placed_from (seen listing.entry) 1 (length (seen listing.entry).addresses - 1)) }
     ensures rises { IfOk result (λ v. Rises 1 v.items) }
