@@ -6,14 +6,13 @@ use Rattle.std.proofs.lemmas.Simd.{map-map}
 use Rattle.std.specs.Prelude.{Option, codes}
 use Rattle.std.specs.Option.{option_map, unwrap_or}
 use Rattle.rv_elf.specs.Elf.{contents}
-use Rattle.rv_elf.specs.Frames.{description_of, descriptions}
 use Rattle.rv_elf.specs.Symbols.{Symbol, named, null_symbol}
 use Rattle.rv_elf.specs.Object.{symbols_of}
 use Rattle.rv_asm.specs.Lines.{Listed}
 use Rattle.rv_elf.specs.Size.{file_size, frames_size, functions_size, info_size, symbols_size}
 use Rattle.rv_elf.specs.declared.frames.Function.{Function}
 use Rattle.rv_elf.specs.declared.lines.PlacedLine.{PlacedLine}
-use Rattle.rv_object.specs.Placed.{all_labels, most_of, name_and_value, names_and_values, placed_from, section_size, size_of, tables_size, texts, AreFrames}
+use Rattle.rv_object.specs.Placed.{all_labels, most_of, name_and_value, names_and_values, placed_from, section_size, size_of, tables_size, texts}
 
 -- ---- labels
 
@@ -105,10 +104,6 @@ exceeds image symbols lines name folder frames macros l i s p a b h =
     omega (arith, size, few, h, a, b)
 
 -- ---- frames
-
-pub framed : (contents : Option (List ℕ)) (section : List ℕ) (fs : List Function) → contents ≡ Some section →
-    descriptions section ≡ map description_of fs → length section ≡ frames_size fs → AreFrames contents
-framed contents section fs is d s = rw is (fs, d, s)
 
 pub few : (n m : ℕ) (slice items : List Function) → slice ≡ items → n ≡ frames_size slice → frames_size items ≤ m → n ≤ m
 few n m slice items is size h = rw (size, is) h

@@ -3,7 +3,7 @@ use Rattle.std.proofs.lemmas.Result.{err_from_is_err_and}
 use Rattle.rv_asm.specs.Seen.{seen}
 use Rattle.rv_elf.specs.Symbols.{Symbol}
 use Rattle.rv_object.specs.Placed.{all_labels, name_and_value}
-use Rattle.rv_object.proofs.Labelled.{exceeds, few, framed, labelled, many, most_is, size_is}
+use Rattle.rv_object.proofs.Labelled.{exceeds, few, labelled, many, most_is, size_is}
 use Rattle.rv_object.proofs.elf.elf_file.Goals as goal
 
 pub returns-clause-labels : goal.returns-clause-labels
@@ -12,8 +12,8 @@ returns-clause-labels c = labelled c.in_ok-file.file.items c.as_slice-3.result.n
     (ap (λ (x : List Symbol). map name_and_value x) c.as_slice-3.ensures.value ∙ c.in_ok-symbols.ensures)
 
 pub returns-clause-frames : goal.returns-clause-frames
-returns-clause-frames c = framed _ c.in_ok-tables.tables.frames.items c.as_slice.result.now
-    c.in_ok-file.ensures.frames c.in_ok-tables.ensures.frames c.in_ok-tables.ensures.size
+returns-clause-frames c = rw c.in_ok-file.ensures.frames
+    (c.as_slice.result.now, c.in_ok-tables.ensures.frames, c.in_ok-tables.ensures.size)
 
 pub returns-clause-size : goal.returns-clause-size
 returns-clause-size c = size_is c.in_ok-file.file.items _ c.as_slice-3.result.now c.as_slice-4.result.now
