@@ -107,6 +107,3 @@ exceeds image symbols lines name folder frames macros l i s p a b h =
 
 pub few : (n m : ℕ) (slice items : List Function) → slice ≡ items → n ≡ frames_size slice → frames_size items ≤ m → n ≤ m
 few n m slice items is size h = rw (size, is) h
-
-pub many : (n m : ℕ) (slice items : List Function) → slice ≡ items → n ≤ frames_size slice → frames_size items ≤ m → n ≤ m
-many n m slice items is size h = let s = rw is at size in omega (arith, s, h)

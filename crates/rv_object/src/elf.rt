@@ -96,6 +96,7 @@ fn write(
 /// - `TooLarge` if the source has 2 ^ 32 lines or more, or if the file may have 4 GiB or more, by the most bytes of its
 ///   functions, frames and macros.
 /// - `OutOfMemory` if memory runs out.
+#[tactic(auto, using(std::proofs::lemmas::Result::err_from_is_err_and))]
 pub fn elf_file(
     alloc: Global,
     listing: Listing<'_>,

@@ -1,9 +1,9 @@
-use Rattle.std.proofs.Common.{◌∙◌, List, ◌+◌, ◌*◌, ◌^◌, ◌≤◌, length, map, refl, ap, arith}
+use Rattle.std.proofs.Common.{◌∙◌, List, map, refl, ap, arith}
 use Rattle.std.proofs.lemmas.Result.{err_from_is_err_and}
 use Rattle.rv_asm.specs.Seen.{seen}
 use Rattle.rv_elf.specs.Symbols.{Symbol}
 use Rattle.rv_object.specs.Placed.{all_labels, name_and_value}
-use Rattle.rv_object.proofs.Labelled.{exceeds, few, labelled, many, most_is, size_is}
+use Rattle.rv_object.proofs.Labelled.{exceeds, few, labelled, most_is, size_is}
 use Rattle.rv_object.proofs.elf.elf_file.Goals as goal
 
 pub returns-clause-labels : goal.returns-clause-labels
@@ -30,16 +30,6 @@ returns-clause-most c = most_is c.in_ok-file.file.items c.as_slice-3.result.now 
     c.in_ok-file.ensures.info c.in_ok-file.ensures.frames c.in_ok-file.ensures.macros
     (few _ _ c.as_slice.result.now c.in_ok-functions.functions.items c.as_slice.ensures.value
     c.in_ok-tables.ensures.size c.in_ok-functions.ensures) c.in_ok-tables.ensures.macros
-
-pub returns-in_err-tables-clause-large : goal.returns-in_err-tables-clause-large
-returns-in_err-tables-clause-large c =
-    let e = err_from_is_err_and c.from_residual-in_err-tables.result c.from_residual-in_err-tables.ensures.1 in
-    rw (e.1, e.2)
-    (λ is fits.
-    let low : 2 ^ 32 ≤ 40 + 48 * length (seen c.args.listing).assembly.bytes =
-    many _ _ c.as_slice.result.now c.in_ok-functions.functions.items c.as_slice.ensures.value
-    (c.in_err-tables.ensures.large is) c.in_ok-functions.ensures in
-    omega (arith, low, fits.1))
 
 pub returns-in_err-file-clause-large : goal.returns-in_err-file-clause-large
 returns-in_err-file-clause-large c =
