@@ -15,7 +15,7 @@ use Rattle.rv_recording.specs.Refused.{NoneEnds}
 use Rattle.rv_recording.specs.Until.{HasRun, steps_of}
 use Rattle.rv_recording.specs.declared.until.End.{End}
 use Rattle.rv_recording.proofs.Counting.{none_before, steps_within, takes_more}
-use Rattle.rv_moves.proofs.Ends.{first_none, goes, going, left_of}
+use Rattle.rv_moves.proofs.Ends.{first_none, goes}
 use Rattle.rv_moves.specs.Back.{first_state, last_stop, left_by, taken}
 use Rattle.rv_moves.specs.Runs.{run_ends}
 use Rattle.rv_moves.specs.Support.Looking.{Looked, WentBack, or_else}
@@ -71,10 +71,7 @@ module _ (ws : List Watch) (to : ℕ) {old : RecordingState} (reached : IsReache
       → IfSome found (λ b. b.steps ≤ n + k) → Looked ws to old n new found × (n < taken new)
   looked new k found e some within last earlier =
       let state : new ≡ gone_back old (n + k) = e ∙ ap (with_timed old) (later k) in
-      let count : taken new ≡ n + k = ap taken state ∙ taken_at old (n + k) in (
-        record { state = state ∙ ap (gone_back old) (sym count); within = rw count within; last = rw count last; earlier = rw count earlier },
-        omega (arith, count, some),
-      )
+      search (rules, arith, taken_at old (n + k))
 
   -- a step
   stepped_one : (new : RecordingState) (o : Option Outcome) → TakesStep old.session new.session (Ok o)
@@ -100,16 +97,13 @@ module _ (ws : List Watch) (to : ℕ) {old : RecordingState} (reached : IsReache
     abbrev count : ℕ
     count = steps_of ends most
 
-    none_first : ends 0 ≡ None
-    none_first = search (rules, arith, later, here, goes)
-
     some_steps : 0 < count
-    some_steps = takes_more ends 0 most (omega (arith, is, below)) (first_none ends none_first)
+    some_steps =
+        takes_more ends 0 most (omega (arith, is, below)) (first_none ends (search (rules, arith, later, here, goes)))
 
     none_at : (i : ℕ) → ends i ≡ None → (is_some (met ws (after first (n + i)).board) ≡ false)
         × (0 < i → set.contains br (after first (n + i)).board.machine.pc ≡ false)
-    none_at i e = let g = going _ _ _ _ e in
-        rw (← later i) (left_of _ _ g.unmet, λ some. rw (lt-ltb 0 i some) at g.unbroken)
+    none_at i e = search (rules, arith, later, lt-ltb)
 
     -- the first place may be at a breakpoint, and no other is a stop
     quiet : (b : Bool) → b ≡ set.contains br old.session.timed.board.machine.pc → (k : ℕ) → NoneEnds ends (suc k)
@@ -142,10 +136,7 @@ module _ (ws : List Watch) (to : ℕ) {old : RecordingState} (reached : IsReache
 pub looked_none : (ws : List Watch) {old now : RecordingState} {to : ℕ} (from : ℕ) → from ≤ to → to ≤ taken old
     → now ≡ gone_back old (min from (taken old)) → Looked ws to old from now None
 looked_none ws {old} {now} from less within went =
-    let least : min from (taken old) ≡ from = omega (arith, less, within) in
-    let state : now ≡ gone_back old from = rw least at went in
-    let count : taken now ≡ from = ap taken state ∙ taken_at old from in
-    record { state = state ∙ ap (gone_back old) (sym count); within = rw count less; last = rw count refl; earlier = tt }
+    let least : min from (taken old) ≡ from = omega (arith, less, within) in search (rules, arith, taken_at old from)
 
 module _ {ws : List Watch} {to from : ℕ} {old mid : RecordingState} {found : Option Back}
     (l : Looked ws to old from mid found) where
@@ -156,15 +147,7 @@ module _ {ws : List Watch} {to from : ℕ} {old mid : RecordingState} {found : O
   looks_some h = search (rules, arith, same.back, same.stop)
 
   pub looks_on : {new : RecordingState} → Looked ws to mid (taken mid) new None → taken mid < taken new → Looked ws to old from new found
-  looks_on {new} h less = record {
-    state = h.state ∙ same.back (taken new);
-    within = h.within;
-    last = sym (same.stop ws (taken new)) ∙ (h.last ∙ (same.stop ws (taken mid) ∙ l.last));
-    earlier = by found l.earlier;
-  }
-    where
-      by : (o : Option Back) → IfSome o (λ b. b.steps ≤ taken mid) → IfSome o (λ b. b.steps ≤ taken new)
-      by o e = search (rules, arith)
+  looks_on h less = search (rules, arith, same.back, same.stop)
 
 -- ---- a run back
 
@@ -181,11 +164,7 @@ module _ {ws : List Watch} {old now : RecordingState} {high : ℕ} (b : Backed w
     same_new = same_back (taken new) l.state
 
     pub backs_on : found ≡ None → taken new ≡ high → low ≤ high → Backed ws old new low
-    backs_on none all less = record {
-      back = λ n. same_new.back n ∙ b.back n;
-      within = omega (arith, all, less);
-      last = b.last ∙ (rw (all, none) at l.last ∙ sym (same_new.stop ws low));
-    }
+    backs_on none all less = search (rules, arith, same_new.back, same_new.stop, b.back)
 
     pub goes_to : {last : RecordingState} {stop : Back} → found ≡ Some stop
         → last ≡ gone_back new (min stop.steps (taken new)) → last ≡ gone_back old (left_by (Some stop))
@@ -194,6 +173,3 @@ module _ {ws : List Watch} {old now : RecordingState} {high : ℕ} (b : Backed w
   pub backs_none : high ≡ 0 → None ≡ last_stop ws old.session.breakpoints.addresses (first_state old) (taken old)
   unfolding last_stop
   backs_none e = search (rules, arith)
-
-  pub goes_first : {new : RecordingState} → new ≡ gone_back now (min 0 (taken now)) → new ≡ gone_back old 0
-  goes_first e = search (rules, arith, b.back)
