@@ -1,5 +1,5 @@
 -- The search for the last stop.
-use Rattle.std.proofs.Common.{◌≡◌, ◌∙◌, ℕ, zero, suc, ◌+◌, ◌-◌, ◌<◌, ◌≤◌, Bool, true, false, add-one, refl, sym, ap, arith, rules}
+use Rattle.std.proofs.Common.{◌≡◌, ◌∙◌, ℕ, zero, suc, ◌+◌, ◌-◌, ◌<◌, ◌≤◌, Bool, true, false, add-one, refl, ap, arith, rules}
 use Rattle.std.specs.Prelude.{if◌then◌else◌, is_some, min, List, Option, Some, None, IfSome, Ok}
 use Rattle.std.specs.FinSet as set
 use Rattle.std.proofs.lemmas.Bool.{false≢true, lt-ltb}
@@ -43,8 +43,7 @@ same_back k is = record { back = λ n. rw is refl; stop = λ ws n. rw is refl }
 pub went_back : (r : RecordingState) {now : RecordingState} {to : ℕ} (k : ℕ) → now ≡ gone_back r k
     → ((i : ℕ) → i < to → halted_of (after (first_state r) i).board ≡ None) → to ≤ r.session.limit → WentBack to now
 unfolding after
-went_back r k is running room =
-    rw is (record { at = ap (gone_back r) (sym (taken_at r k)); running = running; room = room })
+went_back r k is running room = search (rules, arith)
 
 -- ---- a look
 
@@ -73,19 +72,14 @@ module _ (ws : List Watch) (to : ℕ) {old : RecordingState} (reached : IsReache
       let state : new ≡ gone_back old (n + k) = e ∙ ap (with_timed old) (later k) in
       search (rules, arith, taken_at old (n + k))
 
-  -- a step
-  stepped_one : (new : RecordingState) (o : Option Outcome) → TakesStep old.session new.session (Ok o)
-      → new ≡ record old { session = new.session } → new ≡ with_timed old (after old.session.timed 1)
-  stepped_one new o t others = search (rules, arith, false≢true, here)
-
   -- one that meets a watch
   pub met_one : {new : RecordingState} {w : Watch} (o : Option Outcome) → TakesStep old.session new.session (Ok o)
       → new ≡ record old { session = new.session } → Some w ≡ met ws old.session.timed.board → (m : ℕ) → m ≡ taken old
       → Looked ws to old n new (Some (record { steps = m + 1; watch = Some w })) × (n < taken new)
   unfolding last_stop
   met_one {new} {w} o t others is m same =
-      looked new 1 _ (stepped_one new o t others) (omega arith) (omega (arith, below)) (rw (same, add-one, ← here, ← is) refl)
-      (omega (arith, same))
+      looked new 1 _ (search (rules, arith, false≢true, here)) (omega arith) (omega (arith, below))
+      (rw (same, add-one, ← here, ← is) refl) (omega (arith, same))
 
   -- a run up to the next stop
   module _ {new : RecordingState} {most : ℕ} {end : End} (is : most ≡ to - n)
