@@ -93,8 +93,7 @@ macro_rules! table {
             (Step "s" ["step" "si"] "s [N]" "s 5" "takes N steps, or one")
             (Moves(Go) "c" ["continue" "run" "go"] "c [N]" "c 500"
                 "goes on up to a breakpoint, for N steps at most (1000000 without N)")
-            (Over "next" ["n" "ni"] "next" "next"
-                "goes on past the line here, and past the calls that it makes")
+            (Over "next" ["n" "ni"] "next" "next" "goes on past the line here, and past the calls that it makes")
             (NextC "nextc" [] "nextc" "nextc"
                 "goes on to the next place of the C source, past calls: to a label as `main.16` of tools/cc")
             (Moves(Finish) "finish" ["fin"] "finish" "finish"
@@ -115,8 +114,7 @@ macro_rules! table {
             (Clear "d" ["delete" "clear"] "d WHERE" "d 12" "clears a breakpoint")
             (Registers "r" ["reg" "regs" "registers"] "r [REG]" "r sp"
                 "shows the registers, with a star where the last command changed one")
-            (ControlRegister "p" [] "p CSR" "p mstatus"
-                "shows a control register, and what its bits say")
+            (ControlRegister "p" [] "p CSR" "p mstatus" "shows a control register, and what its bits say")
             (Memory "m" ["mem" "x"] "m WHERE [N] [w|t]" "m sp 8 w"
                 "shows N bytes of memory (64 without N, at most 4096), N words with `w`, the text with `t`")
             (Instruction "i" [] "i [WHERE]" "i 0x80000010" "shows an instruction")
@@ -147,8 +145,7 @@ macro_rules! table {
                 "reads the source again and begins anew, with the same breakpoints by their lines, watches, inputs and displays")
             (Monitor "monitor" [] "monitor LINE" "monitor m 0x80000000 16"
                 "does a command exactly as rvboard's monitor does")
-            (Help "help" ["h"] "help [COMMAND]" "help until"
-                "shows the commands, or one with an example")
+            (Help "help" ["h"] "help [COMMAND]" "help until" "shows the commands, or one with an example")
             (Quit "q" ["exit" "quit"] "q" "q" "ends the lab")
         }
     };

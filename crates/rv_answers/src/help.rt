@@ -1,9 +1,55 @@
-//! The text of the help, and of a word that is no command.
+//! The text of the help, and of a word that is no command; and the nearest of some names to a word.
 use crate::Printer;
-use crate::command::{Command, CommandRow, command_row, command_word, commands};
-use crate::nearest::Nearest;
+use crate::command::{Command, command_row, command_word, commands};
 use crate::shown::Shown;
 use rv_base::look_up;
+use std::alloc::Global;
+use strsim::generic_levenshtein;
+
+/// The name that takes the fewest edits to become a word, of those that were offered.
+#[derive(Drop)]
+pub(crate) struct Nearest<'a> {
+    alloc: Global,
+    word: &'a [u8],
+    name: &'a [u8],
+    edits: usize,
+}
+
+/// The longest word for which a name is looked for.
+const LONGEST: usize = 64;
+
+impl<'a> Nearest<'a> {
+    /// Returns a search for the nearest name to a word. A name is near if fewer than half of the word's bytes
+    /// are edited.
+    pub(crate) fn new(alloc: Global, word: &'a [u8]) -> Nearest<'a> {
+        Nearest {
+            alloc,
+            word,
+            name: b"",
+            edits: word.len() / 2 + 1,
+        }
+    }
+
+    /// Offers a name.
+    pub(crate) fn offer(&mut self, name: &'a [u8]) {
+        if self.word.len() > LONGEST || name.len() > LONGEST {
+            return;
+        }
+        if let Ok(edits) = generic_levenshtein(self.alloc, self.word, name)
+            && edits < self.edits
+        {
+            self.edits = edits;
+            self.name = name;
+        }
+    }
+
+    /// Appends that the nearest name is near, if there is one.
+    pub(crate) fn append(&self, text: &mut Printer) {
+        if !self.name.is_empty() {
+            write!(text, "; `{}` is near", Shown(self.name));
+        }
+    }
+}
 
 /// Appends the list of all commands.
 fn append_commands(text: &mut Printer) {
@@ -15,32 +61,24 @@ fn append_commands(text: &mut Printer) {
     );
 }
 
-/// Appends what a command does, with an example.
-fn append_command(row: CommandRow, text: &mut Printer) {
-    writeln!(text, "{}: {}", row.form, row.does);
-    writeln!(text, "  example: {}", row.example);
-}
-
-/// Appends the help of a command, or of all.
+/// Appends what a command does, with an example, or the list of all.
 pub(crate) fn append_help(command: Option<Command>, text: &mut Printer) {
     let Some(command) = command else {
         return append_commands(text);
     };
     if let Some(row) = command_row(command_word(command).as_bytes()) {
-        append_command(row, text);
+        writeln!(text, "{}: {}", row.form, row.does);
+        writeln!(text, "  example: {}", row.example);
     }
 }
 
-/// Offers the words of all commands, those of the help last.
-fn offer_commands(nearest: &mut Nearest<'_>) {
+/// Offers the words of all commands: those of the help, or the others.
+fn offer_commands(are_of_help: bool, nearest: &mut Nearest<'_>) {
     for (words, _) in commands() {
-        for word in words.split_whitespace().skip(1) {
-            nearest.offer(word.as_bytes());
-        }
-    }
-    for (words, _) in commands() {
-        for word in words.split_whitespace().take(1) {
-            nearest.offer(word.as_bytes());
+        for (number, word) in words.split_whitespace().enumerate() {
+            if (number == 0) == are_of_help {
+                nearest.offer(word.as_bytes());
+            }
         }
     }
 }
@@ -85,7 +123,8 @@ pub(crate) fn append_unknown(word: &[u8], text: &mut Printer) {
         return writeln!(text, ": {meant}");
     }
     let mut nearest = Nearest::new(text.alloc(), word);
-    offer_commands(&mut nearest);
+    offer_commands(false, &mut nearest);
+    offer_commands(true, &mut nearest);
     nearest.append(text);
     text.say("; `help` shows them all\n");
 }

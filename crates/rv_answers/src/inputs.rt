@@ -1,12 +1,11 @@
 //! The text of what commands answer that change breakpoints, give inputs or save.
 use crate::Printer;
-use crate::count::Count;
 use crate::interrupts::sign;
 use crate::lines::{Lines, Short};
 use crate::many::Many;
 use crate::moves::{BreakCondition, Breakpoint, Breakpoints, Cleared, Given, Saved};
 use crate::runs::append_watches;
-use crate::shown::Shown;
+use crate::shown::{Count, Shown};
 
 /// Appends the condition of a breakpoint, if it has one, and how many hits are passed before one stops a run.
 fn append_condition(condition: &Option<Many<u8>>, passes: u64, text: &mut Printer) {
@@ -76,10 +75,9 @@ fn append_options(saved: &Saved, text: &mut Printer) {
     writeln!(text, "--steps {limit} --pages {}", saved.pages);
     if saved.steps > limit {
         let more = saved.steps - limit;
-        writeln!(
-            text,
-            "# rvboard takes at most {limit} steps, and so not the last {more}; `u {more}` goes back to there, and then save again"
-        );
+        write!(text, "# rvboard takes at most {limit} steps, ");
+        write!(text, "and so not the last {more}; `u {more}` ");
+        text.say("goes back to there, and then save again\n");
     }
 }
 
@@ -88,14 +86,10 @@ fn append_named(name: &[u8], saved: &Saved, text: &mut Printer) {
     let name = Shown(name);
     let inputs = Count(saved.inputs as u64, "input");
     let steps = Count(saved.steps, "step");
-    writeln!(
-        text,
-        "wrote {name}.input ({inputs}) and {name}.commands ({steps}); repeat them by"
-    );
-    write!(
-        text,
-        "  ./rvboard SOURCE --input {name}.input --commands {name}.commands "
-    );
+    write!(text, "wrote {name}.input ({inputs}) and {name}.commands ");
+    writeln!(text, "({steps}); repeat them by");
+    text.say("  ./rvboard SOURCE --input ");
+    write!(text, "{name}.input --commands {name}.commands ");
     append_options(saved, text);
 }
 

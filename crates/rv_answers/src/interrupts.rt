@@ -2,8 +2,8 @@
 ghost use Rattle.std.specs.Prelude.{◌<◌};
 
 use crate::Printer;
-use crate::count::Count;
 use crate::looks::mode_name;
+use crate::shown::Count;
 use crate::states::has_bit;
 use crate::values::{Clock, Devices, Interrupts, Port, Range, Region, Rights, SourceState};
 use std::fmt::{self, Display, Formatter};
@@ -21,13 +21,12 @@ fn level(is_high: bool) -> &'static str {
 /// Appends the timer: the largest time to compare with never comes.
 fn append_clock(clock: Clock, text: &mut Printer) {
     write!(text, "timer: mtime {}, mtimecmp ", clock.time);
-    if clock.compare == u64::MAX {
-        text.say("never");
-    } else {
-        text.number(clock.compare);
-        if clock.compare >= 0xffff_ffff_0000_0000 {
-            text.say(" (its high half is as at reset: write both halves)");
-        }
+    match clock.compare {
+        u64::MAX => text.say("never"),
+        time => text.number(time),
+    }
+    if clock.compare >= 0xffff_ffff_0000_0000 && clock.compare < u64::MAX {
+        text.say(" (its high half is as at reset: write both halves)");
     }
     let line = level(clock.is_due);
     writeln!(text, ", its line is {line}; msip {}", clock.software as u8);
@@ -58,11 +57,10 @@ fn append_interrupt(name: &str, place: u32, interrupts: Interrupts, text: &mut P
 {
     let is_high = has_bit(interrupts.mip, place);
     let is_enabled = has_bit(interrupts.mie, place);
-    write!(text, "{name} line {}, ", level(is_high));
-    if is_enabled {
-        text.say("enabled in mie");
-    } else {
-        write!(text, "not enabled in mie (bit {place})");
+    let (line, not) = (level(is_high), sign(is_enabled, "", "not "));
+    write!(text, "{name} line {line}, {not}enabled in mie");
+    if !is_enabled {
+        write!(text, " (bit {place})");
     }
     text.say(outcome(is_high, is_enabled, interrupts.next, 0x8000_0000 + place));
 }
@@ -86,14 +84,11 @@ fn append_source(state: SourceState, threshold: u32, text: &mut Printer) {
     if !state.is_high && !is_requested && !state.is_enabled && priority == 0 && edges == 0 {
         return;
     }
+    write!(text, "  source {source}: line {}, ", level(state.is_high));
     let claimed = sign(state.is_claimed, "claimed and not completed", "not pending");
-    let request = sign(state.is_pending, "pending", claimed);
-    let enabled = sign(state.is_enabled, "enabled", "not enabled");
-    let line = level(state.is_high);
-    write!(
-        text,
-        "  source {source}: line {line}, {request}, {enabled}, priority {priority}"
-    );
+    text.say(sign(state.is_pending, "pending", claimed));
+    text.say(sign(state.is_enabled, ", enabled", ", not enabled"));
+    write!(text, ", priority {priority}");
     if state.is_enabled && priority <= threshold {
         text.say(", not above the threshold");
     }
@@ -109,10 +104,8 @@ pub(crate) fn append_devices(devices: &Devices, text: &mut Printer) {
     append_port(devices.port, text);
     append_interrupts(devices.interrupts, text);
     let (threshold, line) = (devices.threshold, level(devices.is_notified));
-    writeln!(
-        text,
-        "interrupt controller: threshold {threshold}, its line is {line}"
-    );
+    text.say("interrupt controller: ");
+    writeln!(text, "threshold {threshold}, its line is {line}");
     for state in devices.sources.items() {
         append_source(*state, threshold, text);
     }

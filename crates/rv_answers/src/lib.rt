@@ -2,15 +2,12 @@
 #![tactic(auto)]
 
 mod answer;
+mod calls_text;
 mod command;
-mod controls;
 mod convention;
-mod convention_text;
-mod count;
 mod explained;
 mod extent;
 mod frames;
-mod frames_text;
 mod help;
 mod inputs;
 mod interrupts;
@@ -19,7 +16,6 @@ mod looks;
 mod many;
 mod memory;
 mod moves;
-mod nearest;
 mod printer;
 mod profile;
 mod refusals;
@@ -28,14 +24,12 @@ mod render;
 mod runs;
 mod shown;
 mod states;
-mod traps;
 mod values;
 mod why_text;
 
 pub use answer::{Answer, Refusal, Why};
 pub use command::{Command, Move, command_named, command_word};
 pub use convention::{Breach, Checked, Deviation, Entry, Return, Unrestored};
-pub use count::Count;
 pub use explained::{
     Area, Barrier, Before, Explained, Explanation, Handler, Origin, Reason, Repeated, Sum,
     Unfetched, Write,
@@ -51,7 +45,7 @@ pub use moves::{
 };
 pub use printer::Printer;
 pub use profile::{Profiled, Spent};
-pub use shown::Shown;
+pub use shown::{Count, Shown};
 pub use states::{
     bits_of, clock_of, has_bit, port_of, region_of, regions_of, sources_of, threshold,
 };

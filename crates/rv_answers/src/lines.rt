@@ -21,16 +21,12 @@ pub(crate) struct Near<'a>(pub(crate) Lines<'a>, pub(crate) Place);
 
 impl Display for Near<'_> {
     fn fmt<W: fmt::Write>(&self, f: &mut Formatter<W>) -> fmt::Result {
-        if let Some(distance) = self.1.distance
-            && let Some(near) = self.0.listing.label_before(self.1.address)
-        {
-            write!(f, " <{}", Shown(near.name.bytes()))?;
-            if distance > 0 {
-                write!(f, "+{distance}")?;
-            }
-            write!(f, ">")?;
+        let Near(lines, place) = *self;
+        match (place.distance, lines.listing.label_before(place.address)) {
+            (Some(0), Some(near)) => write!(f, " <{}>", Shown(near.name.bytes())),
+            (Some(far), Some(near)) => write!(f, " <{}+{far}>", Shown(near.name.bytes())),
+            _ => Ok(()),
         }
-        Ok(())
     }
 }
 
@@ -41,10 +37,11 @@ pub(crate) struct Short<'a>(pub(crate) Lines<'a>, pub(crate) Place);
 impl Display for Short<'_> {
     fn fmt<W: fmt::Write>(&self, f: &mut Formatter<W>) -> fmt::Result {
         let Short(lines, place) = *self;
-        if let Some(line) = place.line {
-            write!(f, " line {line}")?;
+        let (near, address) = (Near(lines, place), place.address);
+        match place.line {
+            Some(line) => write!(f, " line {line}{near} ({address:08x})"),
+            None => write!(f, "{near} ({address:08x})"),
         }
-        write!(f, "{} ({:08x})", Near(lines, place), place.address)
     }
 }
 
@@ -60,6 +57,11 @@ impl<'a> Lines<'a> {
             line,
             word,
         }
+    }
+
+    /// Returns an address as a place: its line's number, its label, and the address.
+    pub(crate) fn short_at(self, address: u32) -> Short<'a> {
+        Short(self, self.place_at(address, None))
     }
 
     /// Appends a place: its address, its label, and its line or its instruction.

@@ -1,21 +1,18 @@
 //! The text of what commands answer that only look at the board or the source, and of how a board stands.
-use crate::count::Count;
 use crate::interrupts::sign;
 use crate::lines::{Lines, Near, Short, append_instruction, lines_from};
 use crate::registers::append_registers;
+use crate::shown::Count;
 use crate::values::{Edges, Place, RegisterFile, Standing, Trap};
 use crate::{Printer, Row};
 use rv_pmp::Mode;
 
 /// Appends where a line lies, or spaces where it has no bytes.
 fn append_cell(row: Row, text: &mut Printer) {
-    let Some(address) = row.address else {
-        return write!(text, "{:20}", "");
-    };
-    write!(text, "{address:08x}  ");
-    match row.word {
-        Some(word) => write!(text, "{word:08x}"),
-        None => write!(text, "{:8}", ""),
+    match (row.address, row.word) {
+        (Some(address), Some(word)) => write!(text, "{address:08x}  {word:08x}"),
+        (Some(address), None) => write!(text, "{address:08x}  {:8}", ""),
+        (None, _) => return write!(text, "{:20}", ""),
     }
     text.say(sign(row.has_more, "+ ", "  "));
 }

@@ -9,14 +9,6 @@ use crate::values::{Cells, Dump};
 /// The number of bytes in a row.
 const ROW_BYTES: usize = 16;
 
-/// Appends a byte of memory, or `--` where there is none.
-fn append_byte(byte: Option<u8>, text: &mut Printer) {
-    match byte {
-        Some(byte) => write!(text, "{byte:02x} "),
-        None => text.say("-- "),
-    }
-}
-
 /// Returns a byte as a character, or a dot.
 fn character(byte: Option<u8>) -> char {
     match byte {
@@ -25,11 +17,14 @@ fn character(byte: Option<u8>) -> char {
     }
 }
 
-/// Appends a row of at most 16 bytes: the address, the bytes, and their characters.
+/// Appends a row of at most 16 bytes: the address, the bytes, with `--` where there is none, and their characters.
 fn append_bytes_row(address: u32, bytes: &[Option<u8>], text: &mut Printer) {
     write!(text, "{address:08x}: ");
     for byte in bytes {
-        append_byte(*byte, text);
+        match byte {
+            Some(byte) => write!(text, "{byte:02x} "),
+            None => text.say("-- "),
+        }
     }
     let missing = 3 * ROW_BYTES.saturating_sub(bytes.len());
     write!(text, "{:missing$} ", "");

@@ -2,10 +2,10 @@
 use crate::Printer;
 use crate::answer::{Refusal, Why};
 use crate::command::{Command, Move, command_word};
+use crate::help::Nearest;
 use crate::interrupts::sign;
 use crate::lines::Lines;
 use crate::looks::append_count;
-use crate::nearest::Nearest;
 
 /// Expands to the texts of names.
 macro_rules! names {

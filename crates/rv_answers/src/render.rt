@@ -4,13 +4,13 @@ ghost use Rattle.rv_answers.specs.declared.answer.Answer.TheVariants.{Nothing};
 
 use crate::Printer;
 use crate::answer::Answer;
-use crate::controls::append_control;
 use crate::help::{append_help, append_unknown};
 use crate::inputs::{append_given, append_saved};
 use crate::interrupts::append_devices;
 use crate::lines::Lines;
 use crate::looks::{append_count, append_edges, append_halt, append_stuck};
 use crate::memory::{append_console, append_dump};
+use crate::registers::append_control;
 use crate::runs::{append_all_watches, append_unwatched, append_watches};
 
 impl Lines<'_> {

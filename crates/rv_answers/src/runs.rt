@@ -1,12 +1,12 @@
 //! The text of what commands answer that move the board.
 use crate::Printer;
-use crate::count::Count;
 use crate::interrupts::sign;
 use crate::lines::{Lines, Short};
 use crate::looks::{append_halt, append_stuck};
 use crate::many::Many;
 use crate::moves::{Aim, Change, Ending, Run, Step, Stepped, Target, Trace, Watch};
 use crate::registers::{Value, register_name};
+use crate::shown::Count;
 use crate::values::{RegisterValue, Standing};
 use std::fmt::{self, Display, Formatter};
 
@@ -43,22 +43,9 @@ impl Display for Target {
     }
 }
 
-/// The value of what is watched, if it has one.
-#[derive(Clone, Copy)]
-struct Watched(Option<u32>);
-
-impl Display for Watched {
-    fn fmt<W: fmt::Write>(&self, f: &mut Formatter<W>) -> fmt::Result {
-        match self.0 {
-            Some(word) => write!(f, "{}", Value(word)),
-            None => write!(f, "--------"),
-        }
-    }
-}
-
 impl Display for Watch {
     fn fmt<W: fmt::Write>(&self, f: &mut Formatter<W>) -> fmt::Result {
-        write!(f, "{} = {}", self.target, Watched(self.value))
+        write!(f, "{} = {}", self.target, Value(self.value))
     }
 }
 
@@ -66,7 +53,7 @@ impl Display for Watch {
 fn append_changes(changes: &[Change], text: &mut Printer) {
     let mut sign = ":";
     for change in changes {
-        let (target, now, before) = (change.target, Watched(change.value), Watched(change.before));
+        let (target, now, before) = (change.target, Value(change.value), Value(change.before));
         write!(text, "{sign} {target} = {now}, before {before}");
         sign = ";";
     }

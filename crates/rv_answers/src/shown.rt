@@ -1,4 +1,4 @@
-//! Texts that others wrote, as they are shown in a terminal.
+//! Texts that others wrote, as they are shown in a terminal, and numbers of things.
 use std::fmt::{self, Display, Formatter};
 
 /// A text that others wrote: a byte that may drive a terminal, and one that is in no character, is told by its digits.
@@ -32,5 +32,21 @@ impl Display for Shown<'_> {
             write_digits(chunk.invalid(), f)?;
         }
         Ok(())
+    }
+}
+
+/// A number of things of a name, as `1 step`, `2 steps` and `0 watches`.
+#[derive(Clone, Copy)]
+pub struct Count(pub u64, pub &'static str);
+
+impl Display for Count {
+    fn fmt<W: fmt::Write>(&self, f: &mut Formatter<W>) -> fmt::Result {
+        let Count(number, name) = *self;
+        let ending = match number {
+            1 => "",
+            _ if name.ends_with("ch") => "es",
+            _ => "s",
+        };
+        write!(f, "{number} {name}{ending}")
     }
 }

@@ -5,10 +5,9 @@ use crate::explained::{
     Unfetched, Write,
 };
 use crate::interrupts::sign;
-use crate::lines::{Lines, Short, append_instruction};
+use crate::lines::{Lines, append_instruction};
 use crate::moves::Watch;
-use crate::registers::{Value, register_name};
-use crate::traps::Cause;
+use crate::registers::{Cause, Value, register_name};
 use crate::values::RegisterValue;
 use rv_isa::{Kind, decode};
 use rv_pmp::Mode;
@@ -29,9 +28,7 @@ fn area_name(area: Area) -> &'static str {
 /// Appends what refused an access of a hart in a mode to an address.
 fn append_barrier(barrier: Barrier, address: u32, mode: Mode, text: &mut Printer) {
     match barrier {
-        Barrier::Absent(area) => {
-            writeln!(text, "  at {address:08x} is {}", area_name(area));
-        }
+        Barrier::Absent(area) => writeln!(text, "  at {address:08x} is {}", area_name(area)),
         Barrier::Protection { mode: asked, entry } => {
             let is_lent = mode.is_machine() && !asked.is_machine();
             let whose = sign(is_lent, " to user mode, whose rights MPRV gave it", "");
@@ -44,8 +41,9 @@ fn append_barrier(barrier: Barrier, address: u32, mode: Mode, text: &mut Printer
     }
 }
 
-/// Appends the register and the offset of which an address was made, if it was, and ends the line.
-fn append_sum(sum: Option<Sum>, text: &mut Printer) {
+/// Appends what is said of an address, and the register and the offset of which it was made, if it was, as a line.
+fn append_sum(subject: &str, address: u32, rest: &str, sum: Option<Sum>, text: &mut Printer) {
+    write!(text, "  {subject} {address:08x}{rest}");
     let Some(sum) = sum else {
         return text.end();
     };
@@ -64,10 +62,8 @@ fn append_unfetched(why: Unfetched, trap: &Explained, text: &mut Printer) {
     match why {
         Unfetched::Refused(barrier) => append_barrier(barrier, trap.address, trap.mode, text),
         Unfetched::NoInstruction(word) => {
-            writeln!(
-                text,
-                "  the word {word:08x} is no instruction: did the program run on into data?"
-            );
+            write!(text, "  the word {word:08x} is no instruction");
+            text.say(": did the program run on into data?\n");
         }
     }
 }
@@ -92,33 +88,24 @@ fn append_reason(trap: &Explained, text: &mut Printer) {
     let value = trap.value;
     match trap.reason {
         Reason::NotFetched(why) => append_unfetched(why, trap, text),
-        Reason::Target(sum) => {
-            write!(text, "  the target is {value:08x}");
-            append_sum(sum, text);
-        }
+        Reason::Target(sum) => append_sum("the target is", value, "", sum, text),
         Reason::Misaligned { sum, .. } => {
-            write!(
-                text,
-                "  the address {value:08x} is no multiple of the access's size"
-            );
-            append_sum(Some(sum), text);
+            let rest = " is no multiple of the access's size";
+            append_sum("the address", value, rest, Some(sum), text);
         }
         Reason::Refused { sum, barrier } => {
-            write!(text, "  the address is {value:08x}");
-            append_sum(Some(sum), text);
+            append_sum("the address is", value, "", Some(sum), text);
             append_barrier(barrier, value, trap.mode, text);
         }
         reason => append_illegal(reason, value, text),
     }
 }
 
-/// Appends that the word of an instruction was another one at reset.
-fn append_overwritten(word: Option<u32>, text: &mut Printer) {
-    if word.is_some() {
-        text.say("  the program changed it: at reset it was ");
-        append_instruction(word, text);
-        text.end();
-    }
+/// Appends a word of memory and its instruction as a line that begins with a text.
+fn append_word_at(start: &str, word: Option<u32>, text: &mut Printer) {
+    text.say(start);
+    append_instruction(word, text);
+    text.end();
 }
 
 /// Returns what isn't where a handler should be.
@@ -136,11 +123,9 @@ const KEPT: u64 = 64;
 /// The bit of a cause that tells an interrupt.
 const INTERRUPT: u32 = 1 << 31;
 
-impl Repeated {
-    /// Returns whether this is a trap that is explained.
-    fn is_of(self, trap: &Explained) -> bool {
-        self.cause == trap.cause && self.value == trap.value && self.address == trap.address
-    }
+/// Returns whether the last trap is one that is explained.
+fn is_same(last: Repeated, trap: &Explained) -> bool {
+    last.cause == trap.cause && last.value == trap.value && last.address == trap.address
 }
 
 /// Returns whether a trap came right after the return from a handler.
@@ -154,18 +139,6 @@ fn follows_return(trap: &Explained) -> bool {
     false
 }
 
-/// Appends that a trap met no handler. From the base of mtvec each further step traps to it again.
-fn append_missing(handler: Handler, missing: Unfetched, text: &mut Printer) {
-    let (at, mtvec, name) = (handler.address, handler.mtvec, missing_name(missing));
-    write!(text, "  it met no handler: mtvec is {mtvec:08x}, ");
-    // In a table of handlers each interrupt has a place of its own.
-    if at != mtvec / 4 * 4 {
-        writeln!(text, "and at {at:08x}, the place of this interrupt, {name}");
-    } else {
-        writeln!(text, "where {name}, so each further step trapped as well");
-    }
-}
-
 /// Appends a register that an instruction read, with its value. That of x0 is no news.
 fn append_read(read: Option<RegisterValue>, text: &mut Printer) {
     if let Some(one) = read
@@ -175,29 +148,18 @@ fn append_read(read: Option<RegisterValue>, text: &mut Printer) {
     }
 }
 
-/// Appends the instruction of a write, and what it read.
-fn append_writer(write: Write, text: &mut Printer) {
-    text.say("  ");
-    append_instruction(write.word, text);
-    append_read(write.first, text);
-    append_read(write.second, text);
-    if let Some(address) = write.accessed {
-        write!(text, ", at {address:08x}");
-    }
-    text.end();
-}
-
 impl Lines<'_> {
-    /// Appends where a trap came: its line, and its instruction.
-    fn append_trap_place(self, trap: &Explained, text: &mut Printer) {
-        let place = self.place_at(trap.address, trap.word);
+    /// Appends the instruction of a write, with its place and what it read.
+    fn append_writer(self, write: Write, text: &mut Printer) {
+        self.append_here(self.place_at(write.address, write.word), text);
         text.say("  ");
-        self.append_here(place, text);
-        if place.line.is_some() {
-            text.say("  ");
-            append_instruction(trap.word, text);
-            text.end();
+        append_instruction(write.word, text);
+        append_read(write.first, text);
+        append_read(write.second, text);
+        if let Some(address) = write.accessed {
+            write!(text, ", at {address:08x}");
         }
+        text.end();
     }
 
     /// Appends the step that wrote a word of the program last.
@@ -205,8 +167,7 @@ impl Lines<'_> {
         let is_stack = write.second.is_some_and(|one| one.register.number() == 2);
         let how = sign(is_stack, ": the stack ran into it", "");
         write!(text, "  step {} wrote it{how}: ", write.step);
-        self.append_here(self.place_at(write.address, write.word), text);
-        append_writer(write, text);
+        self.append_writer(write, text);
     }
 
     /// Appends the instruction from which pc came.
@@ -214,26 +175,40 @@ impl Lines<'_> {
         text.say("  pc came from ");
         self.append_here(self.place_at(before.address, before.word), text);
         if before.sum.is_some() {
-            write!(text, "  the target is {target:08x}");
-            append_sum(before.sum, text);
+            append_sum("the target is", target, "", before.sum, text);
         }
     }
 
-    /// Appends where a trap went.
+    /// Appends where a trap went. From the base of mtvec each further step traps to it again, if it met no handler.
     fn append_handler(self, handler: Handler, text: &mut Printer) {
-        if let Some(missing) = handler.missing {
-            return append_missing(handler, missing, text);
+        let (at, mtvec) = (handler.address, handler.mtvec);
+        let Some(missing) = handler.missing else {
+            return writeln!(text, "  it went to{}", self.short_at(at));
+        };
+        let name = missing_name(missing);
+        write!(text, "  it met no handler: mtvec is {mtvec:08x}, ");
+        // In a table of handlers each interrupt has a place of its own.
+        if at != mtvec / 4 * 4 {
+            writeln!(text, "and at {at:08x}, the place of this interrupt, {name}");
+        } else {
+            writeln!(text, "where {name}, so each further step trapped as well");
         }
-        let place = Short(self, self.place_at(handler.address, None));
-        writeln!(text, "  it went to{place}");
     }
 
     /// Appends a trap with why it came and where it went.
     fn append_explained(self, trap: &Explained, text: &mut Printer) {
         writeln!(text, "step {}: trap {}", trap.step, Cause(trap.cause));
-        self.append_trap_place(trap, text);
+        let place = self.place_at(trap.address, trap.word);
+        text.say("  ");
+        self.append_here(place, text);
+        if place.line.is_some() {
+            append_word_at("  ", trap.word, text);
+        }
         append_reason(trap, text);
-        append_overwritten(trap.overwritten, text);
+        if trap.overwritten.is_some() {
+            let sentence = "  the program changed it: at reset it was ";
+            append_word_at(sentence, trap.overwritten, text);
+        }
         if let Some(write) = trap.writer {
             self.append_changer(write, text);
         }
@@ -272,12 +247,12 @@ impl Lines<'_> {
         if last.times < KEPT || trap.handler.missing.is_some() {
             return;
         }
-        let is_same = last.is_of(trap);
+        let is_same = is_same(last, trap);
         if is_same {
             text.say("  the same trap");
         } else {
-            let place = Short(self, self.place_at(last.address, None));
-            write!(text, "  the last trap, {}, at{place},", Cause(last.cause));
+            let (cause, place) = (Cause(last.cause), self.short_at(last.address));
+            write!(text, "  the last trap, {cause}, at{place},");
         }
         write!(text, " came {} times in a row or more", last.times);
         if is_same {
@@ -287,7 +262,7 @@ impl Lines<'_> {
     }
 
     /// Appends what is told of the traps of some steps.
-    pub fn append_explanation(self, told: &Explanation, text: &mut Printer) {
+    pub(crate) fn append_explanation(self, told: &Explanation, text: &mut Printer) {
         let is_cut = told.unseen > 0;
         let Some(trap) = told.trap else {
             let when = sign(is_cut, "in the first 20000000 steps", "so far");
@@ -308,18 +283,14 @@ impl Lines<'_> {
         let Origin { target, value, .. } = *origin;
         let now = Watch { target, value };
         let Some(write) = origin.write else {
-            let steps = origin.steps;
-            return writeln!(
-                text,
-                "{now}, as at reset: no step up to step {steps} wrote it"
-            );
+            write!(text, "{now}, as at reset: ");
+            return writeln!(text, "no step up to step {} wrote it", origin.steps);
         };
         write!(text, "step {}: {now}", write.step);
         if let Some(word) = write.before {
-            write!(text, "; before, it was {}", Value(word));
+            write!(text, "; before, it was {}", Value(Some(word)));
         }
         text.say("\n  ");
-        self.append_here(self.place_at(write.address, write.word), text);
-        append_writer(write, text);
+        self.append_writer(write, text);
     }
 }
