@@ -3,8 +3,9 @@ ghost use Rattle.rv_json.specs.Json.{barrier_data, before_data, breach_data, dev
 ghost use Rattle.serde_json.specs.Data.{string};
 
 use crate::names::Names;
-use crate::object::{object, send_kind, send_one};
+use crate::object::{object, send, send_kind, send_one};
 use crate::sent::ToJson;
+use crate::words::{area_word, entry_word, reached_word};
 use rv_answers::{
     Barrier, Before, Breach, Deviation, Explained, Frame, Handler, Outermost, Reason, Repeated,
     Return, Spent, Sum, Unfetched, Unrestored, Write, is_guess,
@@ -18,9 +19,9 @@ impl ToJson for Barrier {
     fn send<S: Serializer>(&self, names: &Names<'_>, out: &mut S) -> Result<(), S::Error> {
         match self {
             Barrier::Protection { mode, entry } => {
-                object!(_: kind = "protection", mode, entry).send(names, out)
+                send!(names, out, _: kind = "protection", mode, entry)
             }
-            Barrier::Absent(area) => send_one("absent", "area", area, names, out),
+            Barrier::Absent(area) => send_one("absent", "area", &area_word(*area), names, out),
         }
     }
 }
@@ -42,7 +43,7 @@ impl ToJson for Sum {
 
     #[tactic(auto, unfolding(crate::specs::Json::sum_data))]
     fn send<S: Serializer>(&self, names: &Names<'_>, out: &mut S) -> Result<(), S::Error> {
-        object!(self: base = self.base.number(), value, offset).send(names, out)
+        send!(names, out, self: base = self.base.number(), value, offset)
     }
 }
 
@@ -58,10 +59,10 @@ impl ToJson for Reason {
             Reason::Break => send_kind("break", names, out),
             Reason::Target(sum) => send_one("target", "sum", sum, names, out),
             Reason::Misaligned { size, sum } => {
-                object!(_: kind = "misaligned", size, sum).send(names, out)
+                send!(names, out, _: kind = "misaligned", size, sum)
             }
             Reason::Refused { sum, barrier } => {
-                object!(_: kind = "refused", sum, barrier).send(names, out)
+                send!(names, out, _: kind = "refused", sum, barrier)
             }
             Reason::NoRegister(csr) => send_one("no_register", "csr", csr, names, out),
             Reason::ReadOnly(csr) => send_one("read_only", "csr", csr, names, out),
@@ -75,7 +76,7 @@ impl ToJson for Before {
 
     #[tactic(auto, unfolding(crate::specs::Json::before_data))]
     fn send<S: Serializer>(&self, names: &Names<'_>, out: &mut S) -> Result<(), S::Error> {
-        object!(self: address, word, sum).send(names, out)
+        send!(names, out, self: address, word, sum)
     }
 }
 
@@ -84,7 +85,7 @@ impl ToJson for Handler {
 
     #[tactic(auto, unfolding(crate::specs::Json::handler_data))]
     fn send<S: Serializer>(&self, names: &Names<'_>, out: &mut S) -> Result<(), S::Error> {
-        object!(self: address, mtvec, missing).send(names, out)
+        send!(names, out, self: address, mtvec, missing)
     }
 }
 
@@ -93,9 +94,7 @@ impl ToJson for Explained {
 
     #[tactic(auto, unfolding(crate::specs::Json::explained_data))]
     fn send<S: Serializer>(&self, names: &Names<'_>, out: &mut S) -> Result<(), S::Error> {
-        object!(self: step, cause, value, address, mode, word, overwritten, writer, reason, before, handler).send(
-            names, out,
-        )
+        send!(names, out, self: step, cause, value, address, mode, word, overwritten, writer, reason, before, handler)
     }
 }
 
@@ -104,7 +103,7 @@ impl ToJson for Repeated {
 
     #[tactic(auto, unfolding(crate::specs::Json::repeated_data))]
     fn send<S: Serializer>(&self, names: &Names<'_>, out: &mut S) -> Result<(), S::Error> {
-        object!(self: cause, value, address, times).send(names, out)
+        send!(names, out, self: cause, value, address, times)
     }
 }
 
@@ -113,7 +112,7 @@ impl ToJson for Write {
 
     #[tactic(auto, unfolding(crate::specs::Json::write_data))]
     fn send<S: Serializer>(&self, names: &Names<'_>, out: &mut S) -> Result<(), S::Error> {
-        object!(self: step, address, word, before, first, second, accessed).send(names, out)
+        send!(names, out, self: step, address, word, before, first, second, accessed)
     }
 }
 
@@ -122,7 +121,7 @@ impl ToJson for Unrestored {
 
     #[tactic(auto, unfolding(crate::specs::Json::unrestored_data))]
     fn send<S: Serializer>(&self, names: &Names<'_>, out: &mut S) -> Result<(), S::Error> {
-        object!(self: register = self.register.number(), entry, now).send(names, out)
+        send!(names, out, self: register = self.register.number(), entry, now)
     }
 }
 
@@ -131,7 +130,7 @@ impl ToJson for Return {
 
     #[tactic(auto, unfolding(crate::specs::Json::return_data))]
     fn send<S: Serializer>(&self, names: &Names<'_>, out: &mut S) -> Result<(), S::Error> {
-        object!(self: kind = "return", entry, from, wanted, target, registers).send(names, out)
+        send!(names, out, self: kind = "return", entry = entry_word(self.entry), from, wanted, target, registers)
     }
 }
 
@@ -152,7 +151,7 @@ impl ToJson for Breach {
 
     #[tactic(auto, unfolding(crate::specs::Json::breach_data))]
     fn send<S: Serializer>(&self, names: &Names<'_>, out: &mut S) -> Result<(), S::Error> {
-        object!(self: step, address, deviation).send(names, out)
+        send!(names, out, self: step, address, deviation)
     }
 }
 
@@ -161,7 +160,7 @@ impl ToJson for Frame {
 
     #[tactic(auto, unfolding(crate::specs::Json::frame_data))]
     fn send<S: Serializer>(&self, names: &Names<'_>, out: &mut S) -> Result<(), S::Error> {
-        object!(self: address, sp, reached, is_guess = is_guess(self.reached)).send(names, out)
+        send!(names, out, self: address, sp, reached = reached_word(self.reached), is_guess = is_guess(self.reached))
     }
 }
 
@@ -189,6 +188,6 @@ impl ToJson for Spent {
 
     #[tactic(auto, unfolding(crate::specs::Json::spent_data))]
     fn send<S: Serializer>(&self, names: &Names<'_>, out: &mut S) -> Result<(), S::Error> {
-        object!(self: line, address, steps).send(names, out)
+        send!(names, out, self: line, address, steps)
     }
 }

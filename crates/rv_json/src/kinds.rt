@@ -4,14 +4,14 @@ ghost use Rattle.serde_json.specs.Data.{string};
 ghost use Rattle.std.specs.Prelude.{◌≡◌};
 
 use crate::names::Names;
-use crate::object::object;
+use crate::object::{object, send};
 use crate::parts::MaybeText;
 use crate::sent::{Text, ToJson};
-use crate::words::Format;
+use crate::words::{aim_word, ending_word, why_word};
 use rv_answers::{
-    Aim, Backtrace, Breakpoint, Breakpoints, Checked, Cleared, ControlValue, Devices, Dump, Edges,
-    Explanation, Given, Origin, Profiled, Refusal, RegisterFile, Run, Saved, Stepped, Trace, Trap,
-    Watch, Why,
+    Aim, Backtrace, Breakpoint, Breakpoints, Cells, Checked, Cleared, ControlValue, Devices, Dump,
+    Edges, Explanation, Given, Origin, Profiled, Refusal, RegisterFile, Run, Saved, Stepped, Trace,
+    Trap, Watch, Why,
 };
 use serde::Serializer;
 
@@ -20,7 +20,7 @@ impl ToJson for RegisterFile {
 
     #[tactic(auto, unfolding(crate::specs::Json::file_data))]
     fn send<S: Serializer>(&self, names: &Names<'_>, out: &mut S) -> Result<(), S::Error> {
-        object!(self: kind = "registers", before, now, mode, here).send(names, out)
+        send!(names, out, self: kind = "registers", before, now, mode, here)
     }
 }
 
@@ -29,18 +29,23 @@ impl ToJson for ControlValue {
 
     #[tactic(auto, unfolding(crate::specs::Json::control_data))]
     fn send<S: Serializer>(&self, names: &Names<'_>, out: &mut S) -> Result<(), S::Error> {
-        object!(self: kind = "csr", name = Text(&self.name), csr, value, bits).send(names, out)
+        send!(names, out, self: kind = "csr", name = Text(&self.name), csr, value, bits)
     }
 }
 
 impl ToJson for Dump {
     ghost json = { λ _ d. dump_data d };
 
-    #[tactic(auto, unfolding(crate::specs::Json::dump_data))]
+    #[tactic(auto, unfolding(crate::specs::Json::dump_data, crate::specs::Json::cells_data, crate::specs::Json::format_data))]
     fn send<S: Serializer>(&self, names: &Names<'_>, out: &mut S) -> Result<(), S::Error> {
-        object!(self: kind = "memory", address, format = Format(&self.cells), cells).send(
-            names, out,
-        )
+        match &self.cells {
+            Cells::Bytes(cells) =>
+                send!(names, out, self: kind = "memory", address, format = "bytes", cells = *cells),
+            Cells::Words(cells) =>
+                send!(names, out, self: kind = "memory", address, format = "words", cells = *cells),
+            Cells::Text(text) =>
+                send!(names, out, self: kind = "memory", address, format = "text", cells = Text(text)),
+        }
     }
 }
 
@@ -49,18 +54,19 @@ impl ToJson for Edges {
 
     #[tactic(auto, unfolding(crate::specs::Json::edges_data))]
     fn send<S: Serializer>(&self, names: &Names<'_>, out: &mut S) -> Result<(), S::Error> {
-        object!(self: kind = "edges", source, pending).send(names, out)
+        send!(names, out, self: kind = "edges", source, pending)
     }
 }
 
 impl ToJson for Devices {
     ghost json = { λ _ d. devices_data d };
 
-    #[tactic(auto, unfolding(crate::specs::Json::devices_data))]
+    #[tactic(auto, unfolding(crate::specs::Json::devices_data, crate::specs::Json::clock_data, crate::specs::Json::port_data, crate::specs::Json::interrupts_data))]
     fn send<S: Serializer>(&self, names: &Names<'_>, out: &mut S) -> Result<(), S::Error> {
-        object!(self: kind = "devices", clock, port, interrupts, threshold, is_notified, sources, regions).send(
-            names, out,
-        )
+        send!(names, out, self: kind = "devices", clock = object!((self.clock): time, compare, is_due, software),
+            port = object!((self.port): waiting, sent, overrun),
+            interrupts = object!((self.interrupts): mode, mstatus, mie, mip, next),
+            threshold, is_notified, sources, regions)
     }
 }
 
@@ -91,9 +97,8 @@ impl ToJson for Run {
 
     #[tactic(auto, unfolding(crate::specs::Json::run_data, crate::specs::Support::Sends::Sends))]
     fn send<S: Serializer>(&self, names: &Names<'_>, out: &mut S) -> Result<(), S::Error> {
-        object!(self: kind = "ended", ending, aim, trap = met(self.aim), watch = watched(self.aim), steps, changed,
-            watched, standing)
-        .send(names, out)
+        send!(names, out, self: kind = "ended", ending = ending_word(self.ending), aim = aim_word(self.aim),
+            trap = met(self.aim), watch = watched(self.aim), steps, changed, watched, standing)
     }
 }
 
@@ -102,7 +107,7 @@ impl ToJson for Stepped {
 
     #[tactic(auto, unfolding(crate::specs::Json::stepped_data))]
     fn send<S: Serializer>(&self, names: &Names<'_>, out: &mut S) -> Result<(), S::Error> {
-        object!(self: kind = "stepped", step, standing).send(names, out)
+        send!(names, out, self: kind = "stepped", step, standing)
     }
 }
 
@@ -111,7 +116,7 @@ impl ToJson for Trace {
 
     #[tactic(auto, unfolding(crate::specs::Json::trace_data))]
     fn send<S: Serializer>(&self, names: &Names<'_>, out: &mut S) -> Result<(), S::Error> {
-        object!(self: kind = "traced", steps, ending, standing).send(names, out)
+        send!(names, out, self: kind = "traced", steps, ending = ending_word(self.ending), standing)
     }
 }
 
@@ -120,9 +125,7 @@ impl ToJson for Breakpoint {
 
     #[tactic(auto, unfolding(crate::specs::Json::breakpoint_data))]
     fn send<S: Serializer>(&self, names: &Names<'_>, out: &mut S) -> Result<(), S::Error> {
-        object!(self: kind = "break", place, condition = MaybeText(&self.condition), passes).send(
-            names, out,
-        )
+        send!(names, out, self: kind = "break", place, condition = MaybeText(&self.condition), passes)
     }
 }
 
@@ -131,7 +134,7 @@ impl ToJson for Breakpoints {
 
     #[tactic(auto, unfolding(crate::specs::Json::breakpoints_data))]
     fn send<S: Serializer>(&self, names: &Names<'_>, out: &mut S) -> Result<(), S::Error> {
-        object!(self: kind = "breakpoints", places, conditions, watches).send(names, out)
+        send!(names, out, self: kind = "breakpoints", places, conditions, watches)
     }
 }
 
@@ -140,7 +143,7 @@ impl ToJson for Cleared {
 
     #[tactic(auto, unfolding(crate::specs::Json::cleared_data))]
     fn send<S: Serializer>(&self, names: &Names<'_>, out: &mut S) -> Result<(), S::Error> {
-        object!(self: kind = "cleared", place, was_there).send(names, out)
+        send!(names, out, self: kind = "cleared", place, was_there)
     }
 }
 
@@ -149,7 +152,7 @@ impl ToJson for Given {
 
     #[tactic(auto, unfolding(crate::specs::Json::given_data))]
     fn send<S: Serializer>(&self, names: &Names<'_>, out: &mut S) -> Result<(), S::Error> {
-        object!(self: kind = "given", inputs, steps, is_halted).send(names, out)
+        send!(names, out, self: kind = "given", inputs, steps, is_halted)
     }
 }
 
@@ -158,9 +161,8 @@ impl ToJson for Saved {
 
     #[tactic(auto, unfolding(crate::specs::Json::saved_data))]
     fn send<S: Serializer>(&self, names: &Names<'_>, out: &mut S) -> Result<(), S::Error> {
-        object!(self: kind = "saved", name = MaybeText(&self.name), list = Text(&self.list), inputs,
+        send!(names, out, self: kind = "saved", name = MaybeText(&self.name), list = Text(&self.list), inputs,
             commands = Text(&self.commands), steps, limit, pages)
-        .send(names, out)
     }
 }
 
@@ -169,7 +171,7 @@ impl ToJson for Explanation {
 
     #[tactic(auto, unfolding(crate::specs::Json::explanation_data))]
     fn send<S: Serializer>(&self, names: &Names<'_>, out: &mut S) -> Result<(), S::Error> {
-        object!(self: kind = "why", trap, unseen, repeated).send(names, out)
+        send!(names, out, self: kind = "why", trap, unseen, repeated)
     }
 }
 
@@ -178,7 +180,7 @@ impl ToJson for Origin {
 
     #[tactic(auto, unfolding(crate::specs::Json::origin_data))]
     fn send<S: Serializer>(&self, names: &Names<'_>, out: &mut S) -> Result<(), S::Error> {
-        object!(self: kind = "origin", target, steps, value, write).send(names, out)
+        send!(names, out, self: kind = "origin", target, steps, value, write)
     }
 }
 
@@ -187,7 +189,7 @@ impl ToJson for Backtrace {
 
     #[tactic(auto, unfolding(crate::specs::Json::backtrace_data))]
     fn send<S: Serializer>(&self, names: &Names<'_>, out: &mut S) -> Result<(), S::Error> {
-        object!(self: kind = "backtrace", frames, outermost).send(names, out)
+        send!(names, out, self: kind = "backtrace", frames, outermost)
     }
 }
 
@@ -196,7 +198,7 @@ impl ToJson for Checked {
 
     #[tactic(auto, unfolding(crate::specs::Json::checked_data))]
     fn send<S: Serializer>(&self, names: &Names<'_>, out: &mut S) -> Result<(), S::Error> {
-        object!(self: kind = "checked", steps, has_halted, breaches).send(names, out)
+        send!(names, out, self: kind = "checked", steps, has_halted, breaches)
     }
 }
 
@@ -205,7 +207,7 @@ impl ToJson for Profiled {
 
     #[tactic(auto, unfolding(crate::specs::Json::profiled_data))]
     fn send<S: Serializer>(&self, names: &Names<'_>, out: &mut S) -> Result<(), S::Error> {
-        object!(self: kind = "profiled", steps, has_halted, lines, functions).send(names, out)
+        send!(names, out, self: kind = "profiled", steps, has_halted, lines, functions)
     }
 }
 
@@ -225,8 +227,6 @@ impl ToJson for Refusal {
 
     #[tactic(auto, unfolding(crate::specs::Json::refusal_data))]
     fn send<S: Serializer>(&self, names: &Names<'_>, out: &mut S) -> Result<(), S::Error> {
-        object!(self: kind = "refused", command, text = Text(&self.text), why, address = lineless(self.why)).send(
-            names, out,
-        )
+        send!(names, out, self: kind = "refused", command, text = Text(&self.text), why = why_word(self.why), address = lineless(self.why))
     }
 }

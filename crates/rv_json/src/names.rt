@@ -25,12 +25,7 @@ impl<'a> Names<'a> {
     pub(crate) fn label(&self, place: &Place) -> Option<Name<'a>>
         ensures { result ≡ label_of (labels self.now) place.now }
     {
-        match place.distance {
-            Some(_) => match self.listing.label_before(place.address) {
-                Some(near) => Some(near.name),
-                None => None,
-            },
-            None => None,
-        }
+        place.distance?;
+        Some(self.listing.label_before(place.address)?.name)
     }
 }

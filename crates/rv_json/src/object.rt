@@ -112,6 +112,15 @@ macro_rules! object {
 
 pub(crate) use object;
 
+/// Sends an object, of which `object!` tells the members.
+macro_rules! send {
+    ($names:ident, $out:ident, $($row:tt)+) => {
+        $crate::object::object!($($row)+).send($names, $out)
+    };
+}
+
+pub(crate) use send;
+
 /// Sends an object that has a kind alone.
 pub(crate) fn send_kind<S: Serializer>(
     kind: &str,
@@ -121,7 +130,7 @@ pub(crate) fn send_kind<S: Serializer>(
     ensures { OnOk result (Sends (object (member (codes "kind") (string kind.now) no_members))
         (S.written out.old) (S.written out.new)) }
 {
-    object!(_: kind = kind).send(names, out)
+    send!(names, out, _: kind = kind)
 }
 
 /// Sends an object that has a kind and one other member.

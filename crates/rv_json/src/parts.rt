@@ -1,13 +1,13 @@
-//! The parts of what the commands answer: places, registers, devices, steps and what is watched.
-ghost use Rattle.rv_json.specs.Json.{bits_data, break_condition_data, cells_data, change_data, clock_data, interrupts_data, option_data, place_data, port_data, range_data, region_data, register_data, rights_data, row_data, source_data, standing_data, step_data, target_data, text_data, trap_data, watch_data};
+//! The parts of what the commands answer: places, registers, protection, steps and what is watched.
+ghost use Rattle.rv_json.specs.Json.{bits_data, break_condition_data, change_data, option_data, place_data, range_data, region_data, register_data, rights_data, row_data, source_data, standing_data, step_data, target_data, text_data, trap_data, watch_data};
 ghost use Rattle.serde_json.specs.Data.{string};
 
 use crate::names::Names;
-use crate::object::{object, send_one};
+use crate::object::{object, send, send_one};
 use crate::sent::{Text, ToJson, send_null};
 use rv_answers::{
-    Bits, BreakCondition, Cells, Change, Clock, Interrupts, Many, Place, Port, Range, Region,
-    RegisterValue, Rights, Row, SourceState, Standing, Step, Target, Trap, Watch,
+    Bits, BreakCondition, Change, Many, Place, Range, Region, RegisterValue, Rights, Row,
+    SourceState, Standing, Step, Target, Trap, Watch,
 };
 use serde::Serializer;
 
@@ -16,7 +16,7 @@ impl ToJson for Place {
 
     #[tactic(auto, unfolding(crate::specs::Json::place_data, crate::specs::Support::Sends::Sends))]
     fn send<S: Serializer>(&self, names: &Names<'_>, out: &mut S) -> Result<(), S::Error> {
-        object!(self: address, label = names.label(self), distance, line, word).send(names, out)
+        send!(names, out, self: address, label = names.label(self), distance, line, word)
     }
 }
 
@@ -25,7 +25,7 @@ impl ToJson for Standing {
 
     #[tactic(auto, unfolding(crate::specs::Json::standing_data))]
     fn send<S: Serializer>(&self, names: &Names<'_>, out: &mut S) -> Result<(), S::Error> {
-        object!(self: kind = "where", steps, mode, halted, here).send(names, out)
+        send!(names, out, self: kind = "where", steps, mode, halted, here)
     }
 }
 
@@ -34,7 +34,7 @@ impl ToJson for Row {
 
     #[tactic(auto, unfolding(crate::specs::Json::row_data))]
     fn send<S: Serializer>(&self, names: &Names<'_>, out: &mut S) -> Result<(), S::Error> {
-        object!(self: number, is_here, is_marked, address, word, has_more).send(names, out)
+        send!(names, out, self: number, is_here, is_marked, address, word, has_more)
     }
 }
 
@@ -43,7 +43,7 @@ impl ToJson for Trap {
 
     #[tactic(auto, unfolding(crate::specs::Json::trap_data))]
     fn send<S: Serializer>(&self, names: &Names<'_>, out: &mut S) -> Result<(), S::Error> {
-        object!(self: cause, value, place, times).send(names, out)
+        send!(names, out, self: cause, value, place, times)
     }
 }
 
@@ -52,7 +52,7 @@ impl ToJson for RegisterValue {
 
     #[tactic(auto, unfolding(crate::specs::Json::register_data))]
     fn send<S: Serializer>(&self, names: &Names<'_>, out: &mut S) -> Result<(), S::Error> {
-        object!(self: kind = "register", register = self.register.number(), value).send(names, out)
+        send!(names, out, self: kind = "register", register = self.register.number(), value)
     }
 }
 
@@ -68,54 +68,14 @@ impl ToJson for Bits {
                 mpp,
                 mprv,
                 tw,
-            } => { object!(_: kind = "status", mie, mpie, mpp, mprv, tw).send(names, out) }
+            } => { send!(names, out, _: kind = "status", mie, mpie, mpp, mprv, tw) }
             Bits::Lines {
                 software,
                 timer,
                 external,
-            } => { object!(_: kind = "lines", software, timer, external).send(names, out) }
+            } => { send!(names, out, _: kind = "lines", software, timer, external) }
             Bits::Cause(cause) => send_one("cause", "cause", cause, names, out),
         }
-    }
-}
-
-impl ToJson for Cells {
-    ghost json = { λ _ c. cells_data c };
-
-    #[tactic(auto, unfolding(crate::specs::Json::cells_data))]
-    fn send<S: Serializer>(&self, names: &Names<'_>, out: &mut S) -> Result<(), S::Error> {
-        match self {
-            Cells::Bytes(bytes) => bytes.send(names, out),
-            Cells::Words(words) => words.send(names, out),
-            Cells::Text(bytes) => Text(bytes).send(names, out),
-        }
-    }
-}
-
-impl ToJson for Clock {
-    ghost json = { λ _ c. clock_data c };
-
-    #[tactic(auto, unfolding(crate::specs::Json::clock_data))]
-    fn send<S: Serializer>(&self, names: &Names<'_>, out: &mut S) -> Result<(), S::Error> {
-        object!(self: time, compare, is_due, software).send(names, out)
-    }
-}
-
-impl ToJson for Port {
-    ghost json = { λ _ p. port_data p };
-
-    #[tactic(auto, unfolding(crate::specs::Json::port_data))]
-    fn send<S: Serializer>(&self, names: &Names<'_>, out: &mut S) -> Result<(), S::Error> {
-        object!(self: waiting, sent, overrun).send(names, out)
-    }
-}
-
-impl ToJson for Interrupts {
-    ghost json = { λ _ i. interrupts_data i };
-
-    #[tactic(auto, unfolding(crate::specs::Json::interrupts_data))]
-    fn send<S: Serializer>(&self, names: &Names<'_>, out: &mut S) -> Result<(), S::Error> {
-        object!(self: mode, mstatus, mie, mip, next).send(names, out)
     }
 }
 
@@ -124,9 +84,7 @@ impl ToJson for SourceState {
 
     #[tactic(auto, unfolding(crate::specs::Json::source_data))]
     fn send<S: Serializer>(&self, names: &Names<'_>, out: &mut S) -> Result<(), S::Error> {
-        object!(self: source, is_high, is_pending, is_claimed, is_enabled, priority, edges).send(
-            names, out,
-        )
+        send!(names, out, self: source, is_high, is_pending, is_claimed, is_enabled, priority, edges)
     }
 }
 
@@ -135,7 +93,7 @@ impl ToJson for Rights {
 
     #[tactic(auto, unfolding(crate::specs::Json::rights_data))]
     fn send<S: Serializer>(&self, names: &Names<'_>, out: &mut S) -> Result<(), S::Error> {
-        object!(self: read, write, execute).send(names, out)
+        send!(names, out, self: read, write, execute)
     }
 }
 
@@ -144,7 +102,7 @@ impl ToJson for Range {
 
     #[tactic(auto, unfolding(crate::specs::Json::range_data))]
     fn send<S: Serializer>(&self, names: &Names<'_>, out: &mut S) -> Result<(), S::Error> {
-        object!(self: first, last).send(names, out)
+        send!(names, out, self: first, last)
     }
 }
 
@@ -153,7 +111,7 @@ impl ToJson for Region {
 
     #[tactic(auto, unfolding(crate::specs::Json::region_data))]
     fn send<S: Serializer>(&self, names: &Names<'_>, out: &mut S) -> Result<(), S::Error> {
-        object!(self: entry, range, user, machine, is_locked).send(names, out)
+        send!(names, out, self: entry, range, user, machine, is_locked)
     }
 }
 
@@ -163,8 +121,8 @@ impl ToJson for Target {
     #[tactic(auto, unfolding(crate::specs::Json::target_data))]
     fn send<S: Serializer>(&self, names: &Names<'_>, out: &mut S) -> Result<(), S::Error> {
         match self {
-            Target::Register(register) => object!(_: register = register.number()).send(names, out),
-            Target::Word(address) => object!(_: address).send(names, out),
+            Target::Register(register) => send!(names, out, _: register = register.number()),
+            Target::Word(address) => send!(names, out, _: address),
         }
     }
 }
@@ -174,7 +132,7 @@ impl ToJson for Watch {
 
     #[tactic(auto, unfolding(crate::specs::Json::watch_data))]
     fn send<S: Serializer>(&self, names: &Names<'_>, out: &mut S) -> Result<(), S::Error> {
-        object!(self: target, value).send(names, out)
+        send!(names, out, self: target, value)
     }
 }
 
@@ -183,7 +141,7 @@ impl ToJson for Change {
 
     #[tactic(auto, unfolding(crate::specs::Json::change_data))]
     fn send<S: Serializer>(&self, names: &Names<'_>, out: &mut S) -> Result<(), S::Error> {
-        object!(self: target, before, value).send(names, out)
+        send!(names, out, self: target, before, value)
     }
 }
 
@@ -192,7 +150,7 @@ impl ToJson for Step {
 
     #[tactic(auto, unfolding(crate::specs::Json::step_data))]
     fn send<S: Serializer>(&self, names: &Names<'_>, out: &mut S) -> Result<(), S::Error> {
-        object!(self: number, place, trap, changed).send(names, out)
+        send!(names, out, self: number, place, trap, changed)
     }
 }
 
@@ -217,6 +175,6 @@ impl ToJson for BreakCondition {
 
     #[tactic(auto, unfolding(crate::specs::Json::break_condition_data))]
     fn send<S: Serializer>(&self, names: &Names<'_>, out: &mut S) -> Result<(), S::Error> {
-        object!(self: address, text = MaybeText(&self.text), passes).send(names, out)
+        send!(names, out, self: address, text = MaybeText(&self.text), passes)
     }
 }

@@ -6,7 +6,7 @@ ghost use Rattle.rv_asm.specs.Seen.{seen};
 ghost use Rattle.rv_json.specs.Json.{answer_data, faults_data, reply_data};
 ghost use Rattle.rv_json.specs.Support.Labels.{labels};
 
-use crate::faults::{Fault, Faults};
+use crate::faults::{Fault, misplaced};
 use crate::names::Names;
 use crate::object::object;
 use crate::sent::{Bytes, ToJson};
@@ -54,25 +54,9 @@ pub fn answer_json(alloc: Global, listing: Listing<'_>, answer: &Answer) -> Resu
     text_of(alloc, listing, answer)
 }
 
-/// What a command answers, a word for what follows it, and what the console got meanwhile.
-#[derive(Clone, Copy)]
-struct Exchange<'a> {
-    answer: &'a Answer,
-    next: &'a str,
-    console: &'a [u8],
-}
-
-impl ToJson for Exchange<'_> {
-    ghost json = { λ ls e. reply_data ls e.answer.now e.next.now e.console.now };
-
-    #[tactic(auto, unfolding(crate::specs::Json::reply_data))]
-    fn send<S: Serializer>(&self, names: &Names<'_>, out: &mut S) -> Result<(), S::Error> {
-        object!(self: answer = *self.answer, next, console = Bytes(self.console)).send(names, out)
-    }
-}
-
 /// Returns the JSON of what a command answers, with a word for what follows it and what the console got
 /// meanwhile, in one line without spaces.
+#[tactic(auto, unfolding(crate::specs::Json::reply_data))]
 pub fn reply_json(
     alloc: Global,
     listing: Listing<'_>,
@@ -83,15 +67,15 @@ pub fn reply_json(
     ensures { IfOk result (λ s. string_bytes s
         ≡ compact_text (reply_data (seen listing.entry).labels answer.now next.now console.now)) }
 {
-    let exchange = Exchange {
-        answer,
-        next,
-        console,
-    };
-    text_of(alloc, listing, &exchange)
+    text_of(
+        alloc,
+        listing,
+        &object!(_: answer, next = next, console = Bytes(console)),
+    )
 }
 
 /// Returns the JSON of the faults of a source that is rejected, in one line without spaces.
+#[tactic(auto, unfolding(crate::specs::Json::faults_data))]
 pub fn faults_json(alloc: Global, faults: &Many<Fault>) -> Result<String, NoMemory>
     ensures { IfOk result (λ s. string_bytes s ≡ compact_text (faults_data faults.now)) }
 {
@@ -103,5 +87,10 @@ pub fn faults_json(alloc: Global, faults: &Many<Fault>) -> Result<String, NoMemo
         program: &program,
         places: &places,
     };
-    text_of(alloc, listing, &Faults(faults))
+    let following = &misplaced(faults.items()).saturating_sub(1);
+    text_of(
+        alloc,
+        listing,
+        &object!(_: kind = "faults", faults, following),
+    )
 }
