@@ -1,8 +1,7 @@
 -- Runs, traces and inputs by hand: what they leave, also where memory stopped them short.
-use Rattle.std.proofs.Common.{rules, ◌≡◌, ◌∙◌, ℕ, zero, suc, ◌-◌, ◌<◌, Bool, false, List, [], ◌∷◌, refl, sym, ap, arith, ◌+◌, ◌≤◌, true, length, take, drop, get_or, subst, inr, ◌++◌}
+use Rattle.std.proofs.Common.{rules, ◌≡◌, ◌∙◌, ℕ, zero, suc, ◌-◌, ◌<◌, Bool, false, List, [], ◌∷◌, refl, sym, ap, arith, ◌+◌, ◌≤◌, true, length, take, drop, get_or, subst, ◌++◌}
 use Rattle.std.specs.Prelude.{◌&&◌, is_none, is_some, max, min, if◌then◌else◌, unwrap_or, Option, None, Result, OnOk, fold, Some, Ok, Err, OnErr}
 use Rattle.std.proofs.lemmas.List.{take_all}
-use Rattle.std.specs.Option.{option_map}
 use Rattle.rv_base.specs.declared.memory.NoMemory.{NoMemory}
 use Rattle.rv_timeline.specs.declared.input.Input.{Input}
 use Rattle.rv_timeline.specs.Timed.{never_falls}
@@ -28,10 +27,10 @@ use Rattle.rv_runs.proofs.Parts.{on_err}
 use Rattle.rv_runs.proofs.Passing.{traced_guards}
 use Rattle.rv_runs.specs.declared.guard.Guard.{Guard}
 use Rattle.rv_lab.specs.State.{LabState, sent, timed}
-use Rattle.rv_lab.specs.Commands.{gone_on, guards_by, stepped, stops_of, with_inputs, with_piece, with_steps, begun, monitored_run, piece_most, with_console, with_session, GoesOn}
-use Rattle.rv_lab.specs.Support.Short.{Traced, end_now, ran_to, stepped_by, Gives, GoesOnWith, IsOnWay, Monitors, Starts, StopsIn, told_steps}
-use Rattle.rv_lab.specs.Runs.{Leaves, run_goal}
-use Rattle.rv_lab.specs.Refusals.{Leads, RunsOut, StopsShort, by_hand, due, nowhere, steps}
+use Rattle.rv_lab.specs.Commands.{gone_on, guards_by, stepped, stops_of, with_inputs, with_piece, with_steps, begun, piece_most, with_console, with_session}
+use Rattle.rv_lab.specs.Support.Short.{Traced, end_now, ran_to, stepped_by, Gives, GoesOnWith, IsOnWay, StopsIn, told_steps}
+use Rattle.rv_lab.specs.Runs.{Leaves}
+use Rattle.rv_lab.specs.Refusals.{Leads, StopsShort, by_hand, due, nowhere, steps}
 use Rattle.rv_lab.specs.declared.order.Order.TheVariants as orders
 
 -- ---- a call of a run
@@ -210,19 +209,6 @@ pub piece_err : {A : Type 0} (r : Result A NoMemory) (p : Plan) (most : ℕ) (ol
 piece_err r p most old at_first new most_is is short =
     let s = rw (is, most_is) at short in
     on_err r (StopsShort (Some p.goal) (GoesOnWith p) old new) (gone_on p old, refl, s.0, s.1, grind (arith, s.2))
-
--- a run that a line of the monitor asks for
-pub monitor_short : {A : Type 0} (r : Result A NoMemory) (line : List ℕ) (p : Plan) (old new : LabState)
-    → Some p ≡ monitored_run line old.recording.session → OnErr r (StopsShort (Some p.goal) (Starts p) old new)
-    → OnErr r (RunsOut (run_goal (orders.Monitor line) old.recording.session) (Monitors line) old new)
-monitor_short (Ok a) line p old new e s = tt
-monitor_short (Err why) line p old new e s = rw (← e) (inr (inr s))
-
-pub continued : {A : Type 0} (r : Result A NoMemory) (p : Plan) (old new : LabState)
-    → old.plan ≡ Some p → StopsShort (Some p.goal) (GoesOnWith p) old new
-    → OnErr r (RunsOut (option_map (λ q. q.goal) old.plan) GoesOn old new)
-continued (Ok a) p old new e s = tt
-continued (Err why) p old new e s = rw e (inr (inr s))
 
 -- ---- steps that stopped short
 

@@ -26,8 +26,9 @@ use Rattle.rv_runs.proofs.Parts.{on_err}
 use Rattle.rv_lab.specs.Answers.{place_of, standing}
 use Rattle.rv_lab.specs.Commands.{begun, gone_on, guards_by, piece_most, piece_steps, stepped, with_piece, with_steps}
 use Rattle.rv_lab.specs.Refusals.{StopsShort, nowhere}
-use Rattle.rv_lab.specs.Runs.{aim_of, call_answer, changes, end_of, ending_of, next_step, next_steps, over_answer, run_answer, step_answer, step_value, trap_in, watch_changes}
+use Rattle.rv_lab.specs.Runs.{aim_of, call_answer, changes, does, end_of, ending_of, next_step, next_steps, over_answer, run_answer, step_value, trap_in, watch_changes}
 use Rattle.rv_lab.specs.State.{LabState, board, registers_of, sent, timed}
+use Rattle.rv_lab.specs.declared.order.Order.TheVariants as orders
 use Rattle.rv_lab.specs.Support.Short.{GoesOnWith, IsOnWay, Traced, told_steps}
 use Rattle.rv_lab.proofs.Runs.{told_call, traced_last, to_steps}
 
@@ -80,11 +81,12 @@ same_steps (suc n) l rs b t c p g =
 
 pub did_step : (old counted mid new : LabState) (s : Option Step) (v : Step) (st : Standing)
     → counted ≡ record old { count = 1 } → mid ≡ begun counted → s ≡ next_step mid → s ≡ Some v → st ≡ standing new
-    → answers.Stepped (record { step = v; standing = st }) ≡ step_answer old new
+    → answers.Stepped (record { step = v; standing = st }) ≡ (does orders.Once old new).answer
 did_step old counted mid new s v st one e is some stands = search (rules, arith, same_step)
 
 pub no_step : (old counted mid new : LabState) (s : Option Step) (st : Standing) → counted ≡ record old { count = 1 }
-    → mid ≡ begun counted → s ≡ next_step mid → s ≡ None → st ≡ standing new → answers.Stuck st ≡ step_answer old new
+    → mid ≡ begun counted → s ≡ next_step mid → s ≡ None → st ≡ standing new
+    → answers.Stuck st ≡ (does orders.Once old new).answer
 no_step old counted mid new s st one e is none stands = search (rules, arith)
 
 -- ---- what a step did

@@ -29,9 +29,9 @@ use Rattle.rv_recording.specs.Breaks.{IsNext}
 use Rattle.rv_answers.specs.declared.values.Place.{Place}
 use Rattle.rv_answers.specs.declared.values.Trap.{Trap}
 use Rattle.rv_answers.proofs.Regions.{one_more, next_found}
-use Rattle.rv_lab.specs.Answers.{breakpoints, distance_at, place_of, trap_of, trap_runs}
+use Rattle.rv_lab.specs.Answers.{breakpoints, place_of, trap_of, trap_runs}
 use Rattle.rv_lab.specs.State.{LabState}
-use Rattle.rv_lab.specs.Support.Rows.{label_at, first_pending}
+use Rattle.rv_lab.specs.Support.Rows.{first_pending}
 use Rattle.rv_lab.specs.Lines.{line_at}
 
 -- ---- the first number of a range that passes a test
@@ -72,12 +72,6 @@ line_is l a (Some n) here never only =
     (λ m h t. only m (inside l a m h t)))
 line_is l a None here never only =
     sym (none (λ m. is_in l m a) 1 (length l.addresses - 1) (λ m h t. never m (inside l a m h t)))
-
--- the label before an address
-pub distance_is : {N : Type 0} (f : N → List ℕ × ℕ) (near : Option N) (l : Listed) (a : ℕ) (r : Option N)
-    → near ≡ r → option_map f near ≡ label_at l a → option_map (λ (n : N). (f n).1) r ≡ distance_at l a
-unfolding distance_at label_at
-distance_is f near l a r e h = search (rules, arith)
 
 -- ---- control registers
 

@@ -2,7 +2,6 @@
 -- What each order leaves of a lab, by which a command line asks for something (this project's own: docs/LAB.md).
 use Rattle.std.specs.Prelude.{◌≡◌, ℕ, ◌+◌, ◌-◌, ◌≤◌, ◌&&◌, true, false, if◌then◌else◌, is_some, max, min, List, fold, Option, Some, None, MatchOption, unwrap_or}
 use Rattle.rv_timeline.specs.declared.input.Input.{Input}
-use Rattle.rv_monitor.specs.Commands.{command_in}
 use Rattle.rv_commands.specs.declared.command.Command as commands
 use Rattle.rv_commands.specs.declared.command.Command.TheVariants as monitored
 use Rattle.rv_monitor.specs.State.{SessionState, after, given}
@@ -103,10 +102,6 @@ run_of (Some (monitored.Go n)) limit =
     Some (record { goal = goal.Break; left = unwrap_or n limit; is_monitored = true })
 run_of _ limit = None
 
--- the run that a line of the monitor asks for, if it does
-abbrev pub monitored_run : List ℕ → SessionState → Option Plan
-monitored_run line s = run_of (command_in line s) s.limit
-
 -- a recording after its next step, if one can be taken
 abbrev pub stepped : RecordingState → RecordingState
 stepped r = if may_step r.session then with_timed r (after r.session.timed 1) else r
@@ -126,10 +121,10 @@ ready command l =
 abbrev pub next_of : LabState → Next
 next_of l = if is_some l.plan then next.Running else next.More
 
--- what follows a command of the monitor
-abbrev pub monitor_next : Option commands.Command → LabState → Next
-monitor_next (Some monitored.Quit) new = next.Quit
-monitor_next c new = next_of new
+-- what follows a command of the monitor that takes no step
+abbrev pub monitor_next : Option commands.Command → Next
+monitor_next (Some monitored.Quit) = next.Quit
+monitor_next c = next.More
 
 -- ---- the steps of a call
 

@@ -1,7 +1,7 @@
 -- To audit: public contracts cite this.
 -- What the commands that move the board, change breakpoints, give inputs or save answer, as values of the lab before
 -- and after (this project's own: docs/LAB.md).
-use Rattle.std.specs.Prelude.{◌≡◌, ℕ, zero, suc, ◌+◌, ◌-◌, ◌==◌, ◌&&◌, Bool, List, [], ◌∷◌, filter, if◌then◌else◌, is_none, is_some, length, map, max, min, nat_lt, not, codes, slice_get, slice_index, Option, Some, None, MatchOption, unwrap_or}
+use Rattle.std.specs.Prelude.{◌≡◌, ℕ, zero, suc, ◌+◌, ◌-◌, ◌==◌, ◌&&◌, Bool, List, [], ◌∷◌, filter, if◌then◌else◌, is_none, is_some, length, map, max, min, nat_lt, not, codes, slice_get, slice_index, Option, Some, None, unwrap_or}
 use Rattle.std.specs.FinSet as set
 use Rattle.std.specs.List.{range_with_len}
 use Rattle.std.specs.Option.{option_map, option_map_or}
@@ -11,7 +11,7 @@ use Rattle.rv_hart.specs.declared.trap.Outcome.{Outcome}
 use Rattle.rv_hart.specs.declared.trap.Outcome.TheVariants.{Trapped}
 use Rattle.rv_monitor.specs.Commands as monitor
 use Rattle.rv_monitor.specs.Commands.{command_in}
-use Rattle.rv_monitor.specs.State.{SessionState, with_break, with_due, without_break}
+use Rattle.rv_monitor.specs.State.{with_break, with_due, without_break}
 use Rattle.rv_monitor.specs.Stops.{may_step}
 use Rattle.rv_monitor.specs.Views.{stop_text}
 use Rattle.rv_board.specs.BoardState.{BoardState}
@@ -35,7 +35,8 @@ use Rattle.rv_answers.specs.declared.values.Trap.{Trap}
 use Rattle.rv_why.specs.Why.{explanation}
 use Rattle.rv_why.specs.Origins.{origin, target_of}
 use Rattle.rv_lab.specs.Answers.{given_condition, place_of, rows_answer, standing, trap_of, watch_on}
-use Rattle.rv_lab.specs.Commands.{begun, gone_on, monitor_next, monitored_run, next_of, piece_most, piece_steps, planned, ready, stepped, stops_of, with_console, with_inputs, with_session, with_steps}
+use Rattle.rv_commands.specs.declared.command.Command.{Command}
+use Rattle.rv_lab.specs.Commands.{begun, gone_on, monitor_next, next_of, piece_most, piece_steps, planned, ready, run_of, stepped, stops_of, with_console, with_inputs, with_session, with_steps}
 use Rattle.rv_runs.specs.Ends.{heeds, run_ends}
 use Rattle.rv_runs.specs.Guards.{with_guard, without_guard}
 use Rattle.rv_runs.specs.declared.guard.Guard.{Guard}
@@ -155,22 +156,7 @@ call_answer p end steps l =
 unfoldable pub run_answer : Plan → (old new : LabState) → Answer
 run_answer p old new = call_answer p (end_of p old) (next_steps (piece_most p old) old) new
 
--- ---- commands that move the board
-
--- a single step: what it did
-abbrev pub step_answer : (old new : LabState) → Answer
-step_answer old new = option_map_or (λ s. answers.Stepped (record { step = s; standing = standing new }))
-    (next_step old) (answers.Stuck (standing new))
-
 -- ---- other commands
-
--- some inputs by hand, which a board that has halted doesn't take
-abbrev pub given_answer : ℕ → LabState → Answer
-given_answer n l = answers.Given (record {
-  inputs = n;
-  steps = (timed l).taken;
-  is_halted = is_some (board l).machine.bus.halt;
-})
 
 -- what was done, for rvboard to repeat, with the name under which to save it
 unfoldable pub saved_answer : Option (List ℕ) → LabState → Answer
@@ -183,12 +169,6 @@ saved_answer name l = answers.Saved (record {
   limit = min (timed l).taken most_steps;
   pages = l.recording.pages;
 })
-
--- `monitor`: a run answers as the lab's do, and any other command what it prints
-unfoldable pub monitor_answer : List ℕ → (old new : LabState) → Answer
-monitor_answer line old new = option_map_or (λ p. run_answer p (begun old) new)
-    (monitored_run line old.recording.session)
-    (answers.Monitor (monitor.answer (command_in line old.recording.session) old.recording.session new.recording.session))
 
 -- the guards with that of a breakpoint, if it doesn't stop each run
 abbrev pub guarded : Guard → List Guard → List Guard
@@ -203,25 +183,42 @@ trail_after t o = record t { steps = option_map_or (λ w. w.step - 1) o.write 0 
 
 -- ---- orders
 
--- what an order leaves, as a statement of the labs before and after it; what follows it; and what it answers
+-- what an order leaves, as a statement of the labs before and after it; what follows it; what it answers; and what the
+-- run that it begins goes on for, if it begins one
 pub record Deed : Type 1 where
   pub leaves : Type 0
   pub next : Next
   pub answer : Answer
+  pub goal : Option Goal
 
 -- of one after which another command follows, and of a run with its first call
 abbrev pub more : Type 0 → Answer → Deed
-more leaves answer = record { leaves = leaves; next = next.More; answer = answer }
+more leaves answer = record { leaves = leaves; next = next.More; answer = answer; goal = None }
 
 abbrev pub runs : Plan → (old new : LabState) → Deed
-runs p old new =
-    record { leaves = new ≡ gone_on p (begun old); next = next_of new; answer = run_answer p (begun old) new }
+runs p old new = record {
+  leaves = new ≡ gone_on p (begun old);
+  next = next_of new;
+  answer = run_answer p (begun old) new;
+  goal = Some p.goal;
+}
 
--- a row an order: a run of the monitor goes on as the lab's do, and any other of its commands moves no board
+-- of a command of the monitor: its run goes on as the lab's do, and any other of its commands moves no board
+abbrev pub monitors : Option Plan → Option Command → (old new : LabState) → Deed
+monitors (Some p) c old new = runs p old new
+monitors None c old new = let s = old.recording.session in let t = new.recording.session in record {
+  leaves = (new ≡ with_session old t) × monitor.Leaves c s t;
+  next = monitor_next c;
+  answer = answers.Monitor (monitor.answer c s t);
+  goal = None;
+}
+
+-- a row an order: a board that has halted takes no inputs
 abbrev pub does : Order → (old new : LabState) → Deed
 does orders.Once old new =
     more (new ≡ with_console (record (begun (record old { count = 1 })) { recording = stepped old.recording }))
-    (step_answer old new)
+    (option_map_or (λ s. answers.Stepped (record { step = s; standing = standing new })) (next_step old)
+    (answers.Stuck (standing new)))
 does (orders.Steps n) old new = runs (planned goal.Count n) (record old { count = n }) new
 does (orders.Run p) old new = runs p old new
 does (orders.Back n) old new = let to = (timed old).taken - n in
@@ -240,31 +237,20 @@ does (orders.Watch w) old new =
 does (orders.Unwatch w) old new =
     more (new ≡ record old { watches = option_map_or (λ w. without_watch w old.watches) w [] })
     (answers.Unwatched (length old.watches - length new.watches))
-does (orders.Give inputs) old new = more (new ≡ with_inputs old inputs) (given_answer (length inputs) new)
+does (orders.Give inputs) old new = let halt = (board new).machine.bus.halt in more (new ≡ with_inputs old inputs)
+    (answers.Given (record { inputs = length inputs; steps = (timed new).taken; is_halted = is_some halt }))
 does (orders.Monitor line) old new =
-    let s = old.recording.session in let t = new.recording.session in record {
-      leaves = MatchOption (monitored_run line s)
-          ((new ≡ with_session old t) × monitor.Leaves (command_in line s) s t) (λ p. new ≡ gone_on p (begun old));
-      next = monitor_next (command_in line s) new;
-      answer = monitor_answer line old new;
-    }
+    let c = command_in line old.recording.session in monitors (run_of c old.recording.session.limit) c old new
 does (orders.Save name) old new =
-    record { leaves = new ≡ old; next = if is_some name then next.Save else next.More; answer = saved_answer name old }
+    record (more (new ≡ old) (saved_answer name old)) { next = if is_some name then next.Save else next.More }
 does orders.Explain old new = more (new ≡ old) (answers.Explained (explanation old.recording))
 does (orders.Origin t) old new =
     more (new ≡ record old { trail = Some (trail_after t (origin_of old t)) }) (answers.Origin (origin_of old t))
-does orders.Quit old new = record { leaves = new ≡ old; next = next.Quit; answer = answers.Nothing }
+does orders.Quit old new = record (more (new ≡ old) answers.Nothing) { next = next.Quit }
 does (orders.Answered a) old new = more (new ≡ old) a
 
 abbrev pub Leaves : Order → LabState → LabState → Type 0
 Leaves o old new = (does o old new).leaves
-
--- what the run of an order goes on for, if it begins one
-abbrev pub run_goal : Order → SessionState → Option Goal
-run_goal (orders.Steps n) s = Some goal.Count
-run_goal (orders.Run p) s = Some p.goal
-run_goal (orders.Monitor line) s = option_map (λ p. p.goal) (monitored_run line s)
-run_goal other s = None
 
 -- ---- lines and calls
 

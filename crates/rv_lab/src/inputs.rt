@@ -1,12 +1,11 @@
 //! Inputs by hand, and what was done as texts for rvboard.
-ghost use Rattle.std.specs.Prelude.{◌≡◌, ◌≤◌, ◌⊎◌, ℕ, [], ◌∷◌, None, IfOk, OnErr, OnOk, length};
+ghost use Rattle.std.specs.Prelude.{◌≡◌, ◌≤◌, ◌⊎◌, ℕ, [], ◌∷◌, None, IfOk, OnErr, OnOk};
 ghost use Rattle.std.specs.FinSet as set;
 ghost use Rattle.rv_board.specs.BoardState.{BoardState};
 ghost use Rattle.rv_program.specs.Program.{Assembly};
 ghost use Rattle.rv_monitor.specs.Laws.{IsReached};
 ghost use Rattle.rv_monitor.specs.State.{SessionState, TimedState, new_session, with_due};
 ghost use Rattle.rv_monitor.specs.Stops.{Took};
-ghost use Rattle.rv_lab.specs.declared.lab.Next.TheVariants as after;
 ghost use Rattle.rv_lab.specs.declared.order.Order.TheVariants as orders;
 ghost use Rattle.rv_lab.specs.Commands.{with_inputs};
 ghost use Rattle.rv_lab.specs.Refusals.{StopsShort};
@@ -46,17 +45,6 @@ fn steps_text(alloc: Global, lines: u8, left: u64) -> Result<Many<u8>, NoMemory>
 }
 
 impl Lab {
-    /// Answers that inputs were given by hand, or that the board takes none.
-    fn given_answer(&self, inputs: usize) -> Answer
-        ensures { result ≡ spec.given_answer inputs self.now }
-    {
-        Answer::Given(Given {
-            inputs,
-            steps: self.steps(),
-            is_halted: self.board().halted().is_some(),
-        })
-    }
-
     /// Gives the board an input before the next step.
     fn give(&mut self, input: Input) -> Result<(), NoMemory>
         ensures given { OnOk result (self.new ≡ with_inputs self.old (input ∷ [])) }
@@ -79,16 +67,18 @@ impl Lab {
         self.give_all(rest)
     }
 
-    /// Gives the board inputs before the next step, and answers that.
+    /// Gives the board inputs before the next step, and answers that, or that the board takes none.
+    #[tactic(auto, using(crate::proofs::Obeyed::executed_short))]
     pub(crate) fn give_inputs(&mut self, inputs: &[Input]) -> Result<Done, NoMemory>
         requires { self.old.plan ≡ None }
-        ensures next { IfOk result (λ d. d.next ≡ after.More) }
-        ensures given { OnOk result (self.new ≡ with_inputs self.old inputs.now) }
-        ensures answers { IfOk result (λ d. d.answer ≡ spec.given_answer (length inputs.now) self.new) }
-        ensures err { OnErr result (StopsShort None (Gives inputs.now) self.old self.new) }
+        ensures { Executes (orders.Give inputs.now) self.old self.new result }
     {
         self.give_all(inputs)?;
-        Ok(Done::more(self.given_answer(inputs.len())))
+        Ok(Done::more(Answer::Given(Given {
+            inputs: inputs.len(),
+            steps: self.steps(),
+            is_halted: self.board().halted().is_some(),
+        })))
     }
 
     /// Answers what was done, for rvboard to repeat, with the name under which to save it.
@@ -115,16 +105,13 @@ impl Lab {
     pub(crate) fn save(&self, name: Option<Many<u8>>) -> Result<Done, NoMemory>
         ensures { Executes (orders.Save name) self.now self.now result }
     {
-        match name {
-            None => Ok(Done::more(self.saved_answer(None)?)),
-            Some(name) => {
-                let answer = self.saved_answer(Some(name))?;
-                Ok(Done {
-                    next: Next::Save,
-                    answer,
-                })
-            }
-        }
+        let next = if name.is_some() {
+            Next::Save
+        } else {
+            Next::More
+        };
+        let answer = self.saved_answer(name)?;
+        Ok(Done { next, answer })
     }
 }
 

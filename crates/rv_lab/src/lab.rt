@@ -14,7 +14,7 @@ ghost use Rattle.rv_lab.specs.Marks.{marks_in};
 ghost use Rattle.rv_lab.specs.Opening.{OpensLab};
 ghost use Rattle.rv_lab.specs.Words.{line_command};
 ghost use Rattle.rv_lab.specs.Orders.{order_of, ordered};
-ghost use Rattle.rv_lab.specs.Runs.{Leaves, Obeys, look_by, reply_to, run_goal};
+ghost use Rattle.rv_lab.specs.Runs.{Leaves, Obeys, line_does, look_by, reply_to};
 
 use crate::command::{read_command, repeated, trail_before};
 use crate::fault::LabFault;
@@ -171,10 +171,8 @@ impl Lab {
             × (l.listed ≡ 0) × (l.plan ≡ None) × (l.resumes ≡ goal.Break) × (l.trail ≡ None) × (l.piece ≡ 1000000)) }
     {
         let (program, places) = list(alloc, source)?;
-        let (pages, slots) = (u32::from(sizes.pages), u32::from(sizes.slots));
-        let recording = Recording::open(alloc, program, inputs, pages, slots)?;
         let listing = Listing {
-            program: recording.session().program(),
+            program: &program,
             places: &places,
         };
         let Ok(frames) = frame_rows(alloc, listing) else {
@@ -186,6 +184,8 @@ impl Lab {
         let Ok(source) = Vec::from_slice(alloc, source) else {
             return Err(LabFault::OutOfMemory);
         };
+        let (pages, slots) = (u32::from(sizes.pages), u32::from(sizes.slots));
+        let recording = Recording::open(alloc, program, inputs, pages, slots)?;
         let last = Last {
             registers: registers_of(recording.session().board()),
             steps: 0,
@@ -315,12 +315,12 @@ impl Lab {
     /// # Errors
     ///
     /// `NoMemory` if memory runs out. The lab is as it was then, or as after some of the command's steps.
-    #[tactic(auto, unfolding(crate::specs::Support::Short::Executes), using(crate::proofs::Obeyed::replied, crate::proofs::Obeyed::left_setup, crate::proofs::Obeyed::out_setup, crate::proofs::Obeyed::is_within, crate::proofs::Obeyed::is_within_short))]
+    #[tactic(auto, using(crate::proofs::Obeyed::replied, crate::proofs::Obeyed::line_setup, crate::proofs::Obeyed::line_within, crate::proofs::Obeyed::line_left, crate::proofs::Obeyed::line_short))]
     pub fn answer(&mut self, line: &[u8]) -> Result<Reply, NoMemory>
         ensures setup { setup self.new ≡ setup self.old }
         ensures obeys { OnOk result (Obeys line.now self.old self.new) }
         ensures replies { IfOk result (λ r. r ≡ reply_to line.now self.old self.new) }
-        ensures err { OnErr result (RunsOut (run_goal (ordered line.now self.old) self.old.recording.session)
+        ensures err { OnErr result (RunsOut (line_does line.now self.old self.new).goal
             (Leaves (ordered line.now self.old)) (ready (line_command line.now) self.old) self.new) }
         ensures bound { IsWithin (max self.old.piece 1) self.old self.new }
     {

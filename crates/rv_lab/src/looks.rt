@@ -4,7 +4,6 @@ ghost use Rattle.std.specs.List.{range_with_len};
 ghost use Rattle.rv_base.specs.Tables.{lookup};
 ghost use Rattle.rv_base.specs.Words.{words};
 ghost use Rattle.rv_isa.specs.Names.{register_names};
-ghost use Rattle.rv_asm.specs.Seen.{seen};
 ghost use Rattle.rv_monitor.specs.Views.{byte_at_offset};
 ghost use Rattle.rv_answers.specs.declared.command.Command.TheVariants as command;
 ghost use Rattle.rv_operands.specs.Operands.{only_of};
@@ -20,7 +19,7 @@ use crate::devices::{edge_source, interrupts_of};
 use crate::lab::Lab;
 use crate::memory::{byte_at, char_at, text_length};
 use crate::operands::count_or;
-use crate::places::{line_at, near_label};
+use crate::places::{distance_at, line_at};
 use crate::run::USUAL_STEPS;
 use crate::source::{Excerpt, line_count};
 use rv_answers::{
@@ -28,7 +27,6 @@ use rv_answers::{
     Place, Refusal, RegisterFile, RegisterValue, Row, Standing, Trap, Why, bits_of, clock_of,
     port_of, push, read_extent, regions_of, sources_of, threshold,
 };
-use rv_asm::Listing;
 use rv_backtrace::backtrace;
 use rv_base::{NoMemory, first_word, has_word, low_word};
 use rv_board::{BootedBoard, TrapRecord};
@@ -47,16 +45,6 @@ fn register_of(operands: &[u8]) -> Option<Reg>
     ensures { result ≡ option_and_then (λ name. lookup name register_names) (only_of (words operands.now)) }
 {
     reg_named(only_word(operands)?)
-}
-
-/// Returns how far the last label at an address of the image or before it lies before it.
-fn distance_at(listing: Listing, address: u32) -> Option<u32>
-    ensures { result ≡ spec.distance_at (seen listing.entry) address }
-{
-    match near_label(listing, address) {
-        Some(near) => Some(near.distance),
-        None => None,
-    }
 }
 
 /// Returns bytes from an address on.

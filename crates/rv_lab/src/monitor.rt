@@ -1,10 +1,8 @@
 //! Commands of the monitor.
 ghost use Rattle.std.specs.Prelude.{◌≡◌, true, None, IfOk, OnErr, OnOk};
 ghost use Rattle.rv_answers.specs.declared.answer.Answer.TheVariants as answers;
-ghost use Rattle.rv_lab.specs.Commands.{monitor_next, monitored_run};
-ghost use Rattle.rv_lab.specs.Support.Short.{Looks, Monitors};
-ghost use Rattle.rv_lab.specs.Refusals.{RunsOut};
-ghost use Rattle.rv_lab.specs.Runs.{monitor_answer, run_goal};
+ghost use Rattle.rv_lab.specs.Commands.{monitor_next, with_session};
+ghost use Rattle.rv_lab.specs.Support.Short.{Executes, monitored_run};
 ghost use Rattle.rv_lab.specs.declared.order.Order.TheVariants as orders;
 ghost use Rattle.rv_monitor.specs.Commands as monitor;
 ghost use Rattle.rv_monitor.specs.Commands.{command_in};
@@ -66,11 +64,12 @@ impl Lab {
     /// Executes a command of the monitor that takes no step, and answers what it prints.
     #[tactic(auto, using(crate::proofs::Obeyed::looks_refused, crate::proofs::Obeyed::more_follows, crate::proofs::Obeyed::quit_follows))]
     fn monitor_look(&mut self, line: &[u8]) -> Result<Done, NoMemory>
-        requires no_run { monitored_run line.now self.old.recording.session ≡ None }
-        requires no_plan { self.old.plan ≡ None }
+        requires { monitored_run line.now self.old.recording.session ≡ None }
         ensures next { IfOk result
-            (λ d. d.next ≡ monitor_next (command_in line.now self.old.recording.session) self.new) }
-        ensures leaves { OnOk result (Looks line.now self.old self.new) }
+            (λ d. d.next ≡ monitor_next (command_in line.now self.old.recording.session)) }
+        ensures others { OnOk result (self.new ≡ with_session self.old self.new.recording.session) }
+        ensures leaves { OnOk result (monitor.Leaves (command_in line.now self.old.recording.session)
+            self.old.recording.session self.new.recording.session) }
         ensures answers { IfOk result
             (λ d. d.answer ≡ answers.Monitor (monitor.answer (command_in line.now self.old.recording.session)
             self.old.recording.session self.new.recording.session)) }
@@ -89,14 +88,8 @@ impl Lab {
     }
 
     /// Executes `monitor`: a run goes in pieces, as the lab's do.
-    #[tactic(auto, using(crate::proofs::Obeyed::run_follows), unfolding(crate::specs::Runs::monitor_answer))]
     pub(crate) fn monitor_command(&mut self, operands: &[u8]) -> Result<Done, NoMemory>
-        requires { self.old.plan ≡ None }
-        ensures next { IfOk result
-            (λ d. d.next ≡ monitor_next (command_in operands.now self.old.recording.session) self.new) }
-        ensures leaves { OnOk result (Monitors operands.now self.old self.new) }
-        ensures answers { IfOk result (λ d. d.answer ≡ monitor_answer operands.now self.old self.new) }
-        ensures err { OnErr result (RunsOut (run_goal (orders.Monitor operands.now) self.old.recording.session) (Monitors operands.now) self.old self.new) }
+        ensures { Executes (orders.Monitor operands.now) self.old self.new result }
     {
         match self.monitored_run(operands) {
             Some(plan) => self.start(plan),

@@ -1,11 +1,12 @@
 //! What a command line asks for, its operands read.
-ghost use Rattle.std.specs.Prelude.{◌≡◌, [], if◌then◌else◌, is_some, IfOk};
+ghost use Rattle.std.specs.Prelude.{◌≡◌, ◌<◌, [], if◌then◌else◌, is_some, IfOk};
 ghost use Rattle.rv_base.specs.Words.{words};
 ghost use Rattle.rv_answers.specs.declared.command.Command.TheVariants as command;
 ghost use Rattle.rv_answers.specs.declared.answer.Why.TheVariants as why;
 ghost use Rattle.rv_answers.specs.declared.command.Move.TheVariants as moves;
 ghost use Rattle.rv_lab.specs.Answers.{refused};
-ghost use Rattle.rv_lab.specs.Orders.{again_order, back_order, back_until, break_at, break_order, command_order, condition_text, guard_order, help_order, here, list_order, list_round, next_order, nextc_order, save_order, steps_order, watch_one, why_order};
+ghost use Rattle.rv_lab.specs.Orders.{again_order, back_order, back_until, break_at, break_order, command_order, condition_text, guard_order, help_order, here, list_order, list_round, next_order, nextc_order, or_refused, save_order, steps_order, watch_one, why_order};
+ghost use Rattle.rv_lab.specs.Words.{count_of};
 ghost use Rattle.rv_operands.specs.Operands.{leading, line_number};
 ghost use Rattle.rv_lab.specs.Commands.{planned};
 ghost use Rattle.rv_lab.specs.State.{board, listing};
@@ -15,7 +16,7 @@ use crate::command::CommandLine;
 use crate::lab::Lab;
 use crate::operands::{count_or, passes};
 use crate::places::line_at;
-use crate::run::{MOST_STEPS, MOST_TRACED, USUAL_STEPS, USUAL_TRACED};
+use crate::run::{MOST_STEPS, MOST_TRACED, USUAL_STEPS, USUAL_TRACED, planned};
 use crate::source::{Excerpt, MOST_LINES, USUAL_LINES};
 use crate::trail::Trail;
 use crate::watch::MOST_WATCHED;
@@ -66,17 +67,6 @@ pub(crate) enum Order {
     Answered(Answer),
 }
 
-/// Returns the order for a run of the lab.
-fn run_order(goal: Goal, most: u64) -> Order
-    ensures { result ≡ orders.Run (planned goal most) }
-{
-    Order::Run(Plan {
-        goal,
-        left: most,
-        is_monitored: false,
-    })
-}
-
 /// Returns the condition of `b` as it was given, by what follows it.
 fn condition_text<'a>(operands: &'a [u8], rest: &[u8]) -> &'a [u8]
     ensures { result.now ≡ condition_text operands.now (words rest.now) }
@@ -124,14 +114,22 @@ impl Lab {
         }
     }
 
-    /// Reads the operands of `c`.
-    #[tactic(auto, unfolding(crate::specs::Orders::command_order))]
-    fn go_order(&self, operands: &[u8]) -> Result<Order, NoMemory>
-        ensures { IfOk result (λ o. o ≡ command_order (command.Moves moves.Go) [] operands.now self.now) }
+    /// Reads how many steps a run takes at most that goes on for something.
+    fn goal_order(
+        &self,
+        moves: Move,
+        operands: &[u8],
+        goal: Goal,
+        usual: u64,
+        most: u64,
+    ) -> Result<Order, NoMemory>
+        requires { most < 10000000000 }
+        ensures { IfOk result (λ o. o ≡ or_refused (count_of usual most (words operands.now))
+            (λ n. orders.Run (planned goal n)) (refused (command.Moves moves) operands.now why.NoSteps)) }
     {
-        match count_or(operands, USUAL_STEPS, MOST_STEPS) {
-            Some(most) => Ok(run_order(self.last.resumes, most)),
-            None => self.refuse(Command::Moves(Move::Go), operands, Why::NoSteps),
+        match count_or(operands, usual, most) {
+            Some(most) => Ok(Order::Run(planned(goal, most))),
+            None => self.refuse(Command::Moves(moves), operands, Why::NoSteps),
         }
     }
 
@@ -145,19 +143,8 @@ impl Lab {
             return self.refuse(Command::Moves(Move::Until), operands, Why::NoCondition);
         };
         match count_or(rest, USUAL_STEPS, MOST_STEPS) {
-            Some(most) => Ok(run_order(Goal::Until(condition), most)),
+            Some(most) => Ok(Order::Run(planned(Goal::Until(condition), most))),
             None => self.refuse(Command::Moves(Move::Until), operands, Why::NoSteps),
-        }
-    }
-
-    /// Reads the operands of `trace`.
-    #[tactic(auto, unfolding(crate::specs::Orders::command_order))]
-    fn trace_order(&self, operands: &[u8]) -> Result<Order, NoMemory>
-        ensures { IfOk result (λ o. o ≡ command_order (command.Moves moves.Trace) [] operands.now self.now) }
-    {
-        match count_or(operands, USUAL_TRACED, MOST_TRACED) {
-            Some(count) => Ok(run_order(Goal::Trace, count)),
-            None => self.refuse(Command::Moves(Move::Trace), operands, Why::NoSteps),
         }
     }
 
@@ -167,12 +154,9 @@ impl Lab {
         ensures { IfOk result (λ o. o ≡ back_until operands.now self.now (leading (listing self.now) (board self.now) (words text.now))) }
     {
         let Leading { condition, rest } = self.scope().leading(text);
-        let Some(condition) = condition else {
+        let (Some(condition), false) = (condition, has_word(rest)) else {
             return self.refuse(Command::Moves(Move::Back), operands, Why::NoCondition);
         };
-        if has_word(rest) {
-            return self.refuse(Command::Moves(Move::Back), operands, Why::NoCondition);
-        }
         let now = self.recording.steps();
         match last_met(&self.recording, condition, now.saturating_sub(1))? {
             Some(before) => Ok(Order::Back(now.saturating_sub(before.saturating_add(1)))),
@@ -203,10 +187,15 @@ impl Lab {
         ensures { IfOk result (λ o. o ≡ command_order (command.Moves moves) [] operands.now self.now) }
     {
         match moves {
-            Move::Go => self.go_order(operands),
-            Move::Finish => Ok(run_order(Goal::Out(1, None), USUAL_STEPS)),
+            Move::Go => {
+                let goal = self.last.resumes;
+                self.goal_order(moves, operands, goal, USUAL_STEPS, MOST_STEPS)
+            }
+            Move::Finish => Ok(Order::Run(planned(Goal::Out(1, None), USUAL_STEPS))),
             Move::Until => self.until_order(operands),
-            Move::Trace => self.trace_order(operands),
+            Move::Trace => {
+                self.goal_order(moves, operands, Goal::Trace, USUAL_TRACED, MOST_TRACED)
+            }
             Move::Back => self.back_order(operands),
         }
     }
@@ -418,10 +407,7 @@ impl Lab {
         if !has_word(operands) {
             return Ok(Order::Answered(Answer::Help(None)));
         }
-        let Some(name) = only_word(operands) else {
-            return self.refuse(Command::Help, operands, Why::NoCommand);
-        };
-        match command_named(name) {
+        match only_word(operands).and_then(|name| command_named(name)) {
             Some(command) => Ok(Order::Answered(Answer::Help(Some(command)))),
             None => self.refuse(Command::Help, operands, Why::NoCommand),
         }
@@ -473,7 +459,7 @@ impl Lab {
     fn next_order(&self) -> Order
         ensures { result ≡ next_order self.now }
     {
-        run_order(Goal::Out(0, self.here()), USUAL_STEPS)
+        Order::Run(planned(Goal::Out(0, self.here()), USUAL_STEPS))
     }
 
     /// Returns the order of `nextc`.
@@ -484,7 +470,7 @@ impl Lab {
         if self.marks.is_empty() {
             return self.refuse(Command::NextC, b"", Why::NoMarks);
         }
-        Ok(run_order(Goal::Mark(0), USUAL_STEPS))
+        Ok(Order::Run(planned(Goal::Mark(0), USUAL_STEPS)))
     }
 
     /// Returns what an empty line asks for.

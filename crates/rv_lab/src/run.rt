@@ -6,8 +6,8 @@ ghost use Rattle.rv_runs.specs.declared.goal.Goal.TheVariants as goal;
 ghost use Rattle.rv_lab.specs.Commands.{GoesOn, InPieces, IsWithin, begun, next_of, piece_most, planned, stops_of, with_piece};
 ghost use Rattle.rv_runs.specs.Ends.{goal_after, run_ends};
 ghost use Rattle.rv_lab.specs.Refusals.{RunsOut, StopsShort};
-ghost use Rattle.rv_lab.specs.Runs.{Leaves, call_answer, end_of, reply_on, run_answer};
-ghost use Rattle.rv_lab.specs.Support.Short.{Executes, GoesOnWith, Starts, Steps, StopsIn, ran_to, told_steps};
+ghost use Rattle.rv_lab.specs.Runs.{Leaves, call_answer, end_of, reply_on};
+ghost use Rattle.rv_lab.specs.Support.Short.{Executes, GoesOnWith, Moves, StopsIn, ran_to, told_steps};
 ghost use Rattle.rv_monitor.specs.Stops.{steps_between};
 ghost use Rattle.rv_recording.specs.Until.{HasRun};
 ghost use Rattle.rv_lab.specs.State.{LabState, setup, timed};
@@ -33,6 +33,17 @@ pub(crate) const USUAL_TRACED: u64 = 10;
 /// The most steps of `trace`.
 pub(crate) const MOST_TRACED: u64 = 1000;
 
+/// Returns the plan of a run of the lab.
+pub(crate) fn planned(goal: Goal, most: u64) -> Plan
+    ensures { result ≡ planned goal most }
+{
+    Plan {
+        goal,
+        left: most,
+        is_monitored: false,
+    }
+}
+
 impl Lab {
     /// Begins a command that moves the board: keeps what it is compared with.
     pub(crate) fn begin(&mut self)
@@ -49,7 +60,7 @@ impl Lab {
     /// # Errors
     ///
     /// `NoMemory` if memory runs out. The lab is as after some of the run's steps then.
-    #[tactic(auto, using(crate::proofs::Obeyed::unmoved, crate::proofs::Obeyed::replied_on))]
+    #[tactic(auto, unfolding(crate::specs::Support::Short::Moves), using(crate::proofs::Obeyed::unmoved, crate::proofs::Obeyed::replied_on, crate::proofs::Obeyed::moved_setup, crate::proofs::Obeyed::moved_within))]
     pub fn go_on(&mut self) -> Result<Reply, NoMemory>
         ensures setup { setup self.new ≡ setup self.old }
         ensures continues { OnOk result (GoesOn self.old self.new) }
@@ -66,13 +77,9 @@ impl Lab {
     }
 
     /// Goes on with a run.
-    #[tactic(auto, using(crate::proofs::Runs::told_call, crate::proofs::Told::answered, crate::proofs::Told::over_short))]
+    #[tactic(auto, using(crate::proofs::Obeyed::moved, crate::proofs::Runs::told_call, crate::proofs::Told::answered, crate::proofs::Told::over_short))]
     fn go_on_with(&mut self, plan: Plan) -> Result<Done, NoMemory>
-        ensures setup { setup self.new ≡ setup self.old }
-        ensures goes_on { OnOk result (GoesOnWith plan self.old self.new) }
-        ensures next { IfOk result (λ d. d.next ≡ next_of self.new) }
-        ensures answers { IfOk result (λ d. d.answer ≡ run_answer plan self.old self.new) }
-        ensures err { OnErr result (StopsShort (Some plan.goal) (GoesOnWith plan) self.old self.new) }
+        ensures { Moves plan self.old self.new result }
     {
         let mut steps = Vec::new(self.alloc);
         let end = self.take_piece(&plan, &mut steps)?;
@@ -192,10 +199,7 @@ impl Lab {
 
     /// Begins a run of a plan.
     pub(crate) fn start(&mut self, plan: Plan) -> Result<Done, NoMemory>
-        ensures runs { OnOk result (Starts plan self.old self.new) }
-        ensures next { IfOk result (λ d. d.next ≡ next_of self.new) }
-        ensures answers { IfOk result (λ d. d.answer ≡ run_answer plan (begun self.old) self.new) }
-        ensures err { OnErr result (StopsShort (Some plan.goal) (Starts plan) self.old self.new) }
+        ensures { Moves plan (begun self.old) self.new result }
     {
         self.begin();
         self.go_on_with(plan)
@@ -210,17 +214,10 @@ impl Lab {
 
     /// Takes some steps.
     pub(crate) fn run_steps(&mut self, count: u64) -> Result<Done, NoMemory>
-        ensures leaves { OnOk result (Steps count self.old self.new) }
-        ensures next { IfOk result (λ d. d.next ≡ next_of self.new) }
-        ensures answers { IfOk result (λ d. d.answer ≡ run_answer (planned goal.Count count) (begun (record self.old { count = count })) self.new) }
-        ensures err { OnErr result (StopsShort (Some goal.Count) (Steps count) self.old self.new) }
+        ensures { Executes (orders.Steps count) self.old self.new result }
     {
         self.keep_count(count);
-        self.start(Plan {
-            goal: Goal::Count,
-            left: count,
-            is_monitored: false,
-        })
+        self.start(planned(Goal::Count, count))
     }
 
     /// Goes back by some steps.

@@ -1,15 +1,13 @@
 //! Single steps and traces.
 ghost use Rattle.std.specs.Prelude.{◌≡◌, ◌<◌, ◌==◌, not, slice_index, ◌++◌, ◌∷◌, [], None, IfOk, OnErr, OnOk};
 ghost use Rattle.rv_lab.specs.Commands.{stepped, with_session};
-ghost use Rattle.rv_lab.specs.Refusals.{StopsShort};
 ghost use Rattle.rv_lab.specs.Runs as spec;
-ghost use Rattle.rv_lab.specs.Runs.{Leaves, next_step, next_steps, step_answer};
+ghost use Rattle.rv_lab.specs.Runs.{next_step, next_steps};
 ghost use Rattle.rv_recording.specs.Until.{HasRun, step_ends};
-ghost use Rattle.rv_lab.specs.declared.lab.Next.TheVariants as after;
 ghost use Rattle.rv_lab.specs.declared.order.Order.TheVariants as orders;
 ghost use Rattle.rv_runs.specs.declared.goal.Goal.TheVariants as goal;
 ghost use Rattle.rv_lab.specs.State.{board, registers_of, timed};
-ghost use Rattle.rv_lab.specs.Support.Short.{IsOnWay, StopsIn, Traced, end_now, stepped_by};
+ghost use Rattle.rv_lab.specs.Support.Short.{Executes, IsOnWay, StopsIn, Traced, end_now, stepped_by};
 
 use crate::lab::{Done, Lab};
 use rv_answers::{Answer, Many, Place, RegisterValue, Registers, Step, Stepped, Trap, push};
@@ -116,13 +114,10 @@ impl Lab {
     }
 
     /// Takes a single step, and answers what it did.
-    #[tactic(auto, using(crate::proofs::Told::no_step, crate::proofs::Runs::once_short))]
+    #[tactic(auto, using(crate::proofs::Obeyed::executed_short, crate::proofs::Told::no_step, crate::proofs::Runs::once_short))]
     pub(crate) fn step_once(&mut self) -> Result<Done, NoMemory>
         requires { self.old.plan ≡ None }
-        ensures leaves { OnOk result (Leaves orders.Once self.old self.new) }
-        ensures next { IfOk result (λ d. d.next ≡ after.More) }
-        ensures answers { IfOk result (λ d. d.answer ≡ step_answer self.old self.new) }
-        ensures err { OnErr result (StopsShort None (Leaves orders.Once) self.old self.new) }
+        ensures { Executes orders.Once self.old self.new result }
     {
         self.keep_count(1);
         self.begin();

@@ -1,5 +1,5 @@
 //! What the console got, and how a run ended.
-ghost use Rattle.std.specs.Prelude.{◌≡◌, ◌-◌, ◌&&◌, if◌then◌else◌, is_some, length, slice_get, IfOk};
+ghost use Rattle.std.specs.Prelude.{◌≡◌, ◌&&◌, if◌then◌else◌, is_some, IfOk};
 ghost use Rattle.rv_lab.specs.Commands.{with_console};
 ghost use Rattle.rv_lab.specs.Answers.{watch_on};
 ghost use Rattle.rv_lab.specs.Runs as spec;
@@ -13,7 +13,6 @@ use crate::steps::changes;
 use crate::watch::watch_on;
 use rv_answers::{Aim, Answer, Ending, Many, Run, Trap, Watch};
 use rv_base::NoMemory;
-use rv_board::TrapRecord;
 use rv_convention::registers_of;
 use rv_monitor::write_stop;
 use rv_recording::{Condition, End, Watched};
@@ -63,22 +62,13 @@ impl Lab {
         }
     }
 
-    /// Returns the last trap, if there was one.
-    pub(crate) fn last_trap(&self) -> Option<TrapRecord>
-        ensures { result ≡ slice_get (board self.now).traps (length (board self.now).traps - 1) }
-    {
-        let board = self.board();
-        board.trap(board.trap_count().saturating_sub(1))
-    }
-
     /// Returns the last trap with its place, if there was one.
-    fn last_trap_value(&self) -> Option<Trap>
+    fn last_trap(&self) -> Option<Trap>
         ensures { result ≡ spec.last_trap self.now }
     {
-        match self.last_trap() {
-            Some(trap) => Some(self.trap_of(trap, 1)),
-            None => None,
-        }
+        let board = self.board();
+        let trap = board.trap(board.trap_count().saturating_sub(1))?;
+        Some(self.trap_of(trap, 1))
     }
 
     /// Returns what is watched, with its value.
@@ -93,7 +83,7 @@ impl Lab {
         ensures { result ≡ spec.aim_of self.now (goal.Until condition) }
     {
         match condition {
-            Condition::Trap => Aim::Trap(self.last_trap_value()),
+            Condition::Trap => Aim::Trap(self.last_trap()),
             Condition::Console(_) => Aim::Console,
             Condition::At { .. } => Aim::Arrival,
             Condition::Changed { watched, .. } => Aim::Watch(self.watch_of(&watched)),

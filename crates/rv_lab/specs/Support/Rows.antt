@@ -10,12 +10,6 @@ use Rattle.rv_monitor.specs.Views.{byte_at_offset, word_at}
 use Rattle.rv_asm.specs.Lines.{Listed}
 use Rattle.rv_lab.specs.Lines.{line_at}
 
--- the last label at an address of the image or before it, with the distance from it
-unfoldable pub label_at : Listed → ℕ → Option (List ℕ × ℕ)
-label_at l a =
-    option_and_then (λ line. option_map (λ label. (label.0, a - label.1))
-    (last_or None (filter (λ label. nat_le label.1 a) l.labels))) (line_at l a)
-
 -- ---- `dev`
 
 -- the cause of the interrupt that is taken next, by the words of mstatus, mie and mip

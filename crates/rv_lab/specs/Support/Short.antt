@@ -1,20 +1,18 @@
 -- Not to audit: private contracts alone cite this.
 -- Calls of parts of a lab, and those that stopped short.
-use Rattle.std.specs.Prelude.{◌≡◌, ℕ, zero, suc, List, [], Option, is_some, if◌then◌else◌, nat_lt, Result, IfOk, OnErr, OnOk}
+use Rattle.std.specs.Prelude.{◌≡◌, ℕ, zero, suc, List, [], Option, Some, is_some, if◌then◌else◌, nat_lt, Result, IfOk, OnErr, OnOk}
 use Rattle.rv_base.specs.declared.memory.NoMemory.{NoMemory}
 use Rattle.rv_timeline.specs.declared.input.Input.{Input}
 use Rattle.rv_recording.specs.Recording.{RecordingState, with_timed}
 use Rattle.rv_recording.specs.Until.{steps_of}
-use Rattle.rv_monitor.specs.Commands as monitor
 use Rattle.rv_monitor.specs.Commands.{command_in}
 use Rattle.rv_monitor.specs.State.{SessionState, after}
 use Rattle.rv_monitor.specs.Stops.{steps_between}
 use Rattle.rv_answers.specs.declared.moves.Step.{Step}
-use Rattle.rv_lab.specs.Commands.{gone_on, guards_by, stepped, with_inputs, with_session}
+use Rattle.rv_lab.specs.Commands.{gone_on, guards_by, next_of, run_of, stepped, with_inputs, with_session}
 use Rattle.rv_runs.specs.Plans.{is_traced}
-use Rattle.rv_lab.specs.declared.order.Order.TheVariants as orders
-use Rattle.rv_lab.specs.Refusals.{Leads, RunsOut}
-use Rattle.rv_lab.specs.Runs.{Leaves, does, next_steps, run_goal}
+use Rattle.rv_lab.specs.Refusals.{Leads, RunsOut, StopsShort}
+use Rattle.rv_lab.specs.Runs.{Leaves, does, next_steps, run_answer}
 use Rattle.rv_lab.specs.declared.lab.Done.{Done}
 use Rattle.rv_lab.specs.declared.order.Order.{Order}
 use Rattle.rv_lab.specs.State.{LabState, timed}
@@ -28,24 +26,19 @@ use Rattle.rv_runs.specs.declared.plan.Plan.{Plan}
 -- what came of an order: the lab that it leaves, what follows it and what it answers; or memory ran out in it
 unfoldable pub Executes : Order → (old new : LabState) → Result Done NoMemory → Type 0
 Executes o old new r = OnOk r (Leaves o old new) × IfOk r (λ d. d.next ≡ (does o old new).next)
-    × IfOk r (λ d. d.answer ≡ (does o old new).answer) × OnErr r (RunsOut (run_goal o old.recording.session) (Leaves o) old new)
+    × IfOk r (λ d. d.answer ≡ (does o old new).answer) × OnErr r (RunsOut (does o old new).goal (Leaves o) old new)
 
 abbrev pub GoesOnWith : Plan → LabState → LabState → Type 0
 GoesOnWith p old new = new ≡ gone_on p old
 
-abbrev pub Starts : Plan → LabState → LabState → Type 0
-Starts p = Leaves (orders.Run p)
+-- and of a call that goes on with a run
+unfoldable pub Moves : Plan → (old new : LabState) → Result Done NoMemory → Type 0
+Moves p old new r = OnOk r (GoesOnWith p old new) × IfOk r (λ d. d.next ≡ next_of new)
+    × IfOk r (λ d. d.answer ≡ run_answer p old new) × OnErr r (StopsShort (Some p.goal) (GoesOnWith p) old new)
 
-abbrev pub Steps : ℕ → LabState → LabState → Type 0
-Steps n = Leaves (orders.Steps n)
-
-abbrev pub Monitors : List ℕ → LabState → LabState → Type 0
-Monitors line = Leaves (orders.Monitor line)
-
--- a command of the monitor that takes no step
-abbrev pub Looks : List ℕ → LabState → LabState → Type 0
-Looks line old new = (new ≡ with_session old new.recording.session)
-    × monitor.Leaves (command_in line old.recording.session) old.recording.session new.recording.session
+-- the run that a line of the monitor asks for, if it does
+abbrev pub monitored_run : List ℕ → SessionState → Option Plan
+monitored_run line s = run_of (command_in line s) s.limit
 
 -- ---- single steps
 

@@ -1,7 +1,5 @@
+use Rattle.rv_lab.proofs.Obeyed.{ran_steps}
 use Rattle.rv_lab.proofs.lab.Lab.run_steps.Goals as goal
 
-pub returns-clause-err : goal.returns-clause-err
-returns-clause-err c = rw c.keep_count.ensures at c.start.ensures.err
-
-pub returns-clause-answers : goal.returns-clause-answers
-returns-clause-answers c = rw c.keep_count.ensures at c.start.ensures.answers
+pub returns : goal.returns
+returns c = ran_steps _ c.args.self.now _ _ _ c.keep_count.ensures (rw c.planned.ensures at c.start.ensures)

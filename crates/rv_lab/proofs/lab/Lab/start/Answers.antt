@@ -1,7 +1,5 @@
+use Rattle.rv_lab.proofs.Obeyed.{started}
 use Rattle.rv_lab.proofs.lab.Lab.start.Goals as goal
 
-pub returns-clause-err : goal.returns-clause-err
-returns-clause-err c = rw c.begin.ensures at c.go_on_with.ensures.err
-
-pub returns-clause-answers : goal.returns-clause-answers
-returns-clause-answers c = rw c.begin.ensures at c.go_on_with.ensures.answers
+pub returns : goal.returns
+returns c = started _ c.args.self.now _ _ _ c.begin.ensures c.go_on_with.ensures
