@@ -90,12 +90,6 @@ short_within o old new s = search (rules, arith, unmoved, rises, within)
 
 -- ---- a call of a run
 
-piece_setup : (p : Plan) (old new : LabState) → GoesOnWith p old new → setup new ≡ setup old
-piece_setup p old new e = search (rules, arith)
-
-short_setup : (p : Plan) (old new : LabState) → StopsShort (Some p.goal) (GoesOnWith p) old new → setup new ≡ setup old
-short_setup p old new s = search (rules, arith, piece_setup)
-
 piece_short_within : (p : Plan) (old new : LabState) → StopsShort (Some p.goal) (GoesOnWith p) old new
     → IsWithin (max old.piece 1) old new
 piece_short_within p old new s = search (rules, arith, rises, piece_within)
@@ -109,8 +103,7 @@ moved p old new r leaves next answers short = (leaves, next, answers, short)
 
 pub moved_setup : (p : Plan) (old new : LabState) (r : Result Done NoMemory) → Moves p old new r → setup new ≡ setup old
 unfolding Moves
-moved_setup p old new (Ok d) m = piece_setup p old new m.0
-moved_setup p old new (Err why) m = short_setup p old new m.3
+moved_setup p old new r m = search (rules, arith)
 
 pub moved_within : (p : Plan) (old new : LabState) (r : Result Done NoMemory) → Moves p old new r
     → IsWithin (max old.piece 1) old new
@@ -170,13 +163,6 @@ pub kept : (o : Order) (old new : LabState) (r : Result Done NoMemory) → OnOk 
 unfolding Executes
 kept o old new (Ok d) leaves next answers same = (leaves, next, answers, tt)
 kept o old new (Err why) leaves next answers same = (tt, tt, tt, inl same)
-
--- one that leaves the lab as it is
-pub executed_look : (o known : Order) (l : LabState) (r : Result Done NoMemory) → o ≡ known → Leaves known l l
-    → IfOk r (λ d. d.next ≡ (does known l l).next) → IfOk r (λ d. d.answer ≡ (does known l l).answer) → Executes o l l r
-unfolding Executes
-executed_look o known l (Ok d) e same next answers = rw e (same, next, answers, tt)
-executed_look o known l (Err why) e same next answers = rw e (tt, tt, tt, inl refl)
 
 -- a run
 pub ran : (p : Plan) (old new : LabState) (r : Result Done NoMemory) → Moves p (begun old) new r

@@ -1,9 +1,9 @@
 -- The values that commands which look answer.
 use Rattle.std.proofs.Common.{rules, ◌≡◌, ◌∙◌, ℕ, zero, suc, ◌+◌, ◌-◌, ◌<◌, ◌≤◌, Bool, true, false, List, [], ◌∷◌, ◌++◌, cond, drop, length, map, refl, sym, ap, add-one, append-nil, append_assoc, arith, find}
-use Rattle.std.specs.Prelude.{Option, Some, None, OnOk, Result, Ok, Err, filter, slice_get, unwrap_or, IfSome, IfNone, not}
+use Rattle.std.specs.Prelude.{Option, Some, None, OnOk, Result, Ok, Err, filter, slice_get, unwrap_or, IfSome, IfNone}
 use Rattle.std.specs.Borrow.{Bor}
 use Rattle.std.specs.FinSet as set
-use Rattle.std.specs.List.{range_with_len, prefix_len, position_or_len}
+use Rattle.std.specs.List.{range_with_len, position_or_len}
 use Rattle.std.specs.Option.{option_map}
 use Rattle.std.proofs.lemmas.List.{drop_all, get_or_past}
 use Rattle.std.proofs.lemmas.List.FromFn.{get_or-range_with_len, length-range_with_len}

@@ -34,7 +34,7 @@ impl Lab {
     }
 
     /// Executes an order, and returns its answer and what follows.
-    #[tactic(auto, using(crate::proofs::Obeyed::as_known, crate::proofs::Obeyed::executed_look))]
+    #[tactic(auto, using(crate::proofs::Obeyed::as_known, crate::proofs::Obeyed::kept))]
     pub(crate) fn execute(&mut self, order: Order) -> Result<Done, NoMemory>
         requires { self.old.plan ≡ None }
         ensures { Executes order self.old self.new result }

@@ -2,7 +2,6 @@
 ghost use Rattle.std.specs.Prelude.{◌≡◌, ◌≤◌, ◌++◌, Ok, Some, None, IfOk, OnErr, OnOk, max};
 ghost use Rattle.std.specs.Option.{option_map};
 ghost use Rattle.rv_lab.specs.declared.order.Order.TheVariants as orders;
-ghost use Rattle.rv_runs.specs.declared.goal.Goal.TheVariants as goal;
 ghost use Rattle.rv_lab.specs.Commands.{GoesOn, InPieces, IsWithin, begun, next_of, piece_most, planned, stops_of, with_piece};
 ghost use Rattle.rv_runs.specs.Ends.{goal_after, run_ends};
 ghost use Rattle.rv_lab.specs.Refusals.{RunsOut, StopsShort};

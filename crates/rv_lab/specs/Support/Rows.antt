@@ -1,14 +1,12 @@
 -- Not to audit: private contracts alone cite this.
 -- Parts of the answers, as the code finds them.
-use Rattle.std.specs.Prelude.{ℕ, ◌+◌, ◌-◌, ◌*◌, ◌%◌, ◌^◌, ◌==◌, ◌&&◌, List, [], ◌∷◌, filter, find, if◌then◌else◌, nat_le, not, Option, None, option_and_then, unwrap_or}
-use Rattle.std.specs.List.{last_or, position_or_len, range_with_len}
+use Rattle.std.specs.Prelude.{ℕ, ◌+◌, ◌*◌, ◌%◌, ◌^◌, ◌==◌, ◌&&◌, List, [], ◌∷◌, find, if◌then◌else◌, not, Option, None, unwrap_or}
+use Rattle.std.specs.List.{position_or_len, range_with_len}
 use Rattle.std.specs.Option.{option_map}
 use Rattle.rv_isa.specs.Number.{flag}
 use Rattle.rv_pmp.specs.Mode.{is_machine}
 use Rattle.rv_board.specs.BoardState.{BoardState, csr_of}
 use Rattle.rv_monitor.specs.Views.{byte_at_offset, word_at}
-use Rattle.rv_asm.specs.Lines.{Listed}
-use Rattle.rv_lab.specs.Lines.{line_at}
 
 -- ---- `dev`
 
