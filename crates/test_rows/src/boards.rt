@@ -1,34 +1,42 @@
 //! The boards of a row: one over flat memory without a cache, and three over pages with caches of several
 //! sizes.
 use crate::calls::{calls_agree, more_calls_agree};
-use crate::checked::{Checked, check};
+use crate::checked::{Checked, Wrong, check};
 use crate::compare::same_everywhere;
 use crate::devices::append_devices;
-use crate::row::{Row, argument, copy_line};
-use rv_asm::{Program, assemble};
-use rv_base::{NoMemory, cut_lines};
-use rv_board::{Board, BootedBoard};
+use crate::row::{Answers, Appended, Row, append_answers};
+use rv_asm::{FaultKind, Program, assemble};
+use rv_board::{Board, BootFault, BootedBoard};
 use rv_cache::{DecodeCache, Decoded, NoCache};
-use rv_monitor::{Next, Session};
+use rv_monitor::{Next, OpenFault, Session, open_session};
 use rv_ram::{ByteMemory, FlatMemory, PagedRam};
 use rv_timeline::Timeline;
 use std::alloc::Global;
 
-pub const NO_MEMORY: &str = "out of memory\n";
+const NO_BOARD: Wrong = Wrong::What("the board doesn't boot");
 
-const NO_BOARD: &str = "the board doesn't boot\n";
+const NO_TIMELINE: Wrong = Wrong::What("the timed list is refused");
+
+/// Assembles a source. Where memory runs out, the fault has to name no line.
+pub fn assembled(alloc: Global, source: &[u8]) -> Checked<Program> {
+    match assemble(alloc, source) {
+        Ok(program) => Ok(program),
+        Err(fault) if fault.line == 0 && fault.kind == FaultKind::OutOfMemory => {
+            Err(Wrong::OutOfMemory)
+        }
+        Err(_) => Err(Wrong::What("the source is refused")),
+    }
+}
 
 /// Returns the program of the row's source.
 pub fn program(alloc: Global, row: Row<'_>) -> Checked<Program> {
-    let source = row.lines_of(alloc, b' ').ok().ok_or(NO_MEMORY)?;
-    let program = assemble(alloc, source.as_slice());
-    program.ok().ok_or("the source is refused\n")
+    let source = row.lines_of(alloc, b' ')?;
+    assembled(alloc, &source)
 }
 
 /// Reads a timed list.
 pub fn timeline(alloc: Global, timed: &[u8]) -> Checked<Timeline> {
-    let timeline = Timeline::read(alloc, timed);
-    timeline.ok().ok_or("the timed list is refused\n")
+    Timeline::read(alloc, timed).ok().ok_or(NO_TIMELINE)
 }
 
 /// Returns how many steps the row's boards may take.
@@ -36,97 +44,118 @@ pub fn limit(row: Row<'_>) -> u64 {
     row.number_of(b'=')
 }
 
-// A function that owns a board drops it at each `?`, which costs proof: so each of these has few of them.
+// A function that owns a board drops it at each exit, which costs proof. So each of these only makes one, and the others
+// lend theirs to a function that checks it.
 
 /// Returns a board over a page of flat memory, without a cache.
 pub fn flat_board(alloc: Global, program: &Program) -> Checked<Board<FlatMemory, NoCache>> {
-    let memory = FlatMemory::new(alloc, 1).ok().ok_or(NO_MEMORY)?;
-    let board = Board::with_parts(alloc, program, memory, NoCache);
-    board.ok().ok_or(NO_BOARD)
+    let memory = FlatMemory::new(alloc, 1)?;
+    match Board::with_parts(alloc, program, memory, NoCache) {
+        Ok(board) => Ok(board),
+        Err(_) => Err(NO_BOARD),
+    }
 }
 
-/// Returns a board over a page of paged memory, with a cache of `slots` slots.
-pub fn paged_board(alloc: Global, program: &Program, slots: u32) -> Checked<BootedBoard> {
-    let board = BootedBoard::boot(alloc, program, 1, slots);
-    board.ok().ok_or(NO_BOARD)
+/// Returns a board over paged memory, with a cache of `slots` slots.
+pub fn paged_board(
+    alloc: Global,
+    program: &Program,
+    pages: u32,
+    slots: u32,
+) -> Checked<BootedBoard> {
+    match BootedBoard::boot(alloc, program, pages, slots) {
+        Ok(board) => Ok(board),
+        Err(BootFault::OutOfMemory) => Err(Wrong::OutOfMemory),
+        Err(_) => Err(NO_BOARD),
+    }
 }
 
-/// Returns a session of the row over flat memory.
-fn flat_session(
+type FlatBoard = Board<FlatMemory, NoCache>;
+
+type FlatSession = Session<FlatMemory, NoCache>;
+
+/// A session over paged memory.
+pub type PagedSession = Session<PagedRam, DecodeCache>;
+
+/// Returns a session of up to `limit` steps over paged memory, with a cache of `slots` slots.
+pub fn session(
+    alloc: Global,
+    program: Program,
+    timed: &[u8],
+    pages: u32,
+    slots: u32,
+    limit: u64,
+) -> Checked<PagedSession> {
+    match open_session(alloc, program, timed, pages, slots, limit) {
+        Ok(session) => Ok(session),
+        Err(OpenFault::OutOfMemory) => Err(Wrong::OutOfMemory),
+        Err(OpenFault::Input(_)) => Err(NO_TIMELINE),
+        Err(OpenFault::Board(_)) => Err(NO_BOARD),
+    }
+}
+
+/// Returns a session of the row over a page, with these timed inputs and a cache of `slots` slots.
+pub fn paged_session(
     alloc: Global,
     row: Row<'_>,
     timed: &[u8],
-) -> Checked<Session<FlatMemory, NoCache>> {
+    slots: u32,
+) -> Checked<PagedSession> {
+    session(alloc, program(alloc, row)?, timed, 1, slots, limit(row))
+}
+
+/// Returns a session of the row over flat memory.
+fn flat_session(alloc: Global, row: Row<'_>, timed: &[u8]) -> Checked<FlatSession> {
     let program = program(alloc, row)?;
     let timeline = timeline(alloc, timed)?;
     let board = flat_board(alloc, &program)?;
     Ok(Session::new(alloc, board, timeline, program, limit(row)))
 }
 
-/// Returns a session of the row over pages, with these timed inputs and a cache of `slots` slots.
-pub fn paged_session(
-    alloc: Global,
-    row: Row<'_>,
-    timed: &[u8],
-    slots: u32,
-) -> Checked<Session<PagedRam, DecodeCache>> {
-    let program = program(alloc, row)?;
-    let timeline = timeline(alloc, timed)?;
-    let board = paged_board(alloc, &program, slots)?;
-    Ok(Session::new(alloc, board, timeline, program, limit(row)))
-}
-
 /// Appends the answer to a command.
-fn append_answer<M: ByteMemory, C: Decoded>(
+fn append_commanded<M: ByteMemory, C: Decoded>(
     session: &mut Session<M, C>,
     command: &[u8],
     text: &mut Vec<u8>,
-) -> Result<(), NoMemory> {
-    let next = session.command(command, text)?;
-    if next == Next::Quit {
+) -> Appended {
+    if session.command(command, text)? == Next::Quit {
         text.extend_from_slice(b"no more commands\n")?;
     }
     Ok(())
 }
 
-/// Appends a line of a row with the answer to it, or nothing where the line is an answer itself.
-fn answer_line<M: ByteMemory, C: Decoded>(
-    session: &mut Session<M, C>,
-    line: &[u8],
-    text: &mut Vec<u8>,
-) -> Result<(), NoMemory> {
-    match copy_line(line, b"# @=^>!", text)? {
-        Some(b'>') => append_answer(session, argument(line), text),
-        Some(b'!') => append_devices(session.board(), text),
-        _ => Ok(()),
+impl<M: ByteMemory, C: Decoded> Answers for Session<M, C> {
+    fn append_answer(
+        &mut self,
+        alloc: Global,
+        mark: u8,
+        argument: &[u8],
+        text: &mut Vec<u8>,
+    ) -> Appended {
+        match mark {
+            b'>' => append_commanded(self, argument, text),
+            b'!' => append_devices(alloc, self.board(), text),
+            _ => Ok(()),
+        }
     }
 }
 
-/// Returns the row with the answers of a session.
-fn answers<M: ByteMemory, C: Decoded>(
-    alloc: Global,
-    session: &mut Session<M, C>,
-    row: Row<'_>,
-) -> Result<Vec<u8>, NoMemory> {
-    let mut text = Vec::new(alloc);
-    for line in cut_lines(row.text) {
-        answer_line(session, line, &mut text)?;
-    }
-    Ok(text)
-}
+/// The bytes with which the lines begin that are no answers.
+const MARKS: &[u8] = b"# @=^>!";
 
 /// Checks that a session gives these answers, and that its board is the same as another at the end.
-fn agrees<M: ByteMemory, C: Decoded, N: ByteMemory, D: Decoded>(
+fn agrees(
     alloc: Global,
     row: Row<'_>,
-    session: &mut Session<M, C>,
+    session: &mut PagedSession,
     text: &[u8],
-    board: &Board<N, D>,
+    board: &FlatBoard,
 ) -> Checked<()> {
-    let other = answers(alloc, session, row).ok().ok_or(NO_MEMORY)?;
-    check(other.as_slice() == text, "the boards answer differently\n")?;
+    let mut answers = Vec::new(alloc);
+    append_answers(alloc, row, MARKS, session, &mut answers)?;
+    check(answers.as_slice() == text, "the boards answer differently")?;
     let same = same_everywhere(session.board(), board);
-    check(same, "the boards are different at the end\n")
+    check(same, "the boards are different at the end")
 }
 
 /// Checks the same of a session over pages, with a cache of `slots` slots.
@@ -136,43 +165,40 @@ fn pages_agree(
     timed: &[u8],
     slots: u32,
     text: &[u8],
-    board: &Board<FlatMemory, NoCache>,
+    board: &FlatBoard,
 ) -> Checked<()> {
     let mut session = paged_session(alloc, row, timed, slots)?;
     agrees(alloc, row, &mut session, text, board)
 }
 
-/// Returns the row with the answers of a session over flat memory, where those over pages are the same.
-fn common_answers(
+/// Appends the row with the answers of a session over flat memory, and checks that those over pages are the same.
+fn append_common_answers(
     alloc: Global,
     row: Row<'_>,
     timed: &[u8],
-    session: &mut Session<FlatMemory, NoCache>,
-) -> Checked<Vec<u8>> {
-    let text = answers(alloc, session, row).ok().ok_or(NO_MEMORY)?;
+    session: &mut FlatSession,
+    text: &mut Vec<u8>,
+) -> Checked<()> {
+    append_answers(alloc, row, MARKS, session, text)?;
     for slots in [64, 1024, 4096] {
-        pages_agree(alloc, row, timed, slots, text.as_slice(), session.board())?;
-    }
-    Ok(text)
-}
-
-/// Returns the row with the answers of its boards, or why there are none.
-fn answered(alloc: Global, row: Row<'_>) -> Checked<Vec<u8>> {
-    calls_agree(alloc, row)?;
-    if row.has(b'^') {
-        let count = u32::try_from(row.number_of(b'^')).unwrap_or(0);
-        more_calls_agree(alloc, row, count)?;
-    }
-    let timed = row.lines_of(alloc, b'@').ok().ok_or(NO_MEMORY)?;
-    let mut session = flat_session(alloc, row, timed.as_slice())?;
-    common_answers(alloc, row, timed.as_slice(), &mut session)
-}
-
-/// Appends the row with the answers of its boards, or why there are none.
-pub fn answer(alloc: Global, row: Row<'_>, text: &mut Vec<u8>) -> Result<(), NoMemory> {
-    match answered(alloc, row) {
-        Ok(answers) => text.extend_from_slice(answers.as_slice())?,
-        Err(why) => text.extend_from_slice(why.as_bytes())?,
+        pages_agree(alloc, row, timed, slots, text, session.board())?;
     }
     Ok(())
+}
+
+/// Appends the row with the answers of its boards.
+fn answer_all(alloc: Global, row: Row<'_>, timed: &[u8], text: &mut Vec<u8>) -> Checked<()> {
+    let mut session = flat_session(alloc, row, timed)?;
+    append_common_answers(alloc, row, timed, &mut session, text)
+}
+
+/// Appends the row with the answers of its boards, which have to agree.
+pub fn answer(alloc: Global, row: Row<'_>, text: &mut Vec<u8>) -> Checked<()> {
+    let timed = row.lines_of(alloc, b'@')?;
+    calls_agree(alloc, row, &timed)?;
+    if row.has(b'^') {
+        let count = u32::try_from(row.number_of(b'^')).unwrap_or(0);
+        more_calls_agree(alloc, row, &timed, count)?;
+    }
+    answer_all(alloc, row, &timed, text)
 }

@@ -1,12 +1,12 @@
 //! Rows and the answers that they must have.
-use crate::report::{Count, Report};
-use crate::row::{Row, first_row};
+use crate::checked::{Checked, Wrong};
+use crate::report::{Count, Report, Reported};
+use crate::row::{Row, append_line, first_row};
 use crate::{boards, image, runs, sentences};
-use rv_base::NoMemory;
 use std::alloc::Global;
 
-/// Appends a row with its answers, or why there are none.
-fn answer(alloc: Global, row: Row<'_>, text: &mut Vec<u8>) -> Result<(), NoMemory> {
+/// Appends a row with its answers.
+fn append_answered(alloc: Global, row: Row<'_>, text: &mut Vec<u8>) -> Checked<()> {
     if row.has(b'~') {
         sentences::answer(alloc, row, text)
     } else if row.has(b'=') {
@@ -16,24 +16,25 @@ fn answer(alloc: Global, row: Row<'_>, text: &mut Vec<u8>) -> Result<(), NoMemor
     } else if row.has(b'$') {
         runs::answer(alloc, row, text)
     } else {
-        text.extend_from_slice(b"the row asks nothing\n")?;
-        Ok(())
+        Err(Wrong::What("the row asks nothing"))
     }
 }
 
-/// Answers a row, appends it with its answers, and reports the first line where the row has others.
-fn check_row(
-    alloc: Global,
-    name: &str,
-    row: Row<'_>,
-    report: &mut Report,
-) -> Result<Count, NoMemory> {
-    let mut text = Vec::new(alloc);
-    answer(alloc, row, &mut text)?;
-    report.append_answers(text.as_slice())?;
-    let differs = text.as_slice() != row.text;
+/// Gives a row with its answers, or why there are none.
+fn answer(alloc: Global, row: Row<'_>, text: &mut Vec<u8>) -> Reported<()> {
+    let Err(why) = append_answered(alloc, row, text) else {
+        return Ok(());
+    };
+    text.clear();
+    append_line(why.words().as_bytes(), b"", text)
+}
+
+/// Reports a row with its answers, and the first line where it has others.
+fn report_row(name: &str, row: Row<'_>, answered: &[u8], report: &mut Report) -> Reported<Count> {
+    report.append_answers(answered)?;
+    let differs = answered != row.text;
     if differs {
-        report.append_difference(name, row, text.as_slice())?;
+        report.append_difference(name, row.text, answered)?;
     }
     Ok(Count {
         rows: 1,
@@ -41,13 +42,15 @@ fn check_row(
     })
 }
 
+/// Answers a row, and reports it.
+fn check_row(alloc: Global, name: &str, row: Row<'_>, report: &mut Report) -> Reported<Count> {
+    let mut text = Vec::new(alloc);
+    answer(alloc, row, &mut text)?;
+    report_row(name, row, &text, report)
+}
+
 /// Answers each row of a file, reports those that have other answers, and counts them.
-pub fn check_rows(
-    alloc: Global,
-    name: &str,
-    text: &[u8],
-    report: &mut Report,
-) -> Result<Count, NoMemory> {
+pub fn check_rows(alloc: Global, name: &str, text: &[u8], report: &mut Report) -> Reported<Count> {
     let mut count = Count::NONE;
     let mut rest = text;
     for _ in 0..text.len() {

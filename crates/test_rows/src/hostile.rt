@@ -8,10 +8,11 @@ mod changes;
 mod streams;
 mod texts;
 
+use crate::checked::print_result;
 use crate::hostile::answers::{Text, is_answered};
 use crate::hostile::changes::{Dice, change};
+pub use crate::hostile::streams::OPTIONS;
 use crate::hostile::streams::are_answered;
-pub use crate::hostile::streams::{NONE, Texts, run};
 use crate::hostile::texts::{COMMANDS, INPUTS, SOURCE, TIMER};
 use rv_base::NoMemory;
 use std::alloc::Global;
@@ -20,71 +21,73 @@ use std::io::Write;
 /// The number of changes of each text.
 const CHANGES: usize = 1000;
 
-/// Returns the first beginning of a text that is answered wrongly.
-fn wrong_beginning(alloc: Global, kind: Text, text: &[u8]) -> Result<Option<Vec<u8>>, NoMemory> {
+/// Whether texts are answered right, if there is memory for them.
+type Answered = Result<bool, NoMemory>;
+
+// Each tried text is in a place that is lent, where the one that is answered wrongly is left.
+
+/// Whether each beginning of a text is answered right.
+fn beginnings_are_right(alloc: Global, kind: Text, text: &[u8], tried: &mut Vec<u8>) -> Answered {
     for count in 0..text.len() {
-        let Some(beginning) = text.get(..count) else {
-            return Ok(None);
-        };
-        if !is_answered(alloc, kind, beginning) {
-            return Ok(Some(Vec::from_slice(alloc, beginning)?));
+        tried.clear();
+        tried.extend_from_slice(text.split_at(count).0)?;
+        if !is_answered(alloc, kind, tried) {
+            return Ok(false);
         }
     }
-    Ok(None)
+    Ok(true)
 }
 
-/// Returns the first change of a text that is answered wrongly.
-fn wrong_change(alloc: Global, kind: Text, text: &[u8]) -> Result<Option<Vec<u8>>, NoMemory> {
-    let mut dice = Dice::new();
+/// Whether each change of a text is answered right.
+fn changes_are_right(alloc: Global, kind: Text, text: &[u8], tried: &mut Vec<u8>) -> Answered {
+    let mut dice = Dice::NEW;
     for _ in 0..CHANGES {
-        let changed = change(alloc, text, &mut dice)?;
-        if !is_answered(alloc, kind, changed.as_slice()) {
-            return Ok(Some(changed));
+        change(text, &mut dice, tried)?;
+        if !is_answered(alloc, kind, tried) {
+            return Ok(false);
         }
     }
-    Ok(None)
+    Ok(true)
 }
 
-/// Returns the first beginning or change of a text that is answered wrongly.
-fn wrong_text(alloc: Global, kind: Text, text: &[u8]) -> Result<Option<Vec<u8>>, NoMemory> {
-    if let Some(wrong) = wrong_beginning(alloc, kind, text)? {
-        return Ok(Some(wrong));
-    }
-    wrong_change(alloc, kind, text)
+/// Whether each beginning and each change of a text is answered right.
+fn are_right(alloc: Global, kind: Text, text: &[u8], tried: &mut Vec<u8>) -> Answered {
+    Ok(
+        beginnings_are_right(alloc, kind, text, tried)?
+            && changes_are_right(alloc, kind, text, tried)?,
+    )
 }
 
-/// Prints how the texts of a kind were answered, with the first one that was answered wrongly.
-fn print(rt: &HostRuntime, name: &[u8], wrong: Result<Option<Vec<u8>>, NoMemory>) {
+/// Returns how the texts of a kind are answered. Of a text that is answered wrongly the line that follows has it.
+fn result(alloc: Global, kind: Text, text: &[u8], tried: &mut Vec<u8>) -> &'static [u8] {
+    let line = match are_right(alloc, kind, text, tried) {
+        Ok(false) => return b" a wrong answer to:\n",
+        Ok(true) => b" as defined\n".as_slice(),
+        Err(NoMemory) => b" no memory\n".as_slice(),
+    };
+    tried.clear();
+    line
+}
+
+/// Prints how the texts of a kind are answered, with the first one that is answered wrongly.
+fn print(rt: &HostRuntime, name: &[u8], kind: Text, text: &[u8]) {
+    let mut tried = Vec::new(rt.alloc());
+    let result = result(rt.alloc(), kind, text, &mut tried);
     let _ = rt.stdout().write_all(name);
-    match wrong {
-        Ok(None) => {
-            let _ = rt.stdout().write_all(b" as defined\n");
-        }
-        Ok(Some(text)) => {
-            let _ = rt.stdout().write_all(b" a wrong answer to:\n");
-            let _ = rt.stdout().write_all(text.as_slice());
-        }
-        Err(NoMemory) => {
-            let _ = rt.stdout().write_all(b" no memory\n");
-        }
-    }
+    let _ = rt.stdout().write_all(result);
+    let _ = rt.stdout().write_all(&tried);
 }
 
 /// Prints a line for each kind of text, with the first one that is answered wrongly.
 pub fn print_answers(rt: &HostRuntime) {
-    let alloc = rt.alloc();
-    print(rt, b"sources:", wrong_text(alloc, Text::Source, SOURCE));
-    print(rt, b"more sources:", wrong_text(alloc, Text::Source, TIMER));
-    print(rt, b"timed lists:", wrong_text(alloc, Text::Inputs, INPUTS));
-    print(
-        rt,
-        b"commands:",
-        wrong_text(alloc, Text::Commands, COMMANDS),
-    );
-    let line = if are_answered(alloc) {
-        b"readers and writers: as defined\n".as_slice()
+    print(rt, b"sources:", Text::Source, SOURCE);
+    print(rt, b"more sources:", Text::Source, TIMER);
+    print(rt, b"timed lists:", Text::Inputs, INPUTS);
+    print(rt, b"commands:", Text::Commands, COMMANDS);
+    let result = if are_answered(rt.alloc()) {
+        "as defined"
     } else {
-        b"readers and writers: a wrong answer\n".as_slice()
+        "a wrong answer"
     };
-    let _ = rt.stdout().write_all(line);
+    print_result(rt, "readers and writers: ", result);
 }

@@ -1,12 +1,13 @@
 //! The image of a row, and its names.
 use crate::boards::program;
-use crate::row::{Row, argument, copy_line, number};
+use crate::checked::Checked;
+use crate::row::{Answers, Appended, Row, append_answers, append_shown, number};
 use rv_asm::Program;
-use rv_base::{NoMemory, RAM_BASE, byte_digits, cut_lines, word_digits};
+use rv_base::{RAM_BASE, byte_digits, word_digits};
 use std::alloc::Global;
 
 /// Appends bytes as one number, of which the first byte is the lowest.
-fn append_group(group: &[u8], text: &mut Vec<u8>) -> Result<(), NoMemory> {
+fn append_group(group: &[u8], text: &mut Vec<u8>) -> Appended {
     text.extend_from_slice(b" ")?;
     for byte in group.iter().rev() {
         text.extend_from_slice(&byte_digits(*byte))?;
@@ -15,7 +16,7 @@ fn append_group(group: &[u8], text: &mut Vec<u8>) -> Result<(), NoMemory> {
 }
 
 /// Appends a line of bytes with the address that they are at, `size` of them as one number.
-fn append_line(at: u32, bytes: &[u8], size: usize, text: &mut Vec<u8>) -> Result<(), NoMemory> {
+fn append_line(at: u32, bytes: &[u8], size: usize, text: &mut Vec<u8>) -> Appended {
     text.extend_from_slice(&word_digits(at))?;
     text.extend_from_slice(b":")?;
     for group in bytes.chunks(size.max(1)) {
@@ -24,21 +25,10 @@ fn append_line(at: u32, bytes: &[u8], size: usize, text: &mut Vec<u8>) -> Result
     Ok(text.extend_from_slice(b"\n")?)
 }
 
-/// Appends the size of an image.
-fn append_size(alloc: Global, size: usize, text: &mut Vec<u8>) -> Result<(), NoMemory> {
-    let line = format!(in alloc; "{size} bytes\n")?;
-    Ok(text.extend_from_slice(line.as_bytes())?)
-}
-
 /// Appends the size of an image, and then all its bytes, `size` of them as one number; none where `size` is
 /// 0.
-fn append_image(
-    alloc: Global,
-    bytes: &[u8],
-    size: usize,
-    text: &mut Vec<u8>,
-) -> Result<(), NoMemory> {
-    append_size(alloc, bytes.len(), text)?;
+fn append_image(alloc: Global, bytes: &[u8], size: usize, text: &mut Vec<u8>) -> Appended {
+    append_shown(format!(in alloc; "{} bytes\n", bytes.len()), text)?;
     if size == 0 {
         return Ok(());
     }
@@ -51,42 +41,34 @@ fn append_image(
 }
 
 /// Appends the value of a name, or that there is no such name.
-fn append_value(alloc: Global, value: Option<i64>, text: &mut Vec<u8>) -> Result<(), NoMemory> {
-    let Some(value) = value else {
-        return Ok(text.extend_from_slice(b"no such name\n")?);
-    };
-    let shown = format!(in alloc; "value {value}\n")?;
-    Ok(text.extend_from_slice(shown.as_bytes())?)
-}
-
-/// Appends a line of a row with the answer to it, or nothing where the line is an answer itself.
-fn answer_line(
-    alloc: Global,
-    program: &Program,
-    line: &[u8],
-    text: &mut Vec<u8>,
-) -> Result<(), NoMemory> {
-    match copy_line(line, b"# %&", text)? {
-        Some(b'%') => {
-            let size = usize::try_from(number(argument(line))).unwrap_or(0);
-            append_image(alloc, program.bytes(), size, text)
-        }
-        Some(b'&') => append_value(alloc, program.symbol(argument(line)), text),
-        _ => Ok(()),
+fn append_value(alloc: Global, value: Option<i64>, text: &mut Vec<u8>) -> Appended {
+    match value {
+        Some(value) => Ok(append_shown(format!(in alloc; "value {value}\n"), text)?),
+        None => Ok(text.extend_from_slice(b"no such name\n")?),
     }
 }
 
-/// Appends the row with the answers of its program, or why there is no program.
-pub fn answer(alloc: Global, row: Row<'_>, text: &mut Vec<u8>) -> Result<(), NoMemory> {
-    let program = match program(alloc, row) {
-        Ok(program) => program,
-        Err(why) => {
-            text.extend_from_slice(why.as_bytes())?;
-            return Ok(());
+impl Answers for Program {
+    fn append_answer(
+        &mut self,
+        alloc: Global,
+        mark: u8,
+        argument: &[u8],
+        text: &mut Vec<u8>,
+    ) -> Appended {
+        match mark {
+            b'%' => {
+                let size = usize::try_from(number(argument)).unwrap_or(0);
+                append_image(alloc, self.bytes(), size, text)
+            }
+            b'&' => append_value(alloc, self.symbol(argument), text),
+            _ => Ok(()),
         }
-    };
-    for line in cut_lines(row.text) {
-        answer_line(alloc, &program, line, text)?;
     }
-    Ok(())
+}
+
+/// Appends the row with the answers of its program.
+pub fn answer(alloc: Global, row: Row<'_>, text: &mut Vec<u8>) -> Checked<()> {
+    let mut program = program(alloc, row)?;
+    Ok(append_answers(alloc, row, b"# %&", &mut program, text)?)
 }

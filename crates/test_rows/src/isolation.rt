@@ -1,15 +1,16 @@
 //! Runs of user code and outside events, which show by example what docs/ISOLATION.md promises: what user code
 //! can't change and can't learn, and which outside events may be exchanged.
+//!
+//! Each is a case of two boards, which may differ in what user code may not see.
 
-mod boards;
+mod cases;
 mod exchange;
 mod runs;
 mod secrets;
 
-use crate::checked::Checked;
+use crate::checked::{Checked, print_result};
 pub use runs::STORES;
 use std::alloc::Global;
-use std::io::Write;
 
 /// Does all checks.
 fn check_all(alloc: Global) -> Checked<()> {
@@ -22,10 +23,7 @@ fn check_all(alloc: Global) -> Checked<()> {
 pub fn print_check(rt: &HostRuntime) {
     let result = match check_all(rt.alloc()) {
         Ok(()) => "as defined",
-        Err(what) => what,
+        Err(why) => why.words(),
     };
-    let mut out = rt.stdout();
-    let _ = out.write_all(b"isolation: ");
-    let _ = out.write_all(result.as_bytes());
-    let _ = out.write_all(b"\n");
+    print_result(rt, "isolation: ", result);
 }

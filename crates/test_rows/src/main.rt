@@ -46,7 +46,6 @@ mod sentences;
 
 use crate::check::check_rows;
 use crate::report::{Count, Report};
-use std::alloc::AllocError;
 use std::io::{self, Write};
 use std::process::ExitCode;
 use std::{env, fs};
@@ -57,27 +56,20 @@ fn check_file(rt: &HostRuntime, name: &str, report: &mut Report) -> io::Result<C
         report.append_unread(name)?;
         return Ok(Count::UNREAD);
     };
-    let count = check_rows(rt.alloc(), name, text.as_slice(), report);
-    let count = count.map_err(|_| AllocError)?;
+    let count = check_rows(rt.alloc(), name, &text, report)?;
     report.append_count(rt.alloc(), name, count)?;
     Ok(count)
 }
 
 /// Does what an argument asks for, and counts the rows.
 fn check_argument(rt: &HostRuntime, word: &str, report: &mut Report) -> io::Result<Count> {
-    if word == "--hostile" {
-        hostile::print_answers(rt);
-        return Ok(Count::NONE);
+    match word.as_bytes() {
+        b"--hostile" => hostile::print_answers(rt),
+        b"--isolation" => isolation::print_check(rt),
+        b"--refusals" => refusals::print_answers(rt),
+        _ => return check_file(rt, word, report),
     }
-    if word == "--isolation" {
-        isolation::print_check(rt);
-        return Ok(Count::NONE);
-    }
-    if word == "--refusals" {
-        refusals::print_answers(rt);
-        return Ok(Count::NONE);
-    }
-    check_file(rt, word, report)
+    Ok(Count::NONE)
 }
 
 /// Does what the arguments ask for, and counts the rows of all files.

@@ -9,27 +9,13 @@ mod guarded;
 mod hello;
 mod session;
 
-use rv_asm::{FaultKind, Program, assemble};
+use crate::checked::{Checked, Wrong, print_result};
 use std::alloc::Global;
-use std::io::{Read, Write};
+use std::io::Read;
 
-/// Why an answer is missing.
-pub enum Missing {
-    /// Memory ran out.
-    Refused,
-    /// An answer is wrong.
-    Wrong,
-}
-
-/// Assembles a source. Where memory runs out, the fault has to name no line.
-fn program(alloc: Global, source: &[u8]) -> Result<Program, Missing> {
-    match assemble(alloc, source) {
-        Ok(program) => Ok(program),
-        Err(fault) if fault.line == 0 && fault.kind == FaultKind::OutOfMemory => {
-            Err(Missing::Refused)
-        }
-        Err(_) => Err(Missing::Wrong),
-    }
+/// Whether a check passes, or memory ran out.
+fn is_right(checked: Checked<()>) -> bool {
+    matches!(checked, Ok(()) | Err(Wrong::OutOfMemory))
 }
 
 /// Returns how many bytes there are on standard input, up to 4096.
@@ -38,38 +24,45 @@ fn input_length(rt: &HostRuntime) -> usize {
     rt.stdin().read(&mut buffer).unwrap_or(0)
 }
 
-/// Makes `count` allocations, or those before the refused one, and returns them.
-fn allocate(alloc: Global, count: usize) -> Vec<Vec<u8>> {
-    let mut kept = Vec::new(alloc);
-    if kept.reserve(count).is_err() {
-        return kept;
-    }
+/// Makes `count` allocations, or those before the refused one.
+fn allocate(alloc: Global, count: usize, kept: &mut Vec<Vec<u8>>) -> Option<()> {
+    kept.reserve(count).ok()?;
     for _ in 0..count {
-        let Ok(one) = Vec::from_slice(alloc, b"1") else {
-            return kept;
-        };
-        if kept.push(one).is_err() {
-            return kept;
+        kept.push(Vec::from_slice(alloc, b"1").ok()?).ok()?;
+    }
+    Some(())
+}
+
+/// Whether each of these allocations has its byte.
+fn have_bytes(kept: &[Vec<u8>]) -> bool {
+    for one in kept {
+        if one.as_slice() != b"1".as_slice() {
+            return false;
         }
     }
-    kept
+    true
+}
+
+/// Does the runs, and returns how they were answered. These allocations were made before.
+fn answer(alloc: Global, kept: &[Vec<u8>]) -> &'static str {
+    if !hello::answers_right(alloc) {
+        "a wrong answer of the run of a text"
+    } else if !is_right(guarded::check_run(alloc)) {
+        "a wrong answer of the assembler or the board"
+    } else if !session::answers_right(alloc) {
+        "a wrong answer of a session"
+    } else if !is_right(empty::check_boot(alloc)) {
+        "a wrong answer of a board with an empty source"
+    } else if !have_bytes(kept) {
+        "a lost byte"
+    } else {
+        "as defined"
+    }
 }
 
 /// Makes the allocations that standard input asks for, does the runs, and prints how they were answered.
 pub fn print_answers(rt: &HostRuntime) {
-    let kept = allocate(rt.alloc(), input_length(rt));
-    let line = if !hello::answers_right(rt.alloc()) {
-        b"refusals: a wrong answer of the run of a text\n".as_slice()
-    } else if !guarded::answers_right(rt.alloc()) {
-        b"refusals: a wrong answer of the assembler or the board\n".as_slice()
-    } else if !session::answers_right(rt.alloc()) {
-        b"refusals: a wrong answer of a session\n".as_slice()
-    } else if !empty::answers_right(rt.alloc()) {
-        b"refusals: a wrong answer of a board with an empty source\n".as_slice()
-    } else if kept.iter().all(|one| one.as_slice() == b"1".as_slice()) {
-        b"refusals: as defined\n".as_slice()
-    } else {
-        b"refusals: a lost byte\n".as_slice()
-    };
-    let _ = rt.stdout().write_all(line);
+    let mut kept = Vec::new(rt.alloc());
+    let _ = allocate(rt.alloc(), input_length(rt), &mut kept);
+    print_result(rt, "refusals: ", answer(rt.alloc(), &kept));
 }

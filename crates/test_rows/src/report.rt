@@ -1,6 +1,10 @@
 //! What is printed of rows.
-use crate::row::{Row, append_line};
+use crate::row::{append_line, append_shown};
+use rv_base::cut_lines;
 use std::alloc::{AllocError, Global};
+
+/// A result, if there was memory for it.
+pub type Reported<T> = Result<T, AllocError>;
 
 /// How many rows were answered, and how many of them differently.
 #[derive(Clone, Copy)]
@@ -42,30 +46,20 @@ pub struct Report {
     pub differences: Vec<u8>,
 }
 
-/// Returns the line of a text that has the byte at `index`.
-fn line_at(text: &[u8], index: usize) -> &[u8] {
-    let (before, following) = text.split_at(index.min(text.len()));
-    let front = before
-        .rsplit(|byte| *byte == b'\n')
-        .next()
-        .unwrap_or(b"")
-        .len();
-    let back = following
-        .split(|byte| *byte == b'\n')
-        .next()
-        .unwrap_or(b"")
-        .len();
-    let start = before.len().saturating_sub(front);
-    let end = before.len().saturating_add(back);
-    text.get(start..end).unwrap_or(b"")
-}
-
-/// Returns how many bytes two texts have in common from their beginning.
-fn common_length(one: &[u8], other: &[u8]) -> usize {
-    one.iter()
-        .zip(other)
-        .take_while(|(one, other)| one == other)
-        .count()
+/// Returns the first line that differs between two texts, as both have it. Where a text has no more lines, that is an
+/// empty line.
+fn first_difference<'a>(wanted: &'a [u8], got: &'a [u8]) -> (&'a [u8], &'a [u8]) {
+    let (mut wanted_lines, mut got_lines) = (cut_lines(wanted), cut_lines(got));
+    for _ in 0..wanted.len() {
+        let lines = (
+            wanted_lines.next().unwrap_or(b""),
+            got_lines.next().unwrap_or(b""),
+        );
+        if lines.0 != lines.1 {
+            return lines;
+        }
+    }
+    (b"", b"")
 }
 
 impl Report {
@@ -87,7 +81,7 @@ impl Report {
     }
 
     /// Appends a row with the answers that it got.
-    pub fn append_answers(&mut self, row: &[u8]) -> Result<(), AllocError> {
+    pub fn append_answers(&mut self, row: &[u8]) -> Reported<()> {
         if !self.answers.is_empty() {
             self.answers.extend_from_slice(b"\n")?;
         }
@@ -95,35 +89,25 @@ impl Report {
     }
 
     /// Appends that a file can't be read.
-    pub fn append_unread(&mut self, name: &str) -> Result<(), AllocError> {
+    pub fn append_unread(&mut self, name: &str) -> Reported<()> {
         append_line(name.as_bytes(), b": cannot be read", &mut self.differences)
     }
 
     /// Appends how many rows a file has, and how many of them differ.
-    pub fn append_count(
-        &mut self,
-        alloc: Global,
-        name: &str,
-        count: Count,
-    ) -> Result<(), AllocError> {
+    pub fn append_count(&mut self, alloc: Global, name: &str, count: Count) -> Reported<()> {
         let Count { rows, differing } = count;
-        let line = format!(in alloc; "{name}: {rows} rows, {differing} differ\n")?;
-        self.differences.extend_from_slice(line.as_bytes())
+        let line = format!(in alloc; "{name}: {rows} rows, {differing} differ\n");
+        append_shown(line, &mut self.differences)
     }
 
     /// Appends the title of a row with the first line that differs: as the row has it, and as it was
     /// answered.
-    pub fn append_difference(
-        &mut self,
-        name: &str,
-        row: Row<'_>,
-        got: &[u8],
-    ) -> Result<(), AllocError> {
-        let wanted = row.text;
-        let index = common_length(wanted, got);
+    pub fn append_difference(&mut self, name: &str, row: &[u8], got: &[u8]) -> Reported<()> {
+        let title = cut_lines(row).next().unwrap_or(b"");
+        let (wanted, got) = first_difference(row, got);
         self.differences.extend_from_slice(name.as_bytes())?;
-        append_line(b": ", line_at(wanted, 0), &mut self.differences)?;
-        append_line(b"  wanted: ", line_at(wanted, index), &mut self.differences)?;
-        append_line(b"  got:    ", line_at(got, index), &mut self.differences)
+        append_line(b": ", title, &mut self.differences)?;
+        append_line(b"  wanted: ", wanted, &mut self.differences)?;
+        append_line(b"  got:    ", got, &mut self.differences)
     }
 }

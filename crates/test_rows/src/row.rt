@@ -8,14 +8,20 @@ pub struct Row<'a> {
     pub text: &'a [u8],
 }
 
+/// Returns how long the first row of a text is: it ends where a blank line and a title follow.
+fn row_length(text: &[u8]) -> usize {
+    for before in 0..text.len() {
+        if text.split_at(before).1.starts_with(b"\n\n# ") {
+            return before.saturating_add(1);
+        }
+    }
+    text.len()
+}
+
 /// Returns the first row of a text and what follows the blank line after it, or none of an empty text.
 pub fn first_row(text: &[u8]) -> Option<(Row<'_>, &[u8])> {
     text.first()?;
-    let border = text
-        .windows(4)
-        .position(|bytes| bytes == b"\n\n# ".as_slice());
-    let end = border.map_or(text.len(), |before| before.saturating_add(1));
-    let (row, following) = text.split_at(end.min(text.len()));
+    let (row, following) = text.split_at(row_length(text).min(text.len()));
     Some((Row { text: row }, following.get(1..).unwrap_or(b"")))
 }
 
@@ -31,17 +37,47 @@ pub fn append_line(front: &[u8], line: &[u8], text: &mut Vec<u8>) -> Result<(), 
     text.extend_from_slice(b"\n")
 }
 
-/// Appends a line that begins with one of these bytes, and returns that byte. It appends no other line: that is an
-/// answer, which is given anew.
-pub fn copy_line(line: &[u8], marks: &[u8], text: &mut Vec<u8>) -> Result<Option<u8>, AllocError> {
-    let Some(&mark) = line.first() else {
-        return Ok(None);
-    };
-    if !marks.contains(&mark) {
-        return Ok(None);
+/// Appends what a format gives.
+pub fn append_shown(
+    shown: Result<String, AllocError>,
+    text: &mut Vec<u8>,
+) -> Result<(), AllocError> {
+    text.extend_from_slice(shown?.as_bytes())
+}
+
+/// Whether there was memory for what is appended.
+pub type Appended = Result<(), NoMemory>;
+
+/// What answers the lines of a row.
+pub trait Answers {
+    /// Appends the answer to the line that begins with this byte and has this argument, or nothing where it asks nothing.
+    fn append_answer(
+        &mut self,
+        alloc: Global,
+        mark: u8,
+        argument: &[u8],
+        text: &mut Vec<u8>,
+    ) -> Appended;
+}
+
+/// Appends the lines of a row that begin with one of these bytes, each with its answer. Its other lines are answers,
+/// which are given anew.
+pub fn append_answers<A: Answers>(
+    alloc: Global,
+    row: Row<'_>,
+    marks: &[u8],
+    answers: &mut A,
+    text: &mut Vec<u8>,
+) -> Appended {
+    for line in cut_lines(row.text) {
+        if let Some(&mark) = line.first()
+            && marks.contains(&mark)
+        {
+            append_line(b"", line, text)?;
+            answers.append_answer(alloc, mark, argument(line), text)?;
+        }
     }
-    append_line(b"", line, text)?;
-    Ok(Some(mark))
+    Ok(())
 }
 
 /// Returns the value of up to ten decimal digits, or 0 for any other text.
@@ -50,24 +86,35 @@ pub fn number(digits: &[u8]) -> u64 {
 }
 
 impl<'a> Row<'a> {
+    /// Returns the first line of the row that begins with this byte.
+    fn line_of(self, mark: u8) -> Option<&'a [u8]> {
+        for line in cut_lines(self.text) {
+            if line.starts_with(&[mark]) {
+                return Some(line);
+            }
+        }
+        None
+    }
+
     /// Whether a line of the row begins with this byte.
     pub fn has(self, mark: u8) -> bool {
-        cut_lines(self.text).any(|line| line.first() == Some(&mark))
+        self.line_of(mark).is_some()
     }
 
     /// Returns the number that follows this byte at the beginning of a line, or 0 where there is no such
     /// line.
     pub fn number_of(self, mark: u8) -> u64 {
-        cut_lines(self.text)
-            .find(|line| line.first() == Some(&mark))
-            .map_or(0, |line| number(argument(line)))
+        match self.line_of(mark) {
+            Some(line) => number(argument(line)),
+            None => 0,
+        }
     }
 
     /// Returns the arguments of the lines that begin with this byte, a line each.
     pub fn lines_of(self, alloc: Global, mark: u8) -> Result<Vec<u8>, NoMemory> {
         let mut part = Vec::new(alloc);
         for line in cut_lines(self.text) {
-            if line.first() == Some(&mark) {
+            if line.starts_with(&[mark]) {
                 append_line(b"", argument(line), &mut part)?;
             }
         }

@@ -1,19 +1,12 @@
 //! What is said of the faulty source of a row, and where.
-use crate::row::{Row, append_line, argument, copy_line};
-use rv_base::{NoMemory, cut_lines};
+use crate::checked::Checked;
+use crate::row::{Answers, Appended, Row, append_answers, append_line, append_shown};
+use rv_base::cut_lines;
 use rv_diagnosis::{Diagnosis, append_report, diagnose, explain};
 use std::alloc::Global;
 
-/// Appends the place of a diagnosis and its number.
-fn append_place(alloc: Global, one: &Diagnosis, text: &mut Vec<u8>) -> Result<(), NoMemory> {
-    let number = one.kind.number();
-    let place = format!(in alloc; "= {}:{}+{} E{number} ", one.line, one.column, one.length)?;
-    text.extend_from_slice(place.as_bytes())?;
-    Ok(())
-}
-
 /// Appends a sentence, and advice on a line of its own.
-fn append_said(sentence: &[u8], advice: &[u8], text: &mut Vec<u8>) -> Result<(), NoMemory> {
+fn append_said(sentence: &[u8], advice: &[u8], text: &mut Vec<u8>) -> Appended {
     append_line(b"", sentence, text)?;
     if !advice.is_empty() {
         append_line(b"+ ", advice, text)?;
@@ -22,63 +15,71 @@ fn append_said(sentence: &[u8], advice: &[u8], text: &mut Vec<u8>) -> Result<(),
 }
 
 /// Appends the place of a diagnosis, its number and its sentence, and its advice on a line of its own.
-fn append_diagnosis(
-    alloc: Global,
-    source: &[u8],
-    one: &Diagnosis,
-    text: &mut Vec<u8>,
-) -> Result<(), NoMemory> {
+fn append_diagnosis(alloc: Global, source: &[u8], one: &Diagnosis, text: &mut Vec<u8>) -> Appended {
+    let number = one.kind.number();
+    let place = format!(in alloc; "= {}:{}+{} E{number} ", one.line, one.column, one.length);
+    append_shown(place, text)?;
     let said = explain(alloc, source, one)?;
-    append_place(alloc, one, text)?;
     append_said(&said.sentence, &said.advice, text)
 }
 
 /// Appends each line of a report with `> ` in front.
-fn append_quoted(report: &[u8], text: &mut Vec<u8>) -> Result<(), NoMemory> {
+fn append_quoted(report: &[u8], text: &mut Vec<u8>) -> Appended {
     for line in cut_lines(report) {
         append_line(b"> ", line, text)?;
     }
     Ok(())
 }
 
-/// Appends the report of these diagnoses of a source.
-fn append_quoted_report(
-    alloc: Global,
-    source: &[u8],
-    found: &[Diagnosis],
-    text: &mut Vec<u8>,
-) -> Result<(), NoMemory> {
-    let mut report = Vec::new(alloc);
-    append_report(alloc, "x.s", source, found, &mut report)?;
-    append_quoted(&report, text)
+/// A source with its diagnoses.
+#[derive(Clone, Copy)]
+struct Diagnosed<'a> {
+    source: &'a [u8],
+    found: &'a [Diagnosis],
 }
 
-/// Appends a line of a row with the answer to it, or nothing where the line is an answer itself.
-fn answer_line(
-    alloc: Global,
-    source: &[u8],
-    found: &[Diagnosis],
-    line: &[u8],
-    text: &mut Vec<u8>,
-) -> Result<(), NoMemory> {
-    if copy_line(line, b"# ~", text)? != Some(b'~') {
-        return Ok(());
+impl<'a> Diagnosed<'a> {
+    /// Appends the report of the diagnoses.
+    fn append_report(&self, alloc: Global, text: &mut Vec<u8>) -> Appended {
+        let mut report = Vec::new(alloc);
+        append_report(alloc, "x.s", self.source, self.found, &mut report)?;
+        append_quoted(&report, text)
     }
-    if argument(line) == b"report".as_slice() {
-        return append_quoted_report(alloc, source, found, text);
+
+    /// Appends each diagnosis.
+    fn append_each(&self, alloc: Global, text: &mut Vec<u8>) -> Appended {
+        for one in self.found {
+            append_diagnosis(alloc, self.source, one, text)?;
+        }
+        Ok(())
     }
-    for one in found {
-        append_diagnosis(alloc, source, one, text)?;
+}
+
+impl<'a> Answers for Diagnosed<'a> {
+    fn append_answer(
+        &mut self,
+        alloc: Global,
+        mark: u8,
+        argument: &[u8],
+        text: &mut Vec<u8>,
+    ) -> Appended {
+        if mark != b'~' {
+            Ok(())
+        } else if argument == b"report".as_slice() {
+            self.append_report(alloc, text)
+        } else {
+            self.append_each(alloc, text)
+        }
     }
-    Ok(())
 }
 
 /// Appends the row with what is said of its source.
-pub fn answer(alloc: Global, row: Row<'_>, text: &mut Vec<u8>) -> Result<(), NoMemory> {
+pub fn answer(alloc: Global, row: Row<'_>, text: &mut Vec<u8>) -> Checked<()> {
     let source = row.lines_of(alloc, b' ')?;
     let found = diagnose(alloc, &source)?;
-    for line in cut_lines(row.text) {
-        answer_line(alloc, &source, &found, line, text)?;
-    }
-    Ok(())
+    let mut diagnosed = Diagnosed {
+        source: &source,
+        found: &found,
+    };
+    Ok(append_answers(alloc, row, b"# ~", &mut diagnosed, text)?)
 }

@@ -50,31 +50,10 @@ fn set_breaks<M: ByteMemory, C: Decoded>(session: &mut Session<M, C>, calls: Cal
     }
 }
 
-/// A part of the steps: the first one, and the last one so far.
-#[derive(Clone, Copy)]
-struct Part {
-    first: u64,
-    last: u64,
-}
-
-impl Part {
-    /// Returns how many steps it has.
-    fn count(self) -> u64 {
-        self.last.saturating_sub(self.first).saturating_add(1)
-    }
-}
-
 impl Calls {
-    /// Whether a call of these steps ends with the last one, where the pc is then `pc`.
-    fn end_with(self, part: Part, pc: u32) -> bool {
-        part.count() == self.size
-            || part.last.saturating_add(1) == self.steps
-            || self.breakpoint == Some(pc)
-    }
-
-    /// Returns how many steps a call takes at most.
-    fn most(self, part: Part) -> u64 {
-        self.size.min(self.steps.saturating_sub(part.first))
+    /// Whether a call of `count` steps, up to step `last`, ends where the pc is then `pc`.
+    fn end_with(self, count: u64, last: u64, pc: u32) -> bool {
+        count == self.size || last.saturating_add(1) == self.steps || self.breakpoint == Some(pc)
     }
 
     /// Why a call stops where the pc is then `pc`.
@@ -87,17 +66,21 @@ impl Calls {
     }
 }
 
-/// Takes the steps of a part by one call of a session, which looks for its breakpoint if it has one. Returns whether
-/// there was memory, and the call stopped as it had to.
+/// Takes `count` steps from step `first` on by one call of a session, which looks for its breakpoint if it has one.
+/// Returns whether there was memory, and the call stopped as it had to.
 fn take_call<M: ByteMemory, C: Decoded>(
     session: &mut Session<M, C>,
     calls: Calls,
-    part: Part,
+    first: u64,
+    count: u64,
     pc: u32,
 ) -> bool {
     match calls.breakpoint {
-        Some(_) => session.go(calls.most(part)) == Ok(calls.stop(pc)),
-        None => session.step(part.count()).is_ok(),
+        Some(_) => {
+            let most = calls.size.min(calls.steps.saturating_sub(first));
+            session.go(most) == Ok(calls.stop(pc))
+        }
+        None => session.step(count).is_ok(),
     }
 }
 
@@ -107,7 +90,6 @@ fn take_call<M: ByteMemory, C: Decoded>(
 pub fn same_in_calls<M: ByteMemory, C: Decoded, N: ByteMemory, D: Decoded>(
     session: &mut Session<M, C>,
     alone: &mut Board<N, D>,
-    inputs: &[TimedInput],
     calls: Calls,
 ) -> bool {
     if !set_breaks(session, calls) {
@@ -115,12 +97,12 @@ pub fn same_in_calls<M: ByteMemory, C: Decoded, N: ByteMemory, D: Decoded>(
     }
     let mut first = 0u64;
     for last in 0..calls.steps {
-        if !step_alone(alone, inputs, last) {
+        if !step_alone(alone, session.inputs(), last) {
             return false;
         }
-        let part = Part { first, last };
-        if calls.end_with(part, alone.pc()) {
-            if !take_call(session, calls, part, alone.pc())
+        let count = last.saturating_sub(first).saturating_add(1);
+        if calls.end_with(count, last, alone.pc()) {
+            if !take_call(session, calls, first, count, alone.pc())
                 || !same_registers(session.board(), alone)
             {
                 return false;

@@ -1,6 +1,6 @@
 //! The answers that a source, a timed list and commands may get, whatever they say.
 use crate::hostile::texts::SENDER;
-use crate::runs::run_texts;
+use crate::runs::{Texts, WHOLE, run};
 use rv_asm::FaultKind;
 use rv_cli::{CliFault, Options};
 use std::alloc::Global;
@@ -45,15 +45,26 @@ fn may_be_refused(kind: Text, text: &[u8], fault: CliFault) -> bool {
     }
 }
 
+/// Returns the texts of a run with a text of this kind.
+fn texts(kind: Text, text: &[u8]) -> Texts<'_> {
+    let mut texts = Texts {
+        source: SENDER,
+        inputs: b"",
+        commands: None,
+    };
+    match kind {
+        Text::Source => texts.source = text,
+        Text::Inputs => texts.inputs = text,
+        Text::Commands => texts.commands = Some(text),
+    }
+    texts
+}
+
 /// Whether a text is answered by a whole run, or by a fault that a text of its kind may have.
 pub fn is_answered(alloc: Global, kind: Text, text: &[u8]) -> bool {
-    let (outcome, out) = match kind {
-        Text::Source => run_texts(alloc, text, b"", None, OPTIONS),
-        Text::Inputs => run_texts(alloc, SENDER, text, None, OPTIONS),
-        Text::Commands => run_texts(alloc, SENDER, b"", Some(text), OPTIONS),
-    };
-    match outcome {
-        Ok(_) => out.bytes().ends_with(b" steps\n"),
-        Err(fault) => out.bytes().is_empty() && may_be_refused(kind, text, fault),
+    let ran = run(alloc, texts(kind, text), OPTIONS, WHOLE);
+    match ran.outcome {
+        Ok(_) => ran.out.bytes().ends_with(b" steps\n"),
+        Err(fault) => ran.out.bytes().is_empty() && may_be_refused(kind, text, fault),
     }
 }

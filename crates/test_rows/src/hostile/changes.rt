@@ -1,6 +1,5 @@
 //! Changes of a text, drawn by a fixed generator.
-use rv_base::NoMemory;
-use std::alloc::Global;
+use std::alloc::AllocError;
 
 /// A fixed sequence of numbers that look drawn by chance.
 #[derive(Clone, Copy)]
@@ -9,10 +8,8 @@ pub struct Dice {
 }
 
 impl Dice {
-    /// Returns the sequence from its start.
-    pub fn new() -> Dice {
-        Dice { state: 0x2545_f491 }
-    }
+    /// The sequence from its start.
+    pub const NEW: Dice = Dice { state: 0x2545_f491 };
 
     /// Returns the next number below `sides`, or 0 where `sides` is 0.
     fn roll(&mut self, sides: usize) -> usize {
@@ -46,54 +43,59 @@ fn line_bounds(text: &[u8], index: usize) -> (usize, usize) {
     (from, text.len())
 }
 
-/// Returns the text with one bit of a byte flipped.
-fn with_flipped_bit(alloc: Global, text: &[u8], dice: &mut Dice) -> Result<Vec<u8>, NoMemory> {
-    let mut changed = Vec::from_slice(alloc, text)?;
+// Each of these appends the changed text.
+
+/// Flips one bit of a byte.
+fn flip_bit(text: &[u8], dice: &mut Dice, changed: &mut Vec<u8>) -> Result<(), AllocError> {
+    changed.extend_from_slice(text)?;
     let index = dice.roll(text.len());
     let bit = BITS.get(dice.roll(8)).copied().unwrap_or(1);
     if let Some(byte) = changed.get_mut(index) {
         *byte ^= bit;
     }
-    Ok(changed)
+    Ok(())
 }
 
-/// Returns the text without up to forty bytes.
-fn without_bytes(alloc: Global, text: &[u8], dice: &mut Dice) -> Result<Vec<u8>, NoMemory> {
+/// Leaves up to forty bytes out.
+fn leave_out(text: &[u8], dice: &mut Dice, changed: &mut Vec<u8>) -> Result<(), AllocError> {
     let from = dice.roll(text.len());
     let to = from.saturating_add(dice.roll(40)).min(text.len());
-    let mut changed = Vec::from_slice(alloc, piece(text, 0, from))?;
-    changed.extend_from_slice(piece(text, to, text.len()))?;
-    Ok(changed)
+    changed.extend_from_slice(piece(text, 0, from))?;
+    changed.extend_from_slice(piece(text, to, text.len()))
 }
 
-/// Returns the text with one line twice.
-fn with_line_twice(alloc: Global, text: &[u8], dice: &mut Dice) -> Result<Vec<u8>, NoMemory> {
+/// Gives one line twice.
+fn double_line(text: &[u8], dice: &mut Dice, changed: &mut Vec<u8>) -> Result<(), AllocError> {
     let (from, to) = line_bounds(text, dice.roll(text.len()));
-    let mut changed = Vec::from_slice(alloc, piece(text, 0, to))?;
-    changed.extend_from_slice(piece(text, from, text.len()))?;
-    Ok(changed)
+    changed.extend_from_slice(piece(text, 0, to))?;
+    changed.extend_from_slice(piece(text, from, text.len()))
 }
 
-/// Returns the text with two lines exchanged.
-fn with_lines_exchanged(alloc: Global, text: &[u8], dice: &mut Dice) -> Result<Vec<u8>, NoMemory> {
+/// Exchanges two lines.
+fn exchange_lines(text: &[u8], dice: &mut Dice, changed: &mut Vec<u8>) -> Result<(), AllocError> {
     let one = dice.roll(text.len());
     let other = dice.roll(text.len());
     let (from, to) = line_bounds(text, one.min(other));
     let (next, end) = line_bounds(text, one.max(other));
-    let mut changed = Vec::from_slice(alloc, piece(text, 0, from))?;
-    changed.extend_from_slice(piece(text, next, end))?;
-    changed.extend_from_slice(piece(text, to, next))?;
-    changed.extend_from_slice(piece(text, from, to))?;
-    changed.extend_from_slice(piece(text, end, text.len()))?;
-    Ok(changed)
+    for (first, last) in [
+        (0, from),
+        (next, end),
+        (to, next),
+        (from, to),
+        (end, text.len()),
+    ] {
+        changed.extend_from_slice(piece(text, first, last))?;
+    }
+    Ok(())
 }
 
-/// Returns the text with one change.
-pub fn change(alloc: Global, text: &[u8], dice: &mut Dice) -> Result<Vec<u8>, NoMemory> {
+/// Gives the text with one change.
+pub fn change(text: &[u8], dice: &mut Dice, changed: &mut Vec<u8>) -> Result<(), AllocError> {
+    changed.clear();
     match dice.roll(4) {
-        0 => with_flipped_bit(alloc, text, dice),
-        1 => without_bytes(alloc, text, dice),
-        2 => with_line_twice(alloc, text, dice),
-        _ => with_lines_exchanged(alloc, text, dice),
+        0 => flip_bit(text, dice, changed),
+        1 => leave_out(text, dice, changed),
+        2 => double_line(text, dice, changed),
+        _ => exchange_lines(text, dice, changed),
     }
 }

@@ -1,9 +1,8 @@
 //! User code on two boards that differ in what it may not see.
-use crate::checked::{Checked, check};
-use crate::compare::same_but_for_memory;
-use crate::isolation::boards::{boot_to_user_code, last_cause_is, last_trap_is, run_user};
-use rv_board::{BootedBoard, Event};
-use std::alloc::Global;
+use crate::checked::{Checked, Wrong};
+use crate::isolation::cases::{Case, End, USER_CODE, check_case};
+use rv_board::TrapRecord;
+use std::alloc::{AllocError, Global};
 
 /// The front of a source whose user code may neither read nor execute the word `secret`: entry 0 is NA4 there,
 /// and grants nothing.
@@ -51,133 +50,60 @@ static ROWS: [&[u8]; 13] = [
     b"12.word 0",
 ];
 
-/// Appends a piece to a source.
-fn append(source: &mut Vec<u8>, piece: &[u8]) -> Checked<()> {
-    source
-        .extend_from_slice(piece)
-        .ok()
-        .ok_or("memory is refused")
+/// Returns a source of these pieces, with the value `fill` in all places that user code may not see.
+fn filled(alloc: Global, fill: &[u8], pieces: [&[u8]; 3]) -> Result<Vec<u8>, AllocError> {
+    let [front, code, end] = pieces;
+    [b".equ FILL,".as_slice(), fill, front, code, end].concat(alloc)
 }
 
-/// Appends these pieces to a source.
-fn append_all(source: &mut Vec<u8>, pieces: &[&[u8]]) -> Checked<()> {
-    for piece in pieces {
-        append(source, piece)?;
-    }
-    Ok(())
+/// Checks a run of two sources of these pieces, with different values in all places that user code may not see.
+fn check_filled(alloc: Global, pieces: [&[u8]; 3], case: &Case) -> Checked<()> {
+    let one = filled(alloc, b"0x5a", pieces)?;
+    let other = filled(alloc, b"0xa5", pieces)?;
+    check_case(alloc, &one, &other, case)
 }
 
-// A function that owns a board drops it at each `?`, which costs proof: so it only lends it to another.
+/// The refused load of the word, which differs between the boards.
+const LOADS: Case = Case {
+    events: 8,
+    done: 1,
+    end: End::Trap(TrapRecord {
+        cause: 5,
+        epc: 0x8000_003c,
+        tval: 0x8000_0040,
+    }),
+    steps: 16,
+    bytes: &[(0x8000_0040, [0x5a, 0xa5])],
+    differ: true,
+    ..USER_CODE
+};
 
-/// Boots a source, with the value `fill` in all places that user code may not see.
-fn boot_filled(
-    alloc: Global,
-    fill: &[u8],
-    front: &[u8],
-    code: &[u8],
-    end: &[u8],
-) -> Checked<BootedBoard> {
-    let mut source = Vec::new(alloc);
-    let pieces = [b".equ FILL,".as_slice(), fill, front, code, end];
-    append_all(&mut source, &pieces)?;
-    boot_to_user_code(alloc, source.as_slice())
-}
-
-/// Two boards that differ where user code may not see.
-#[derive(Drop)]
-struct Pair {
-    one: BootedBoard,
-    other: BootedBoard,
-}
-
-/// Boots a source with two values in all places that user code may not see.
-fn boot_pair(alloc: Global, front: &[u8], code: &[u8], end: &[u8]) -> Checked<Pair> {
-    let one = boot_filled(alloc, b"0x5a", front, code, end)?;
-    let other = boot_filled(alloc, b"0xa5", front, code, end)?;
-    Ok(Pair { one, other })
-}
-
-/// The end of a run of user code: how many events are done, and the cause of the trap that ends them.
-#[derive(Clone, Copy)]
-struct End {
-    done: usize,
-    cause: u32,
-}
-
-/// Checks that both boards do as many events and are the same at the end.
-fn check_end(pair: &mut Pair, end: End) -> Checked<()> {
-    let first = run_user(&mut pair.one, &[Event::Step; 8])?;
-    let second = run_user(&mut pair.other, &[Event::Step; 8])?;
-    let done = first == end.done && second == end.done;
-    check(
-        done && last_cause_is(&pair.one, end.cause),
-        "the steps up to a border",
-    )?;
-    check(
-        same_but_for_memory(&pair.one, &pair.other),
-        "two boards after a border",
-    )
-}
-
-/// Checks that two boards begin user code in the same way, at `secret` less a word.
-fn check_beginnings(pair: &Pair) -> Checked<()> {
-    check(
-        pair.one.steps() == 15
-            && pair.one.pc() == 0x8000_003c
-            && same_but_for_memory(&pair.one, &pair.other),
-        "two boards before user code",
-    )
-}
-
-/// Checks that the load of the word was refused, which differs between the boards.
-fn check_words(pair: &Pair) -> Checked<()> {
-    check(
-        last_trap_is(&pair.one, 5, 0x8000_003c, 0x8000_0040)
-            && pair.one.ram(0x8000_0040) == Some(0x5a)
-            && pair.other.ram(0x8000_0040) == Some(0xa5),
-        "the refused load",
-    )
-}
-
-/// Checks that two boards are the same before and after the refused load of their words.
-fn check_loads(pair: &mut Pair) -> Checked<()> {
-    check_beginnings(pair)?;
-    check_end(pair, End { done: 1, cause: 5 })?;
-    check_words(pair)
-}
-
-/// Checks that two boards which differ in a word that user code tries to load are the same afterwards.
-fn check_word(alloc: Global, front: &[u8]) -> Checked<()> {
-    let mut pair = boot_pair(alloc, front, LOAD, WORD_END)?;
-    check_loads(&mut pair)
-}
-
-/// Checks that the first fetch of user code is refused.
-fn check_refused_fetch(board: &mut BootedBoard) -> Checked<()> {
-    let begins = board.steps() == 14 && board.pc() == 0x8000_0038;
-    let done = run_user(board, &[Event::Step; 2])?;
-    let refused = last_trap_is(board, 1, 0x8000_0038, 0x8000_0038);
-    check(begins && done == 1 && refused, "the refused fetch")
-}
-
-/// Checks that user code is not even fetched where no entry matches.
-fn check_no_entry(alloc: Global) -> Checked<()> {
-    let mut board = boot_to_user_code(alloc, NO_ENTRY)?;
-    check_refused_fetch(&mut board)
-}
+/// The refused fetch of the first instruction of user code.
+const FETCHES: Case = Case {
+    events: 2,
+    done: 1,
+    end: End::Trap(TrapRecord {
+        cause: 1,
+        epc: 0x8000_0038,
+        tval: 0x8000_0038,
+    }),
+    steps: 15,
+    ..USER_CODE
+};
 
 /// Checks that the two boards of a row do its events, end with its cause, and differ only where user code may
 /// not see.
 fn check_row(alloc: Global, row: &[u8]) -> Checked<()> {
     let [done, cause, code @ ..] = row else {
-        return Err("a row is too short");
+        return Err(Wrong::What("a row is too short"));
     };
-    let end = End {
+    let case = Case {
         done: (*done % 16) as usize,
-        cause: (*cause % 16) as u32,
+        end: End::Cause((*cause % 16) as u32),
+        bytes: &[],
+        ..LOADS
     };
-    let mut pair = boot_pair(alloc, BORDERS, code, BORDERS_END)?;
-    check_end(&mut pair, end)
+    check_filled(alloc, [BORDERS, code, BORDERS_END], &case)
 }
 
 /// Checks that no access at the borders of a region tells what lies beside it.
@@ -189,11 +115,10 @@ fn check_borders(alloc: Global) -> Checked<()> {
 }
 
 /// Checks that user code learns nothing of what it may not see: a word, whichever entries keep it, what no entry
-/// has, and what lies beside a region.
+/// has, which isn't even fetched, and what lies beside a region.
 pub fn check_secrets(alloc: Global) -> Checked<()> {
-    for front in [WORD, WORD_BY_HIGH_ENTRIES] {
-        check_word(alloc, front)?;
-    }
-    check_no_entry(alloc)?;
+    check_filled(alloc, [WORD, LOAD, WORD_END], &LOADS)?;
+    check_filled(alloc, [WORD_BY_HIGH_ENTRIES, LOAD, WORD_END], &LOADS)?;
+    check_case(alloc, NO_ENTRY, NO_ENTRY, &FETCHES)?;
     check_borders(alloc)
 }

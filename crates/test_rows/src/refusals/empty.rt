@@ -1,22 +1,18 @@
 //! An empty source on the largest memory.
-use crate::refusals::{Missing, program};
-use rv_asm::Program;
-use rv_board::{BootFault, BootedBoard};
+use crate::boards::{assembled, paged_board};
+use crate::checked::{Checked, check};
+use rv_board::BootedBoard;
 use std::alloc::Global;
 
-/// Whether the last byte of 4096 pages reads 0 and no memory follows it, or memory ran out.
-fn boots_right(alloc: Global, program: &Program) -> bool {
-    match BootedBoard::boot(alloc, program, 4096, 64) {
-        Ok(board) => board.ram(0x80ff_ffff) == Some(0) && board.ram(0x8100_0000).is_none(),
-        Err(fault) => fault == BootFault::OutOfMemory,
-    }
+/// Checks that the last byte of 4096 pages reads 0, and no memory follows it.
+fn check_end(board: &BootedBoard) -> Checked<()> {
+    let (last, next) = (board.ram(0x80ff_ffff), board.ram(0x8100_0000));
+    check(last == Some(0) && next.is_none(), "the end of the memory")
 }
 
-/// Whether the source is assembled and boots, or memory ran out.
-pub fn answers_right(alloc: Global) -> bool {
-    match program(alloc, b"") {
-        Ok(program) => boots_right(alloc, &program),
-        Err(Missing::Refused) => true,
-        Err(Missing::Wrong) => false,
-    }
+/// Checks that the source is assembled and boots.
+pub fn check_boot(alloc: Global) -> Checked<()> {
+    let program = assembled(alloc, b"")?;
+    let board = paged_board(alloc, &program, 4096, 64)?;
+    check_end(&board)
 }

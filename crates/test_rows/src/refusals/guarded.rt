@@ -1,9 +1,10 @@
 //! A user program that the protection of memory stops, assembled, booted and run.
+use crate::boards::{assembled, paged_board};
+use crate::checked::{Checked, check};
 use crate::compare::same_everywhere;
 use crate::isolation::STORES;
-use crate::refusals::{Missing, program};
 use rv_asm::Program;
-use rv_board::{BootFault, BootedBoard, Event, TrapRecord};
+use rv_board::{BootedBoard, Event, TrapRecord};
 use std::alloc::Global;
 
 /// The trap of the second store of `STORES`.
@@ -22,40 +23,36 @@ fn is_right_at_end(board: &BootedBoard) -> bool {
         && board.trap_count() == 1
 }
 
-/// Whether a board whose next step was refused is the same as one that did these steps, and no step was
-/// refused.
-fn is_as_after(alloc: Global, program: &Program, board: &BootedBoard, steps: &[Event]) -> bool {
-    match BootedBoard::boot(alloc, program, 1, 64) {
-        Ok(mut other) => other.run(steps).is_ok() && same_everywhere(board, &other),
+/// Whether a board is the same as another after these steps, none of which is refused.
+fn is_as_after(board: &BootedBoard, other: &mut BootedBoard, steps: &[Event]) -> bool {
+    other.run(steps).is_ok() && same_everywhere(board, other)
+}
+
+/// Whether a board whose next step was refused is the same as one that did these steps.
+fn has_done(alloc: Global, program: &Program, board: &BootedBoard, steps: &[Event]) -> bool {
+    match paged_board(alloc, program, 1, 64) {
+        Ok(mut other) => is_as_after(board, &mut other, steps),
         Err(_) => false,
     }
 }
 
 /// Whether the board runs its 16 steps. Where one is refused, the board has to be as before that step in all
 /// that it can be read by, and to do the steps that are left when they are asked again.
-fn runs_right(alloc: Global, program: &Program) -> bool {
-    let mut board = match BootedBoard::boot(alloc, program, 1, 64) {
-        Ok(board) => board,
-        Err(fault) => return fault == BootFault::OutOfMemory,
-    };
+fn runs_right(alloc: Global, program: &Program, board: &mut BootedBoard) -> bool {
     let steps = [Event::Step; 16];
     if let Err(stopped) = board.run(&steps) {
-        let (done, rest) = (steps.get(..stopped.done), steps.get(stopped.done..));
-        let (Some(done), Some(rest)) = (done, rest) else {
-            return false;
-        };
-        if !is_as_after(alloc, program, &board, done) || board.run(rest).is_err() {
+        let (done, rest) = steps.split_at(stopped.done.min(16));
+        if !has_done(alloc, program, board, done) || board.run(rest).is_err() {
             return false;
         }
     }
-    is_right_at_end(&board)
+    is_right_at_end(board)
 }
 
-/// Whether the source is assembled and runs, or memory ran out.
-pub fn answers_right(alloc: Global) -> bool {
-    match program(alloc, STORES) {
-        Ok(program) => runs_right(alloc, &program),
-        Err(Missing::Refused) => true,
-        Err(Missing::Wrong) => false,
-    }
+/// Checks that the source is assembled and runs.
+pub fn check_run(alloc: Global) -> Checked<()> {
+    let program = assembled(alloc, STORES)?;
+    let mut board = paged_board(alloc, &program, 1, 64)?;
+    let right = runs_right(alloc, &program, &mut board);
+    check(right, "the run of user code")
 }

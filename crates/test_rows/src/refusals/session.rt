@@ -1,34 +1,14 @@
 //! Sessions: their lists, steps, breakpoints and commands.
-use crate::refusals::{Missing, program};
+use crate::boards::{PagedSession, assembled, session};
+use crate::checked::{Checked, check};
+use crate::refusals::is_right;
 use rv_base::NoMemory;
-use rv_board::{BootFault, BootedBoard};
-use rv_cache::DecodeCache;
-use rv_monitor::{Next, Session, Stop};
-use rv_ram::PagedRam;
-use rv_timeline::{Timeline, TimelineFault};
+use rv_monitor::{Next, Stop};
 use std::alloc::Global;
 
-type BootedSession = Session<PagedRam, DecodeCache>;
-
 /// Returns a session of up to `limit` steps over a source with a timed list.
-fn session(
-    alloc: Global,
-    source: &[u8],
-    inputs: &[u8],
-    limit: u64,
-) -> Result<BootedSession, Missing> {
-    let program = program(alloc, source)?;
-    let timeline = match Timeline::read(alloc, inputs) {
-        Ok(timeline) => timeline,
-        Err(TimelineFault::OutOfMemory) => return Err(Missing::Refused),
-        Err(_) => return Err(Missing::Wrong),
-    };
-    let board = match BootedBoard::boot(alloc, &program, 2, 64) {
-        Ok(board) => board,
-        Err(BootFault::OutOfMemory) => return Err(Missing::Refused),
-        Err(_) => return Err(Missing::Wrong),
-    };
-    Ok(Session::new(alloc, board, timeline, program, limit))
+fn opened(alloc: Global, source: &[u8], inputs: &[u8], limit: u64) -> Checked<PagedSession> {
+    session(alloc, assembled(alloc, source)?, inputs, 2, 64, limit)
 }
 
 /// A source that sends a received byte.
@@ -36,7 +16,7 @@ const ECHO: &[u8] = b"lui t0,0x10000\nlw a0,4(t0)\nsw a0,0(t0)\n";
 
 /// Whether a refused send leaves the board after the steps and inputs before it, and the next call gives no
 /// input again.
-fn sends_right(session: &mut BootedSession) -> bool {
+fn sends_right(session: &mut PagedSession) -> bool {
     match session.step(3) {
         Ok(stop) => stop == Stop::Limit && has_sent(session),
         Err(NoMemory) => {
@@ -51,7 +31,7 @@ fn sends_right(session: &mut BootedSession) -> bool {
 }
 
 /// Whether the byte was sent, and the next one is in the queue.
-fn has_sent(session: &BootedSession) -> bool {
+fn has_sent(session: &PagedSession) -> bool {
     let board = session.board();
     board.steps() == 3 && board.serial().waiting() == 1 && board.console() == b"Z".as_slice()
 }
@@ -61,7 +41,7 @@ const TIMER: &[u8] =
     b"la t0,handler\ncsrw mtvec,t0\nlui t1,0x2004\nli t2,14\nsw t2,0(t1)\nsw zero,4(t1)\nli t0,128\ncsrw mie,t0\ncsrwi mstatus,8\nloop: addi s0,s0,1\nj loop\nhandler: lui s1,0x80001\nsw s1,0(s1)\nj .\n";
 
 /// Whether a refused breakpoint is not set, and is set when it is asked for again.
-fn sets_right(session: &mut BootedSession, address: u32) -> bool {
+fn sets_right(session: &mut PagedSession, address: u32) -> bool {
     if let Err(NoMemory) = session.set_break(address) {
         if session.has_break(address) || session.set_break(address).is_err() {
             return false;
@@ -71,20 +51,15 @@ fn sets_right(session: &mut BootedSession, address: u32) -> bool {
 }
 
 /// Whether the call after a refused step goes on with that step, up to a breakpoint.
-fn goes_right(session: &mut BootedSession) -> bool {
-    let stop = match session.go(100) {
-        Ok(stop) => stop,
-        Err(NoMemory) => {
-            if session.board().ram(0x8000_1003) != Some(0) {
-                return false;
-            }
-            match session.go(100) {
-                Ok(stop) => stop,
-                Err(NoMemory) => return false,
-            }
+fn goes_right(session: &mut PagedSession) -> bool {
+    let mut stop = session.go(100);
+    if stop.is_err() {
+        if session.board().ram(0x8000_1003) != Some(0) {
+            return false;
         }
-    };
-    stop == Stop::Breakpoint
+        stop = session.go(100);
+    }
+    stop == Ok(Stop::Breakpoint)
         && session.board().pc() == 0x8000_0038
         && session.board().ram(0x8000_1003) == Some(0x80)
 }
@@ -105,7 +80,7 @@ const COMMANDS: [(&[u8], &[u8]); 9] = [
 /// Whether a refused command leaves the text, the board and the breakpoints as they were, and is done when it
 /// is asked again.
 fn obeys_right(
-    session: &mut BootedSession,
+    session: &mut PagedSession,
     command: &[u8],
     answer: &[u8],
     text: &mut Vec<u8>,
@@ -122,35 +97,38 @@ fn obeys_right(
     text.as_slice().ends_with(answer)
 }
 
+/// Whether each command is done so.
+fn obeys_all(session: &mut PagedSession, text: &mut Vec<u8>) -> bool {
+    for &(command, answer) in COMMANDS.iter() {
+        if !obeys_right(session, command, answer, text) {
+            return false;
+        }
+    }
+    true
+}
+
 /// Whether the session stops at its breakpoint and then answers its commands.
-fn stops_right(alloc: Global, session: &mut BootedSession) -> bool {
-    let mut text = Vec::new(alloc);
+fn stops_right(alloc: Global, session: &mut PagedSession) -> bool {
     sets_right(session, 0x8000_0038)
         && goes_right(session)
-        && COMMANDS.iter().all(|(command, answer)| obeys_right(session, command, answer, &mut text))
+        && obeys_all(session, &mut Vec::new(alloc))
 }
 
-/// Whether the session of `ECHO` answers right, or memory ran out before it.
-fn echo_answers_right(alloc: Global) -> bool {
-    match session(alloc, ECHO, b"0 rx 5a\n2 rx 41\n", 9) {
-        Ok(mut session) => sends_right(&mut session),
-        Err(Missing::Refused) => true,
-        Err(Missing::Wrong) => false,
-    }
+/// Checks the session of `ECHO`.
+fn check_echo(alloc: Global) -> Checked<()> {
+    let mut session = opened(alloc, ECHO, b"0 rx 5a\n2 rx 41\n", 9)?;
+    check(sends_right(&mut session), "the session that sends")
 }
 
-/// Whether the session of `TIMER` answers right, or memory ran out before it.
-fn timer_answers_right(alloc: Global) -> bool {
-    match session(alloc, TIMER, b"0 rx 00\n1 line 3 1\n", 100) {
-        Ok(mut session) => stops_right(alloc, &mut session),
-        Err(Missing::Refused) => true,
-        Err(Missing::Wrong) => false,
-    }
+/// Checks the session of `TIMER`.
+fn check_timer(alloc: Global) -> Checked<()> {
+    let mut session = opened(alloc, TIMER, b"0 rx 00\n1 line 3 1\n", 100)?;
+    check(stops_right(alloc, &mut session), "the session that stops")
 }
 
-/// Whether both sessions answer right.
+/// Whether both sessions answer right, or memory ran out before them.
 pub fn answers_right(alloc: Global) -> bool {
-    let sends = echo_answers_right(alloc);
-    let stops = timer_answers_right(alloc);
+    let sends = is_right(check_echo(alloc));
+    let stops = is_right(check_timer(alloc));
     sends && stops
 }
