@@ -171,8 +171,10 @@ impl Lab {
             × (l.listed ≡ 0) × (l.plan ≡ None) × (l.resumes ≡ goal.Break) × (l.trail ≡ None) × (l.piece ≡ 1000000)) }
     {
         let (program, places) = list(alloc, source)?;
+        let (pages, slots) = (u32::from(sizes.pages), u32::from(sizes.slots));
+        let recording = Recording::open(alloc, program, inputs, pages, slots)?;
         let listing = Listing {
-            program: &program,
+            program: recording.session().program(),
             places: &places,
         };
         let Ok(frames) = frame_rows(alloc, listing) else {
@@ -184,8 +186,6 @@ impl Lab {
         let Ok(source) = Vec::from_slice(alloc, source) else {
             return Err(LabFault::OutOfMemory);
         };
-        let (pages, slots) = (u32::from(sizes.pages), u32::from(sizes.slots));
-        let recording = Recording::open(alloc, program, inputs, pages, slots)?;
         let last = Last {
             registers: registers_of(recording.session().board()),
             steps: 0,
