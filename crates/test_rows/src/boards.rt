@@ -125,13 +125,7 @@ fn append_commanded<M: ByteMemory, C: Decoded>(
 }
 
 impl<M: ByteMemory, C: Decoded> Answers for Session<M, C> {
-    fn append_answer(
-        &mut self,
-        alloc: Global,
-        mark: u8,
-        argument: &[u8],
-        text: &mut Vec<u8>,
-    ) -> Appended {
+    fn answer(&mut self, alloc: Global, mark: u8, argument: &[u8], text: &mut Vec<u8>) -> Appended {
         match mark {
             b'>' => append_commanded(self, argument, text),
             b'!' => append_devices(alloc, self.board(), text),

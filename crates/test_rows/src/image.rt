@@ -49,13 +49,7 @@ fn append_value(alloc: Global, value: Option<i64>, text: &mut Vec<u8>) -> Append
 }
 
 impl Answers for Program {
-    fn append_answer(
-        &mut self,
-        alloc: Global,
-        mark: u8,
-        argument: &[u8],
-        text: &mut Vec<u8>,
-    ) -> Appended {
+    fn answer(&mut self, alloc: Global, mark: u8, argument: &[u8], text: &mut Vec<u8>) -> Appended {
         match mark {
             b'%' => {
                 let size = usize::try_from(number(argument)).unwrap_or(0);

@@ -51,13 +51,7 @@ pub type Appended = Result<(), NoMemory>;
 /// What answers the lines of a row.
 pub trait Answers {
     /// Appends the answer to the line that begins with this byte and has this argument, or nothing where it asks nothing.
-    fn append_answer(
-        &mut self,
-        alloc: Global,
-        mark: u8,
-        argument: &[u8],
-        text: &mut Vec<u8>,
-    ) -> Appended;
+    fn answer(&mut self, alloc: Global, mark: u8, argument: &[u8], text: &mut Vec<u8>) -> Appended;
 }
 
 /// Appends the lines of a row that begin with one of these bytes, each with its answer. Its other lines are answers,
@@ -74,7 +68,7 @@ pub fn append_answers<A: Answers>(
             && marks.contains(&mark)
         {
             append_line(b"", line, text)?;
-            answers.append_answer(alloc, mark, argument(line), text)?;
+            answers.answer(alloc, mark, argument(line), text)?;
         }
     }
     Ok(())

@@ -125,13 +125,7 @@ fn append_ran(alloc: Global, ran: &Ran, text: &mut Vec<u8>) -> Appended {
 }
 
 impl<'a> Answers for Texts<'a> {
-    fn append_answer(
-        &mut self,
-        alloc: Global,
-        mark: u8,
-        argument: &[u8],
-        text: &mut Vec<u8>,
-    ) -> Appended {
+    fn answer(&mut self, alloc: Global, mark: u8, argument: &[u8], text: &mut Vec<u8>) -> Appended {
         if mark != b'$' {
             return Ok(());
         }

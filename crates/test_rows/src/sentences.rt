@@ -56,13 +56,7 @@ impl<'a> Diagnosed<'a> {
 }
 
 impl<'a> Answers for Diagnosed<'a> {
-    fn append_answer(
-        &mut self,
-        alloc: Global,
-        mark: u8,
-        argument: &[u8],
-        text: &mut Vec<u8>,
-    ) -> Appended {
+    fn answer(&mut self, alloc: Global, mark: u8, argument: &[u8], text: &mut Vec<u8>) -> Appended {
         if mark != b'~' {
             Ok(())
         } else if argument == b"report".as_slice() {
