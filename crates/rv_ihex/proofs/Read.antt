@@ -1,166 +1,131 @@
--- The image that is read back from the lines of its records.
-use Rattle.std.proofs.Common.{Bool, true, false, rules, ◌≡◌, ℕ, zero, suc, ◌+◌, ◌-◌, ◌/◌, ◌%◌, ◌^◌, ◌<◌, ◌≤◌, List, [], ◌∷◌, ◌++◌, take, drop, length, Some, refl, ap, ap₂, arith, append_assoc, eq-eqb, length-append, length-drop, length-take}
-use Rattle.std.specs.Prelude.{if◌then◌else◌}
+-- The lines of an image, one record after another, and the image that is read back from them.
+use Rattle.std.proofs.Common.{rules, ◌≡◌, ℕ, zero, suc, ◌+◌, ◌*◌, ◌/◌, ◌%◌, ◌^◌, ◌<◌, ◌≤◌, List, [], ◌∷◌, ◌++◌, take, drop, length, Some, refl, arith, append_assoc, append-nil, eq-eqb, length-append, length-drop, length-take}
+use Rattle.std.specs.Prelude.{min}
 use Rattle.std.specs.List.{All, sum}
 use Rattle.std.specs.Option.{option_map}
 use Rattle.std.specs.Str.Lines.{strip_carriage_return}
 use Rattle.std.proofs.lemmas.Bool.{cases_lt}
-use Rattle.std.proofs.lemmas.List.{take-append-drop}
-use Rattle.std.proofs.lemmas.List.Elements.{All-nil, All-cons, All-head, All-tail, All-append, All-push, All-take, All-drop}
+use Rattle.std.proofs.lemmas.Grind.{flat_map-append}
+use Rattle.std.proofs.lemmas.List.{take-append-drop, drop_all, take_min}
+use Rattle.std.proofs.lemmas.List.Elements.{All-cons, All-head, All-tail, All-push, All-take, All-drop}
 use Rattle.std.proofs.lemmas.List.Sums.{sum_by-append}
+use Rattle.std.proofs.lemmas.Str.{digit_value-digit_char}
 use Rattle.std.proofs.Math.Seq.{take-append_seam}
+use Rattle.rv_base.specs.Digits.{digit, hex, hex_digit}
 use Rattle.rv_base.specs.Limits.{ram_base, image_limit}
 use Rattle.rv_base.specs.Lines.{split, lines}
-use Rattle.rv_ihex.specs.Hex.{Record, record_in, record_of, placed, image_of}
-use Rattle.rv_ihex.specs.Support.Written.{digits, fields, with_sum, line_of, end_line, upper_line, upper_lines, lines_from, text_of}
-use Rattle.rv_ihex.proofs.Blocks.{last_lines, more_lines}
-use Rattle.rv_ihex.proofs.Glyphs.{IsByte, IsGlyph, bytes_back, digits_length, digits_above}
-
--- ---- records
-
-summed_bytes : (xs : List ℕ) → All IsByte xs → All IsByte (with_sum xs)
-summed_bytes xs h = All-push IsByte xs _ h (omega arith)
-
-sum_is : (xs : List ℕ) → sum (with_sum xs) % 256 ≡ 0
-sum_is xs = let e = sum_by-append (λ (x : ℕ). x) xs ((256 - sum xs % 256) % 256 ∷ []) in omega (arith, e)
-
-in_back : (kind offset : ℕ) (content : List ℕ) →
-    record_in (with_sum (fields kind offset content)) ≡ Some (record { offset = offset; kind = kind; content = content })
-unfolding record_in
-in_back kind offset content =
-    let check = (256 - sum (fields kind offset content) % 256) % 256 in
-    let size : length (with_sum (fields kind offset content)) ≡ length content + 5 = omega (arith, length-append content (check ∷ [])) in
-    rw (
-      eq-eqb (length (with_sum (fields kind offset content))) (length content + 5) size,
-      eq-eqb (sum (with_sum (fields kind offset content)) % 256) 0 (sum_is (fields kind offset content)),
-    ) (ap (λ (r : Record). Some r) (ap₂ (λ (n : ℕ) (d : List ℕ). record { offset = n; kind = kind; content = d })
-    (omega arith) (take-append_seam content (check ∷ []))))
-
-record IsFit (k o : ℕ) (c : List ℕ) : Type 0 where
-  kind : k < 256
-  offset : o < 65536
-  short : length c < 256
-  bytes : All IsByte c
-
-fields_bytes : (kind offset : ℕ) (content : List ℕ) → IsFit kind offset content →
-    All IsByte (fields kind offset content)
-fields_bytes kind offset content h = search (rules, arith, All-cons)
-
-line_back : (kind offset : ℕ) (content : List ℕ) → IsFit kind offset content →
-    record_of (line_of kind offset content) ≡ Some (record { offset = offset; kind = kind; content = content })
-unfolding record_of line_of
-line_back kind offset content h =
-    let bs = with_sum (fields kind offset content) in
-    let half : (length (58 ∷ digits bs) - 1) / 2 ≡ length bs = omega (arith, digits_length bs) in
-    let back = bytes_back bs (summed_bytes (fields kind offset content) (fields_bytes kind offset content h)) in
-    rw (half, back) (in_back kind offset content)
-
--- ---- what records place
-
-placed_end : (upper next : ℕ) (ls : List (List ℕ)) → placed upper next (end_line ∷ ls) ≡ Some []
-unfolding placed
-placed_end upper next ls = search (rules, arith, line_back)
-
-placed_upper : (upper next at : ℕ) (ls : List (List ℕ)) → at < 2 ^ 32 →
-    placed upper next (upper_line at ∷ ls) ≡ placed (at / 65536) next ls
-unfolding placed
-placed_upper upper next at ls low = search (rules, line_back)
-
-placed_data : (at : ℕ) (content : List ℕ) (ls : List (List ℕ)) → length content < 256 → All IsByte content →
-    placed (at / 65536) at (line_of 0 (at % 65536) content ∷ ls)
-    ≡ option_map (λ (bs : List ℕ). content ++ bs) (placed (at / 65536) (at + length content) ls)
-unfolding placed
-placed_data at content ls short bytes = search (rules, line_back, eq-eqb)
-
--- where bytes are to be placed
-record At (u n at : ℕ) (bs : List ℕ) : Type 0 where
-  multiple : at % 16 ≡ 0
-  next : 0 < length bs → n ≡ at
-  fits : 0 < length bs → at + length bs ≤ 2 ^ 32
-  upper : 0 < at % 65536 → u ≡ at / 65536
-
-after_upper : (upper at : ℕ) (ls : List (List ℕ)) → at < 2 ^ 32 → (0 < at % 65536 → upper ≡ at / 65536) →
-    placed upper at (upper_lines at ++ ls) ≡ placed (at / 65536) at ls
-after_upper upper at ls low h = search (rules, arith, placed_upper)
-
-no_bytes : (bs : List ℕ) → length bs ≡ 0 → Some [] ≡ Some bs
-no_bytes [] h = refl
-no_bytes (b ∷ bs) h = absurd (omega arith)
-
--- what is to be shown of that many records at most
-abbrev PlacedBack : ℕ → Type 0
-PlacedBack most = (upper next at : ℕ) (bs : List ℕ) → length bs ≤ most → All IsByte bs → At upper next at bs →
-    placed upper next (lines_from most at bs) ≡ Some bs
-
-placed_step : (most upper at : ℕ) (bs : List ℕ) → length bs ≤ suc most → 0 < length bs → All IsByte bs →
-    At upper at at bs → PlacedBack most → placed upper at (lines_from (suc most) at bs) ≡ Some bs
-placed_step most upper at bs short some bytes h others =
-    let row = take 16 bs in
-    let more = lines_from most (at + 16) (drop 16 bs) in
-    let fits = h.fits some in
-    let size = length-take 16 bs in
-    let left = length-drop 16 bs in
-    let rest : placed (at / 65536) (at + length row) more ≡ Some (drop 16 bs) =
-    others (at / 65536) (at + length row) (at + 16) (drop 16 bs) (omega arith) (All-drop IsByte 16 bs bytes) (record {
-      multiple = omega (arith, h.multiple);
-      next = (λ p. omega arith);
-      fits = (λ p. omega arith);
-      upper = (λ p. omega (arith, h.multiple));
-    }) in
-    rw (
-      more_lines most at bs some,
-      after_upper upper at (line_of 0 (at % 65536) row ∷ more) (omega arith) h.upper,
-      placed_data at row more (omega arith) (All-take IsByte 16 bs bytes),
-      rest,
-    )
-    (ap (λ (x : List ℕ). Some x) (take-append-drop 16 bs))
-
-placed_back : (most : ℕ) → PlacedBack most
-placed_back zero upper next at bs short bytes h = search (rules, arith, last_lines, placed_end, no_bytes)
-placed_back (suc most) upper next at bs short bytes h =
-    search (rules, last_lines, placed_end, no_bytes, placed_step, cases_lt, placed_back most)
+use Rattle.rv_ihex.specs.Hex.{bytes_of, record_in, record_of, placed, image_of}
+use Rattle.rv_ihex.specs.Support.Written.{digits, fields, with_sum, line_of, end_line, upper_lines, lines_from, text_of}
 
 -- ---- lines
 
--- a line that is left as it is
-abbrev IsLine : List ℕ → Type 0
-IsLine l = All IsGlyph l × (0 < length l)
-
-split_line : (l rest : List ℕ) → All IsGlyph l → split (l ++ 10 ∷ rest) ≡ l ∷ split rest
-unfolding split
-split_line [] rest h = refl
-split_line (b ∷ bs) rest h =
-    let above = All-head IsGlyph b bs h in search (rules, arith, split_line bs rest (All-tail IsGlyph b bs h))
-
-no_return : (l : List ℕ) → IsLine l → strip_carriage_return l ≡ l
-no_return l h = let last = h.0 (length l - 1) 0 (omega (arith, h.1)) in search (rules, arith)
-
-lines_back : (ls : List (List ℕ)) → All IsLine ls → lines (text_of ls) ≡ ls
-unfolding split
-lines_back [] h = refl
-lines_back (l ∷ ls) h =
-    let one = All-head IsLine l ls h in
-    search (rules, arith, append_assoc, split_line, no_return, All-tail, lines_back ls)
-
-is_line : (kind offset : ℕ) (content : List ℕ) → IsLine (line_of kind offset content)
-unfolding line_of
-is_line kind offset content = search (rules, arith, All-cons, digits_above)
-
-either : (b : Bool) (xs ys : List (List ℕ)) → All IsLine xs → All IsLine ys → All IsLine (if b then xs else ys)
-either true xs ys h k = h
-either false xs ys h k = k
-
-end_is_line : All IsLine (end_line ∷ [])
-end_is_line = All-cons IsLine _ [] (is_line _ _ _) (All-nil IsLine)
-
-are_lines : (most at : ℕ) (bs : List ℕ) → All IsLine (lines_from most at bs)
+more_lines : (most at : ℕ) (bs : List ℕ) → 0 < length bs → lines_from (suc most) at bs
+    ≡ upper_lines at ++ line_of 0 (at % 65536) (take 16 bs) ∷ lines_from most (at + 16) (drop 16 bs)
 unfolding lines_from
-are_lines zero at bs = end_is_line
-are_lines (suc most) at bs =
-    search (rules, either, end_is_line, All-cons, All-nil, All-append, is_line, are_lines most (at + 16) (drop 16 bs))
+more_lines most at bs some = search (rules, arith)
 
--- ---- a whole file
+-- any number of records is as good as another, if there are enough
+enough : (most at : ℕ) (bs : List ℕ) → length bs ≤ most → lines_from most at bs ≡ lines_from (suc most) at bs
+unfolding lines_from
+enough zero at bs short = search (rules, arith, eq-eqb)
+enough (suc most) at bs short = search (rules, arith, length-drop, enough most (at + 16) (drop 16 bs))
+
+-- one more record: what is left is what follows it
+pub more_text : (old : List ℕ) (most at : ℕ) (bs : List ℕ) → 0 < length bs → length bs ≤ most →
+    old ++ text_of (lines_from most at bs) ≡
+    (old ++ text_of (upper_lines at ++ line_of 0 (at % 65536) (take (min 16 (length bs)) bs) ∷ []))
+    ++ text_of (lines_from most (at + 16) (drop (min 16 (length bs)) bs))
+more_text old most at bs some short =
+    search (rules, arith, take_min, drop_all, cases_lt, more_lines, enough, append_assoc, flat_map-append)
+
+-- no more bytes: the line of the end is left
+pub last_text : (most at : ℕ) (bs : List ℕ) → length bs ≡ 0 → text_of (lines_from most at bs) ≡ end_line ++ 10 ∷ []
+unfolding lines_from
+last_text most at bs none = search (rules, arith, eq-eqb, append-nil)
+
+pub ruleset row_steps = (more_text, last_text)
+
+-- ---- records
+
+abbrev IsByte : ℕ → Type 0
+IsByte b = b < 256
+
+bytes_back : (bs : List ℕ) → All IsByte bs → bytes_of (length (digits bs) / 2) (digits bs) ≡ Some bs
+unfolding bytes_of hex hex_digit
+bytes_back [] h = refl
+bytes_back (b ∷ bs) h =
+    let small : b < 256 = All-head IsByte b bs h in
+    let back = bytes_back bs (All-tail IsByte b bs h) in
+    let half : suc (suc (length (digits bs))) / 2 ≡ suc (length (digits bs) / 2) = omega arith in
+    search (rules, arith, digit_value-digit_char)
+
+line_back : (kind offset : ℕ) (content : List ℕ) →
+    kind < 256 → offset < 65536 → length content < 256 → All IsByte content →
+    record_of (line_of kind offset content) ≡ Some (record { offset = offset; kind = kind; content = content })
+unfolding record_of line_of record_in
+line_back kind offset content k o short h =
+    let bs = fields kind offset content in
+    let whole : 256 * (offset / 256) + offset % 256 ≡ offset = omega arith in
+    let total : sum (with_sum bs) % 256 ≡ 0 = search (rules, arith, sum_by-append) in
+    let all : All IsByte (with_sum bs) = All-push IsByte bs _ (search (rules, arith, All-cons)) (omega arith) in
+    let back = bytes_back (with_sum bs) all in
+    search (rules, arith, eq-eqb, length-append, take-append_seam)
+
+-- ---- what records place
+
+placed_end : (most u n at : ℕ) → placed u n (lines_from most at []) ≡ Some []
+unfolding placed lines_from
+placed_end zero u n at = search (rules, arith, line_back)
+placed_end (suc most) u n at = search (rules, arith, line_back)
+
+placed_row : (u at : ℕ) (row : List ℕ) (ls : List (List ℕ)) → length row < 256 → All IsByte row → at < 2 ^ 32 →
+    (0 < at % 65536 → u ≡ at / 65536) → placed u at (upper_lines at ++ line_of 0 (at % 65536) row ∷ ls)
+    ≡ option_map (λ (bs : List ℕ). row ++ bs) (placed (at / 65536) (at + length row) ls)
+unfolding placed
+placed_row u at row ls short bytes low upper = search (rules, arith, line_back, eq-eqb)
+
+placed_back : (most u n at : ℕ) (bs : List ℕ) → length bs ≤ most → All IsByte bs → at % 16 ≡ 0 →
+    (0 < length bs → n ≡ at) → (0 < length bs → at + length bs ≤ 2 ^ 32) → (0 < at % 65536 → u ≡ at / 65536) →
+    placed u n (lines_from most at bs) ≡ Some bs
+placed_back most u n at [] short bytes m next fits upper = placed_end most u n at
+placed_back zero u n at (b ∷ bs) short bytes m next fits upper = absurd (omega arith)
+placed_back (suc most) u n at (b ∷ bs) short bytes m next fits upper =
+    let row = take 16 (b ∷ bs) in
+    let size = length-take 16 (b ∷ bs) in
+    let left = length-drop 16 (b ∷ bs) in
+    let low = fits (omega arith) in
+    rw (
+      next (omega arith),
+      more_lines most at (b ∷ bs) (omega arith),
+      placed_row u at row _ (omega arith) (All-take IsByte 16 (b ∷ bs) bytes) (omega arith) upper,
+      placed_back most (at / 65536) (at + length row) (at + 16) (drop 16 (b ∷ bs)) (omega arith)
+          (All-drop IsByte 16 (b ∷ bs) bytes) (omega arith) (λ p. omega arith) (λ p. omega arith) (λ p. omega arith),
+      take-append-drop 16 (b ∷ bs),
+    ) refl
+
+-- ---- lines that are read
+
+split_digits : (bs rest : List ℕ) → split (digits bs ++ 10 ∷ rest) ≡ digits bs ∷ split rest
+unfolding split hex
+split_digits [] rest = refl
+split_digits (b ∷ bs) rest = search (rules, arith, split_digits bs rest)
+
+no_return : (a : ℕ) (bs : List ℕ) → 13 < a → strip_carriage_return (a ∷ digits bs) ≡ a ∷ digits bs
+unfolding hex
+no_return a [] h = search (rules, arith)
+no_return a (b ∷ bs) h =
+    let above : 13 < digit (b % 16) = search (rules, arith) in search (rules, arith, no_return (digit (b % 16)) bs)
+
+line_read : (kind offset : ℕ) (content rest : List ℕ) →
+    lines (line_of kind offset content ++ 10 ∷ rest) ≡ line_of kind offset content ∷ lines rest
+unfolding line_of split
+line_read kind offset content rest = search (rules, arith, split_digits, no_return)
+
+lines_back : (most at : ℕ) (bs : List ℕ) → lines (text_of (lines_from most at bs)) ≡ lines_from most at bs
+unfolding lines_from split
+lines_back zero at bs = search (rules, append_assoc, line_read)
+lines_back (suc most) at bs = search (rules, append_assoc, line_read, lines_back most (at + 16) (drop 16 bs))
 
 pub image_back : (text image : List ℕ) → text ≡ text_of (lines_from (length image) ram_base image) →
     length image ≤ image_limit → All IsByte image → image_of text ≡ Some image
-image_back text image is short h = search (rules, lines_back, are_lines, placed_back)
+image_back text image is short h = search (rules, lines_back, placed_back)

@@ -47,6 +47,7 @@ fn row_length(rest: &[u8]) -> usize
 }
 
 /// Returns the text of an image, whose first byte has the address 0x80000000.
+#[tactic(auto, using(crate::proofs::Read::row_steps))]
 fn text_of(alloc: Global, image: &[u8]) -> Result<Vec<u8>, NoMemory>
     requires { length image.now ≤ image_limit }
     ensures { IfOk result (λ t. t.items ≡ text_of (lines_from (length image.now) ram_base image.now)) }

@@ -9,7 +9,6 @@ invariant-loop-rest l = record {
       ≡ text_of (lines_from (length l.image) ram_base l.image);
   short : length l.rest ≤ length l.image;
   more : 0 < length l.rest → l.at + length l.rest ≤ 2164260864;
-  low : l.at ≤ 2164260880;
 }
 
 abbrev pub decreases-loop-rest : goal.decreases-loop-rest
