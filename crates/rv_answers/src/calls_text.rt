@@ -9,15 +9,6 @@ use crate::profile::{Profiled, Spent};
 use crate::registers::{Value, register_name};
 use crate::shown::Count;
 
-/// Returns how a frame was reached, in words.
-fn reached_word(reached: Reached) -> &'static str {
-    match reached {
-        Reached::Here => "    ",
-        Reached::Call(_) => "call",
-        Reached::Trap(_) => "trap",
-    }
-}
-
 /// Appends why no frame is told above the last one.
 fn append_outermost(outermost: Outermost, text: &mut Printer) {
     match outermost {
@@ -38,14 +29,6 @@ fn append_outermost(outermost: Outermost, text: &mut Printer) {
     });
 }
 
-/// Returns what is called by what entered code.
-fn entry_name(entry: Entry) -> &'static str {
-    match entry {
-        Entry::Call => "the call",
-        Entry::Interrupt | Entry::Exception => "the trap",
-    }
-}
-
 /// How many lines, and how many functions, are shown at most.
 const MOST_SHOWN: usize = 20;
 
@@ -59,7 +42,12 @@ impl Lines<'_> {
     /// Appends a frame with its number.
     fn append_frame(self, number: usize, frame: Frame, text: &mut Printer) {
         let guess = sign(is_guess(frame.reached), "?", " ");
-        write!(text, "#{number} {}{guess} ", reached_word(frame.reached));
+        let word = match frame.reached {
+            Reached::Here => "    ",
+            Reached::Call(_) => "call",
+            Reached::Trap(_) => "trap",
+        };
+        write!(text, "#{number} {word}{guess} ");
         self.append_place(self.place_at(frame.address, None), text);
         writeln!(text, "  sp = {:08x}", frame.sp);
     }
@@ -75,7 +63,8 @@ impl Lines<'_> {
 
     /// Appends what a return didn't restore.
     fn append_return(self, back: &Return, text: &mut Printer) {
-        let entry = entry_name(back.entry);
+        let is_call = matches!(back.entry, Entry::Call);
+        let entry = sign(is_call, "the call", "the trap");
         writeln!(text, "  after {entry} at{}", self.short_at(back.from));
         for one in back.registers.items() {
             let name = register_name(one.register);

@@ -67,8 +67,8 @@ pub(crate) fn append_help(command: Option<Command>, text: &mut Printer) {
         return append_commands(text);
     };
     if let Some(row) = command_row(command_word(command).as_bytes()) {
-        writeln!(text, "{}: {}", row.form, row.does);
-        writeln!(text, "  example: {}", row.example);
+        let example = row.example;
+        writeln!(text, "{}: {}\n  example: {example}", row.form, row.does);
     }
 }
 

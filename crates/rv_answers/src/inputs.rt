@@ -87,9 +87,8 @@ fn append_named(name: &[u8], saved: &Saved, text: &mut Printer) {
     let inputs = Count(saved.inputs as u64, "input");
     let steps = Count(saved.steps, "step");
     write!(text, "wrote {name}.input ({inputs}) and {name}.commands ");
-    writeln!(text, "({steps}); repeat them by");
-    text.say("  ./rvboard SOURCE --input ");
-    write!(text, "{name}.input --commands {name}.commands ");
+    write!(text, "({steps}); repeat them by\n  ./rvboard SOURCE ");
+    write!(text, "--input {name}.input --commands {name}.commands ");
     append_options(saved, text);
 }
 

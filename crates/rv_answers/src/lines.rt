@@ -68,7 +68,10 @@ impl<'a> Lines<'a> {
     pub fn append_place(self, place: Place, text: &mut Printer) {
         write!(text, "{:08x}{}  ", place.address, Near(self, place));
         match place.line {
-            Some(line) => text.line(line, line_text(self.source, line)),
+            Some(line) => {
+                let mut lines = lines_from(self.source, line);
+                text.line(line, lines.next().unwrap_or(b""));
+            }
             None => append_instruction(place.word, text),
         }
     }
@@ -83,11 +86,6 @@ impl<'a> Lines<'a> {
 /// Returns the lines of a source from one on, counted from 1; all of them from 0 on.
 pub(crate) fn lines_from(source: &[u8], first: usize) -> Skip<Cut<'_>> {
     cut_lines(source).skip(first.saturating_sub(1))
-}
-
-/// Returns the text of a line of a source, counted from 1; an empty one where there is no such line.
-fn line_text(source: &[u8], line: usize) -> &[u8] {
-    lines_from(source, line).next().unwrap_or(b"")
 }
 
 /// Appends a word of memory and its instruction, or that no memory is there.

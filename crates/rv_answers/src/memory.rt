@@ -72,8 +72,12 @@ pub fn escapes() -> &'static [(&'static str, u8)]
 
 /// Returns what stands for a byte after a backslash, if something does.
 fn escape_of(byte: u8) -> Option<&'static str> {
-    let (escape, _) = escapes().iter().find(|(_, escaped)| *escaped == byte)?;
-    Some(*escape)
+    for (escape, escaped) in escapes() {
+        if *escaped == byte {
+            return Some(*escape);
+        }
+    }
+    None
 }
 
 /// Appends a byte as it stands in a string of the language: by its escape, as it is, or as `\x` and its digits.

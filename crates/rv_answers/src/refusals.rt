@@ -113,12 +113,6 @@ impl Lines<'_> {
         text.end();
     }
 
-    /// Appends that no line from a number on has bytes.
-    fn refuse_lines(self, text: &mut Printer) {
-        text.say("no line with an instruction or data is there; ");
-        append_count(self.listing.len(), text);
-    }
-
     /// Appends why the operands of a command have no meaning.
     pub(crate) fn append_refusal(self, refusal: &Refusal, text: &mut Printer) {
         let word = command_word(refusal.command);
@@ -138,7 +132,10 @@ impl Lines<'_> {
             Why::NoMarks => say_of(word, NO_MARKS, text),
             Why::NeverMet => say_of(word, "it held after no earlier step", text),
             Why::NotOne => want_one(refusal.command, text),
-            Why::NoBytesThere => self.refuse_lines(text),
+            Why::NoBytesThere => {
+                text.say("no line with an instruction or data is there; ");
+                append_count(self.listing.len(), text);
+            }
             Why::NoBytes => want(word, BYTES, text),
             Why::NoLevel => want(word, "a source from 1 to 31 and 0 or 1 are wanted", text),
             Why::NoCommand => text.refuse(word, operand, "is no command; `help` shows them all\n"),

@@ -34,7 +34,7 @@ pub(crate) struct Value(pub(crate) Option<u32>);
 impl Display for Value {
     fn fmt<W: fmt::Write>(&self, f: &mut Formatter<W>) -> fmt::Result {
         match self.0 {
-            None => write!(f, "--------"),
+            None => f.write_str("--------"),
             Some(word) if word >= 1_000_000 && word < 0xffff_f000 => write!(f, "{word:08x}"),
             Some(word) => {
                 let number = word.cast_signed();

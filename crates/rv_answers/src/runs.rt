@@ -37,7 +37,7 @@ fn append_outcome(step: &Step, text: &mut Printer) {
 impl Display for Target {
     fn fmt<W: fmt::Write>(&self, f: &mut Formatter<W>) -> fmt::Result {
         match *self {
-            Target::Register(register) => write!(f, "{}", register_name(register)),
+            Target::Register(register) => f.write_str(register_name(register)),
             Target::Word(address) => write!(f, "[{address:08x}]"),
         }
     }
@@ -83,14 +83,6 @@ pub(crate) fn append_unwatched(count: usize, text: &mut Printer) {
     writeln!(text, "{} ended", Count(count as u64, "watch"));
 }
 
-/// Appends what the step with which the board halted changed of what is watched.
-fn append_halting(changes: &[Change], text: &mut Printer) {
-    if !changes.is_empty() {
-        text.say("watched");
-        append_changes(changes, text);
-    }
-}
-
 /// Appends that as many steps were taken as were asked for.
 fn append_limit(aim: Aim, steps: Count, text: &mut Printer) {
     let state = match aim {
@@ -114,8 +106,11 @@ impl Lines<'_> {
         self.append_here(standing.here, text);
     }
 
-    /// Appends what was reached.
-    fn append_reached(self, aim: Aim, text: &mut Printer) {
+    /// Appends what was reached: what a step changed of what is watched, or else the goal.
+    fn append_reached(self, aim: Aim, changes: &[Change], text: &mut Printer) {
+        if !changes.is_empty() {
+            return append_changes(changes, text);
+        }
         match aim {
             Aim::Watch(watch) => write!(text, ": {watch}"),
             Aim::Trap(Some(trap)) => write!(text, ": {trap}, at{}", Short(self, trap.place)),
@@ -130,7 +125,11 @@ impl Lines<'_> {
         let watched = run.watched.items();
         match run.ending {
             Ending::Stuck => return append_stuck(run.standing, text),
-            Ending::Halted => append_halting(watched, text),
+            Ending::Halted if watched.is_empty() => {}
+            Ending::Halted => {
+                text.say("watched");
+                append_changes(watched, text);
+            }
             Ending::Breakpoint => {
                 let is_aim = matches!(run.aim, Aim::Breakpoint);
                 let rest = sign(is_aim, "", ", before the goal is reached");
@@ -138,11 +137,7 @@ impl Lines<'_> {
             }
             Ending::Reached => {
                 write!(text, "stopped after {steps}");
-                if watched.is_empty() {
-                    self.append_reached(run.aim, text);
-                } else {
-                    append_changes(watched, text);
-                }
+                self.append_reached(run.aim, watched, text);
             }
             Ending::Limit => append_limit(run.aim, steps, text),
         }

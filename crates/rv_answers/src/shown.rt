@@ -19,7 +19,7 @@ fn write_characters<W: fmt::Write>(text: &str, f: &mut Formatter<W>) -> fmt::Res
         if character.is_control() && character != '\t' {
             write_digits(character.encode_utf8(&mut [0; 4]).as_bytes(), f)?;
         } else {
-            write!(f, "{character}")?;
+            f.write_char(character)?;
         }
     }
     Ok(())

@@ -31,8 +31,8 @@ fn append_barrier(barrier: Barrier, address: u32, mode: Mode, text: &mut Printer
         Barrier::Absent(area) => writeln!(text, "  at {address:08x} is {}", area_name(area)),
         Barrier::Protection { mode: asked, entry } => {
             let is_lent = mode.is_machine() && !asked.is_machine();
-            let whose = sign(is_lent, " to user mode, whose rights MPRV gave it", "");
-            write!(text, "  protection refused it{whose}: ");
+            text.say("  protection refused it");
+            text.say(sign(is_lent, " to user mode, whose rights MPRV gave it: ", ": "));
             match entry {
                 Some(region) => writeln!(text, "{region}"),
                 None => text.say("no entry has the address, so user mode gets nothing there\n"),
@@ -57,37 +57,32 @@ fn append_sum(subject: &str, address: u32, rest: &str, sum: Option<Sum>, text: &
     text.end();
 }
 
-/// Appends that no instruction was fetched from an address.
-fn append_unfetched(why: Unfetched, trap: &Explained, text: &mut Printer) {
-    match why {
-        Unfetched::Refused(barrier) => append_barrier(barrier, trap.address, trap.mode, text),
-        Unfetched::NoInstruction(word) => {
-            write!(text, "  the word {word:08x} is no instruction");
-            text.say(": did the program run on into data?\n");
-        }
-    }
-}
-
 /// Appends why an instruction was illegal.
 fn append_illegal(reason: Reason, word: u32, text: &mut Printer) {
     let why = match reason {
-        Reason::NoRegister(_) => "whose control register doesn't exist",
-        Reason::ReadOnly(_) => "whose control register can't be written",
-        Reason::MachineOnly => "which user mode may not do",
+        Reason::NoRegister(_) => ", whose control register doesn't exist\n",
+        Reason::ReadOnly(_) => ", whose control register can't be written\n",
+        Reason::MachineOnly => ", which user mode may not do\n",
         _ => return,
     };
     write!(text, "  the word {word:08x} is ");
     if let Some(instr) = decode(word) {
         text.instruction(instr);
     }
-    writeln!(text, ", {why}");
+    text.say(why);
 }
 
 /// Appends why a trap came.
 fn append_reason(trap: &Explained, text: &mut Printer) {
     let value = trap.value;
     match trap.reason {
-        Reason::NotFetched(why) => append_unfetched(why, trap, text),
+        Reason::NotFetched(Unfetched::Refused(barrier)) => {
+            append_barrier(barrier, trap.address, trap.mode, text);
+        }
+        Reason::NotFetched(Unfetched::NoInstruction(word)) => {
+            write!(text, "  the word {word:08x} is no instruction");
+            text.say(": did the program run on into data?\n");
+        }
         Reason::Target(sum) => append_sum("the target is", value, "", sum, text),
         Reason::Misaligned { sum, .. } => {
             let rest = " is no multiple of the access's size";
@@ -265,12 +260,13 @@ impl Lines<'_> {
     pub(crate) fn append_explanation(self, told: &Explanation, text: &mut Printer) {
         let is_cut = told.unseen > 0;
         let Some(trap) = told.trap else {
-            let when = sign(is_cut, "in the first 20000000 steps", "so far");
-            return writeln!(text, "no trap {when}");
+            let unseen = "no trap in the first 20000000 steps\n";
+            return text.say(sign(is_cut, unseen, "no trap so far\n"));
         };
         if trap.handler.missing.is_none() {
-            let which = sign(is_cut, "of the first 20000000 steps ", "");
-            writeln!(text, "each trap {which}met a handler; the last one:");
+            text.say("each trap ");
+            text.say(sign(is_cut, "of the first 20000000 steps ", ""));
+            text.say("met a handler; the last one:\n");
         }
         self.append_explained(&trap, text);
         if let Some(last) = told.repeated {
