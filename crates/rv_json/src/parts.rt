@@ -1,13 +1,13 @@
 //! The parts of what the commands answer: places, registers, protection, steps and what is watched.
-ghost use Rattle.rv_json.specs.Json.{bits_data, break_condition_data, change_data, option_data, place_data, range_data, region_data, register_data, rights_data, row_data, source_data, standing_data, step_data, target_data, text_data, trap_data, watch_data};
+ghost use Rattle.rv_json.specs.Json.{bits_data, break_condition_data, change_data, option_data, place_data, range_data, region_data, register_data, row_data, source_data, standing_data, step_data, target_data, text_data, trap_data, watch_data};
 ghost use Rattle.serde_json.specs.Data.{string};
 
 use crate::names::Names;
 use crate::object::{object, send, send_one};
 use crate::sent::{Text, ToJson, send_null};
 use rv_answers::{
-    Bits, BreakCondition, Change, Many, Place, Range, Region, RegisterValue, Rights, Row,
-    SourceState, Standing, Step, Target, Trap, Watch,
+    Bits, BreakCondition, Change, Many, Place, Range, Region, RegisterValue, Row, SourceState,
+    Standing, Step, Target, Trap, Watch,
 };
 use serde::Serializer;
 
@@ -88,15 +88,6 @@ impl ToJson for SourceState {
     }
 }
 
-impl ToJson for Rights {
-    ghost json = { λ _ r. rights_data r };
-
-    #[tactic(auto, unfolding(crate::specs::Json::rights_data))]
-    fn send<S: Serializer>(&self, names: &Names<'_>, out: &mut S) -> Result<(), S::Error> {
-        send!(names, out, self: read, write, execute)
-    }
-}
-
 impl ToJson for Range {
     ghost json = { λ _ r. range_data r };
 
@@ -109,9 +100,10 @@ impl ToJson for Range {
 impl ToJson for Region {
     ghost json = { λ _ r. region_data r };
 
-    #[tactic(auto, unfolding(crate::specs::Json::region_data))]
+    #[tactic(auto, unfolding(crate::specs::Json::region_data, crate::specs::Json::rights_data))]
     fn send<S: Serializer>(&self, names: &Names<'_>, out: &mut S) -> Result<(), S::Error> {
-        send!(names, out, self: entry, range, user, machine, is_locked)
+        send!(names, out, self: entry, range, user = object!((self.user): read, write, execute),
+            machine = object!((self.machine): read, write, execute), is_locked)
     }
 }
 
