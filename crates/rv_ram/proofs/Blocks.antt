@@ -340,9 +340,20 @@ pub biases_zero : blank_biases 0 ≡ []
 unfolding blank_biases
 biases_zero = refl
 
-pub biases_more : (n b : ℕ) → b ≡ (2 ^ 32 - 4096 * n) % 2 ^ 32 → blank_biases (n + 1) ≡ blank_biases n ++ b ∷ []
+biases_more : (n b : ℕ) → b ≡ (2 ^ 32 - 4096 * n) % 2 ^ 32 → blank_biases (n + 1) ≡ blank_biases n ++ b ∷ []
 unfolding blank_biases
 biases_more n b e = rw e (map-range_with_len_more (λ p. (2 ^ 32 - 4096 * p) % 2 ^ 32) 0 n n (omega arith))
+
+take_next : (xs : List ℕ) (n b : ℕ) → n < length xs → take (suc n) (set xs n b) ≡ take n xs ++ b ∷ []
+take_next (x ∷ xs) zero b l = refl
+take_next (x ∷ xs) (suc n) b l = ap (λ ys. x ∷ ys) (take_next xs n b (omega arith))
+take_next [] n b l = absurd (omega (arith, l))
+
+pub biases_next : (xs : List ℕ) (n b : ℕ) → n < length xs → take n xs ≡ blank_biases n
+    → b ≡ (2 ^ 32 - 4096 * n) % 2 ^ 32 → take (n + 1) (set xs n b) ≡ blank_biases (n + 1)
+biases_next xs n b l e is =
+    let more : n + 1 ≡ suc n = omega arith in
+    ap (λ k. take k (set xs n b)) more ∙ take_next xs n b l ∙ ap (λ ys. ys ++ b ∷ []) e ∙ sym (biases_more n b is)
 
 length_blank : (n : ℕ) → length (blank_biases n) ≡ n
 unfolding blank_biases

@@ -4,6 +4,7 @@
 //! - `FlatMemory` allocates all its bytes at once, and `PagedRam` each page at the first write that needs it.
 #![tactic(auto)]
 
+mod biases;
 mod flat;
 mod paged;
 mod values;

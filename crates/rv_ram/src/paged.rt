@@ -4,8 +4,9 @@ ghost use Rattle.std.specs.Vec.{vec_len};
 ghost use Rattle.rv_isa.specs.Width.{bytes_of};
 ghost use Rattle.rv_ram.specs.Bytes.{value_at, put, zeros};
 ghost use Rattle.rv_ram.specs.Pages.{is_made, is_zero_page, none_made, wants_page, makes_page, made_after};
-ghost use Rattle.rv_ram.specs.Support.Table.{blank_biases, place_of};
+ghost use Rattle.rv_ram.specs.Support.Table.{place_of};
 
+use crate::biases::Biases;
 use crate::values::{byte_of, put_value, stores_zeros, word_of};
 use crate::{ByteMemory, PAGE_BYTES};
 use rv_base::NoMemory;
@@ -22,7 +23,10 @@ pub struct PagedRam {
     block: Vec<u8>,
     /// For each page what is added to an offset in it for the place in the block, modulo 2^32. A page that
     /// doesn't exist lies at the zeros. So an access tests for no page.
-    biases: Vec<u32>,
+    biases: Biases,
+    /// Where the pages that exist begin: behind the zeros. It is a number in memory since the compiler would compare
+    /// a constant in 32 bits, and then extend the place once more for the store.
+    first: usize,
 }
 
 // Hand-written: a derived `Drop` would be proved anew at each exit (docs/PROVING.md).
@@ -31,46 +35,33 @@ impl Drop for PagedRam {
         let PagedRam {
             block: _,
             biases: _,
+            first: _,
         } = self;
     }
 }
 
 impl Model for PagedRam {
+    ghost use Rattle.std.specs.Prelude.{◌≡◌};
     ghost use Rattle.rv_ram.specs.Pages.{PagedBytes};
     ghost use Rattle.rv_ram.specs.Support.Table.{bytes_in, made_in, IsPaged};
 
     ghost Value = { PagedBytes };
 
     ghost view = { λ m. record {
-      bytes = bytes_in m.block.items m.biases.items;
-      made = made_in m.biases.items;
+      bytes = bytes_in m.block.items m.biases;
+      made = made_in m.biases;
     } };
 
-    ghost invariant = { λ m. IsPaged m.block.items m.biases.items };
-}
-
-/// Returns the biases of `pages` pages, of which none exists yet.
-#[tactic(auto, using(crate::proofs::Blocks::biases_more, crate::proofs::Blocks::biases_zero))]
-fn blank_biases(alloc: Global, pages: u32) -> Result<Vec<u32>, NoMemory>
-    requires { pages ≤ 4096 }
-    ensures { IfOk result (λ biases. biases.items ≡ blank_biases pages) }
-{
-    let mut biases = Vec::with_capacity(alloc, pages as usize)?;
-    for page in 0..pages {
-        if biases.push(0u32.wrapping_sub(PAGE_BYTES * page)).is_err() {
-            return Err(NoMemory);
-        }
-    }
-    Ok(biases)
+    ghost invariant = { λ m. IsPaged m.block.items m.biases × (m.first ≡ 4096) };
 }
 
 /// Returns where the byte at an offset lies in the block.
 #[inline(always)]
-fn place_of(biases: &[u32], off: u32) -> usize
+fn place_of(biases: &Biases, off: u32) -> usize
     requires { off / 4096 < length biases.now }
     ensures { result ≡ place_of biases.now off }
 {
-    off.wrapping_add(biases[(off / PAGE_BYTES) as usize]) as usize
+    off.wrapping_add(biases.get(off / PAGE_BYTES)) as usize
 }
 
 /// Appends a page of zeros. Out of line, so that a write to a page that exists stays short.
@@ -106,10 +97,13 @@ impl PagedRam {
         ensures pages { IfOk result (λ m. m.made ≡ none_made pages) }
         ensures size { IfOk result (λ m. length m.bytes ≡ 4096 * pages) }
     {
-        let biases = blank_biases(alloc, pages)?;
         let mut block = Vec::new(alloc);
         append_page(&mut block)?;
-        Ok(PagedRam { block, biases })
+        Ok(PagedRam {
+            block,
+            biases: Biases::new(pages),
+            first: PAGE_BYTES as usize,
+        })
     }
 
     /// Returns a copy, of which the same pages exist.
@@ -120,9 +114,12 @@ impl PagedRam {
     pub fn try_clone(&self, alloc: Global) -> Result<PagedRam, NoMemory>
         ensures { IfOk result (λ m. m ≡ self.now) }
     {
-        let biases = Vec::from_slice(alloc, &self.biases)?;
         let block = Vec::from_slice(alloc, &self.block)?;
-        Ok(PagedRam { block, biases })
+        Ok(PagedRam {
+            block,
+            biases: self.biases.copy(),
+            first: self.first,
+        })
     }
 
     /// Whether the page at an offset exists: it doesn't lie at the zeros.
@@ -133,7 +130,7 @@ impl PagedRam {
         ensures made { result ≡ is_made self.now.made off }
         ensures blank { result ≡ false → is_zero_page self.now.bytes off ≡ true }
     {
-        place_of(&self.biases, off) >= PAGE_BYTES as usize
+        place_of(&self.biases, off) >= self.first
     }
 
     /// Makes the page at an offset. A refused page changes nothing.
@@ -151,7 +148,7 @@ impl PagedRam {
         let start = self.block.len() as u32;
         append_page(&mut self.block)?;
         let page = off / PAGE_BYTES;
-        self.biases[page as usize] = start.wrapping_sub(PAGE_BYTES * page);
+        self.biases.set(page, start.wrapping_sub(PAGE_BYTES * page));
         Ok(())
     }
 
@@ -179,7 +176,7 @@ impl ByteMemory for PagedRam {
 
     #[tactic(auto, using(crate::proofs::Blocks::length_paged), unfolding(crate::specs::Support::Table::IsPaged))]
     fn size(&self) -> u32 {
-        PAGE_BYTES * self.biases.len() as u32
+        PAGE_BYTES * self.biases.len()
     }
 
     #[tactic(auto, using(crate::proofs::Blocks::index_in, crate::proofs::Blocks::byte_in, crate::proofs::Blocks::byte_of))]
