@@ -12,16 +12,19 @@ use std::marker::Model;
 pub struct Biases {
     items: [u32; 4096],
     pages: u32,
+    /// Where the pages that exist begin in the block: behind the zeros. It is a number in memory since the compiler
+    /// would compare a constant in 32 bits, and then extend the place once more for a store.
+    first: usize,
 }
 
 impl Model for Biases {
-    ghost use Rattle.std.specs.Prelude.{◌≤◌, List, ℕ, take};
+    ghost use Rattle.std.specs.Prelude.{◌≡◌, ◌≤◌, ◌*◌, List, ℕ, take};
 
     ghost Value = { List ℕ };
 
     ghost view = { λ b. take b.pages b.items };
 
-    ghost invariant = { λ b. b.pages ≤ 4096 };
+    ghost invariant = { λ b. (b.pages ≤ 4096) × (b.first ≡ 4096) };
 }
 
 impl Biases {
@@ -35,7 +38,11 @@ impl Biases {
         for page in 0..pages {
             items[page as usize] = 0u32.wrapping_sub(PAGE_BYTES * page);
         }
-        Biases { items, pages }
+        Biases {
+            items,
+            pages,
+            first: PAGE_BYTES as usize,
+        }
     }
 
     /// Returns a copy.
@@ -45,6 +52,7 @@ impl Biases {
         Biases {
             items: self.items,
             pages: self.pages,
+            first: self.first,
         }
     }
 
@@ -53,6 +61,14 @@ impl Biases {
         ensures { result ≡ length self.now }
     {
         self.pages
+    }
+
+    /// Returns the number of bytes before the first page that exists: those of a page of zeros.
+    #[inline(always)]
+    pub fn first(&self) -> usize
+        ensures { result ≡ 4096 }
+    {
+        self.first
     }
 
     /// Returns the number of a page.

@@ -24,9 +24,6 @@ pub struct PagedRam {
     /// For each page what is added to an offset in it for the place in the block, modulo 2^32. A page that
     /// doesn't exist lies at the zeros. So an access tests for no page.
     biases: Biases,
-    /// Where the pages that exist begin: behind the zeros. It is a number in memory since the compiler would compare
-    /// a constant in 32 bits, and then extend the place once more for the store.
-    first: usize,
 }
 
 // Hand-written: a derived `Drop` would be proved anew at each exit (docs/PROVING.md).
@@ -35,13 +32,11 @@ impl Drop for PagedRam {
         let PagedRam {
             block: _,
             biases: _,
-            first: _,
         } = self;
     }
 }
 
 impl Model for PagedRam {
-    ghost use Rattle.std.specs.Prelude.{◌≡◌};
     ghost use Rattle.rv_ram.specs.Pages.{PagedBytes};
     ghost use Rattle.rv_ram.specs.Support.Table.{bytes_in, made_in, IsPaged};
 
@@ -52,7 +47,7 @@ impl Model for PagedRam {
       made = made_in m.biases;
     } };
 
-    ghost invariant = { λ m. IsPaged m.block.items m.biases × (m.first ≡ 4096) };
+    ghost invariant = { λ m. IsPaged m.block.items m.biases };
 }
 
 /// Returns where the byte at an offset lies in the block.
@@ -102,7 +97,6 @@ impl PagedRam {
         Ok(PagedRam {
             block,
             biases: Biases::new(pages),
-            first: PAGE_BYTES as usize,
         })
     }
 
@@ -118,7 +112,6 @@ impl PagedRam {
         Ok(PagedRam {
             block,
             biases: self.biases.copy(),
-            first: self.first,
         })
     }
 
@@ -130,7 +123,7 @@ impl PagedRam {
         ensures made { result ≡ is_made self.now.made off }
         ensures blank { result ≡ false → is_zero_page self.now.bytes off ≡ true }
     {
-        place_of(&self.biases, off) >= self.first
+        place_of(&self.biases, off) >= self.biases.first()
     }
 
     /// Makes the page at an offset. A refused page changes nothing.
