@@ -5,11 +5,11 @@ ghost use Rattle.rv_isa.specs.Number.{modulo};
 ghost use Rattle.rv_isa.specs.Word as spec;
 ghost use Rattle.rv_csr.specs.Registers.{level};
 ghost use Rattle.rv_isa.specs.Support.Loads.{load_value};
-ghost use Rattle.rv_hart.specs.Effect.{plus, csr_written};
+ghost use Rattle.rv_hart.specs.Effect.{plus};
 ghost use Rattle.rv_hart.specs.Support.EffectParts.{is_write, csr_value};
 
 use crate::trap::Trap;
-use rv_isa::{AluOp, CsrOp, Instr, Kind, LoadOp, alu, encode};
+use rv_isa::{AluOp, CsrOp, Instr, LoadOp, alu, encode};
 use rv_pmp::Mode;
 
 /// Returns the address `offset` bytes from `base`, modulo 2^32.
@@ -39,28 +39,6 @@ pub(crate) fn csr_value(op: CsrOp, old: u32, operand: u32) -> u32
         CsrOp::Write => operand,
         CsrOp::Set => alu(AluOp::Or, old, operand),
         CsrOp::Clear => alu(AluOp::And, old, u32::MAX - operand),
-    }
-}
-
-/// Returns the address of the control register that an instruction writes when it retires, if any.
-#[tactic(auto, using(crate::proofs::Exchanged::written), unfolding(crate::specs::Effect::csr_written))]
-pub(crate) fn csr_written_by(instr: Instr) -> Option<u16>
-    ensures { result ≡ csr_written instr }
-{
-    match instr.kind() {
-        Kind::Csr { op, rs1, csr, .. } => {
-            if is_write(op, rs1.number()) {
-                return Some(csr);
-            }
-            None
-        }
-        Kind::CsrImm { op, imm, csr, .. } => {
-            if is_write(op, imm) {
-                return Some(csr);
-            }
-            None
-        }
-        _ => None,
     }
 }
 

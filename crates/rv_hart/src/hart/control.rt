@@ -1,11 +1,12 @@
 //! The instructions on control registers, the return from a trap, and the wait for an interrupt.
-ghost use Rattle.std.specs.Prelude.{◌≡◌};
+ghost use Rattle.std.specs.Prelude.{◌≡◌, if◌then◌else◌, Some, None, IfOk};
+ghost use Rattle.std.specs.Option.{option_map};
 ghost use Rattle.rv_isa.specs.Word as spec;
 ghost use Rattle.rv_isa.specs.declared.kind.Kind.{Kind};
 ghost use Rattle.rv_csr.specs.Registers as registers;
 ghost use Rattle.rv_pmp.specs.Support.Registers.{WritesOrRefuses};
 ghost use Rattle.rv_hart.specs.Effect.{csr_change, exchange, reg};
-ghost use Rattle.rv_hart.specs.Support.EffectParts.{at_next, exchange_effect, return_effect, wait_effect};
+ghost use Rattle.rv_hart.specs.Support.EffectParts.{at_next, exchange_effect, is_write, return_effect, wait_effect};
 ghost use Rattle.rv_hart.specs.Support.StepParts.{Does};
 
 use super::Hart;
@@ -35,7 +36,7 @@ struct Exchange {
 impl<M: ByteMemory, C: Decoded> Hart<M, C> {
     /// Executes an instruction on a control register whose operand is in a register.
     #[inline(always)]
-    #[tactic(auto, using(crate::proofs::Exchanged::exchange_is))]
+    #[tactic(auto, using(crate::proofs::Exchanged::exchange_is, crate::proofs::Exchanged::written))]
     pub(super) fn exchange_register(
         &mut self,
         instr: Instr,
@@ -43,9 +44,10 @@ impl<M: ByteMemory, C: Decoded> Hart<M, C> {
         rd: Reg,
         rs1: Reg,
         csr: u16,
-    ) -> Result<(), Trap>
-        ensures { Does self.old self.new result
+    ) -> Result<Option<u16>, Trap>
+        ensures does { Does self.old self.new result
             (exchange instr (at_next self.old.machine) (csr_change op rs1) (reg self.old.machine rs1) rd csr) }
+        ensures wrote { IfOk result (λ wrote. wrote ≡ option_map (λ _. csr) (csr_change op rs1)) }
     {
         let exchange = Exchange {
             op,
@@ -54,13 +56,12 @@ impl<M: ByteMemory, C: Decoded> Hart<M, C> {
             rd,
             csr,
         };
-        self.exchange(instr, exchange)?;
-        Ok(())
+        self.exchange(instr, exchange)
     }
 
     /// Executes an instruction on a control register whose operand is a number of its own.
     #[inline(always)]
-    #[tactic(auto, using(crate::proofs::Exchanged::exchange_is))]
+    #[tactic(auto, using(crate::proofs::Exchanged::exchange_is, crate::proofs::Exchanged::written))]
     pub(super) fn exchange_number(
         &mut self,
         instr: Instr,
@@ -68,9 +69,10 @@ impl<M: ByteMemory, C: Decoded> Hart<M, C> {
         rd: Reg,
         number: u8,
         csr: u16,
-    ) -> Result<(), Trap>
-        ensures { Does self.old self.new result
+    ) -> Result<Option<u16>, Trap>
+        ensures does { Does self.old self.new result
             (exchange instr (at_next self.old.machine) (csr_change op number) number rd csr) }
+        ensures wrote { IfOk result (λ wrote. wrote ≡ option_map (λ _. csr) (csr_change op number)) }
     {
         let exchange = Exchange {
             op,
@@ -79,30 +81,34 @@ impl<M: ByteMemory, C: Decoded> Hart<M, C> {
             rd,
             csr,
         };
-        self.exchange(instr, exchange)?;
-        Ok(())
+        self.exchange(instr, exchange)
     }
 
-    /// Reads a control register into `rd`, and writes it. Out of line, so that other instructions pay nothing
-    /// for it.
+    /// Reads a control register into `rd`, and writes it. Returns its address if it was written. Out of line, so that
+    /// other instructions pay nothing for it.
     #[inline(never)]
     #[tactic(auto, unfolding(crate::specs::Support::EffectParts::exchange_effect))]
-    fn exchange(&mut self, instr: Instr, exchange: Exchange) -> Result<(), Trap>
-        ensures { Does self.old self.new result
+    fn exchange(&mut self, instr: Instr, exchange: Exchange) -> Result<Option<u16>, Trap>
+        ensures does { Does self.old self.new result
             (exchange_effect instr self.old.machine exchange.op exchange.field exchange.operand exchange.rd exchange.csr) }
+        ensures wrote { IfOk result (λ wrote.
+            wrote ≡ (if is_write exchange.op exchange.field then Some exchange.csr else None)) }
     {
         let Some(old) = self.csrs.read(exchange.csr, self.mode, self.bus.lines()) else {
             return Err(illegal_instruction(instr));
         };
-        if is_write(exchange.op, exchange.field) {
-            let value = csr_value(exchange.op, old, exchange.operand);
-            match self.write_csr(exchange.csr, value) {
-                Some(()) => (),
-                None => return Err(illegal_instruction(instr)),
-            }
+        if !is_write(exchange.op, exchange.field) {
+            self.retire_with(exchange.rd, old);
+            return Ok(None);
         }
-        self.retire_with(exchange.rd, old);
-        Ok(())
+        let value = csr_value(exchange.op, old, exchange.operand);
+        match self.write_csr(exchange.csr, value) {
+            Some(()) => {
+                self.retire_with(exchange.rd, old);
+                Ok(Some(exchange.csr))
+            }
+            None => Err(illegal_instruction(instr)),
+        }
     }
 
     /// Writes a control register, and computes the shortcuts anew. Returns None, and changes nothing, if the
